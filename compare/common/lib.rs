@@ -1,0 +1,31 @@
+//! Letters, and what rtf-parser 0.4.3 answers to them. Nothing here knows of our library.
+//!
+//!   letters   listed letters: short strings, bytes everywhere, names, numbers, long ones
+//!   grammar   letters at random
+//!   mutate    damaged letters
+//!   oracle    the crate's answers, from both of its builds
+//!   cut       the form of an answer
+
+pub mod cut;
+pub mod grammar;
+pub mod letters;
+pub mod mutate;
+pub mod oracle;
+pub mod random;
+
+/// Reads `--name NUMBER` pairs over the numbers given for the names.
+pub fn options<const N: usize>(
+    words: &[String],
+    defaults: [(&str, u64); N],
+) -> Result<[u64; N], String> {
+    let mut numbers = defaults.map(|(_, number)| number);
+    for pair in words.chunks(2) {
+        let [name, number] = pair else {
+            return Err(format!("{} without a number", pair[0]));
+        };
+        let place = defaults.iter().position(|(known, _)| known == name);
+        let place = place.ok_or_else(|| format!("no option {name}"))?;
+        numbers[place] = number.parse().map_err(|_| format!("{name} {number}: no number"))?;
+    }
+    Ok(numbers)
+}

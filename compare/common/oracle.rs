@@ -1,0 +1,61 @@
+//! The crate's answers in our form. The crate is linked twice, with overflow checks off and on.
+
+use crate::cut::{Cut, NAMES};
+use std::cell::RefCell;
+use std::panic;
+
+pub mod wrapping {
+    use rtf_parser_wrap as rtf_parser;
+    include!("oracle_tokens.rs");
+}
+
+pub mod checked {
+    use rtf_parser_checked as rtf_parser;
+    include!("oracle_tokens.rs");
+}
+
+/// What the crate did with a letter.
+#[derive(Debug, PartialEq, Eq)]
+pub enum Reading {
+    Answered(Cut),
+    Panicked(String),
+}
+
+thread_local! {
+    static LAST_PANIC: RefCell<String> = const { RefCell::new(String::new()) };
+}
+
+/// Keeps the message of a panic for the report instead of printing it at once.
+fn caught(read: impl FnOnce() -> Cut + panic::UnwindSafe) -> Reading {
+    match panic::catch_unwind(read) {
+        Ok(cut) => Reading::Answered(cut),
+        Err(_) => Reading::Panicked(LAST_PANIC.with_borrow(String::clone)),
+    }
+}
+
+/// Runs `work` with the crate's panics kept quiet.
+pub fn quietly<T>(work: impl FnOnce() -> T) -> T {
+    let usual = panic::take_hook();
+    panic::set_hook(Box::new(|info| LAST_PANIC.set(info.to_string())));
+    let result = work();
+    panic::set_hook(usual);
+    result
+}
+
+pub fn wrapping_reading(source: &str) -> Reading {
+    caught(|| wrapping::cut(source))
+}
+
+pub fn checked_reading(source: &str) -> Reading {
+    caught(|| checked::cut(source))
+}
+
+/// Our numbers for the crate's words are the places of their names in the table.
+pub fn check_names() {
+    for (number, name) in NAMES.iter().enumerate() {
+        let Cut::Tokens(records) = wrapping::cut(&format!("{{\\{name}}}")) else {
+            panic!("the crate refuses {name}");
+        };
+        assert_eq!(records[1][1], number as u32, "the number of {name}");
+    }
+}

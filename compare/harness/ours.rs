@@ -1,0 +1,24 @@
+//! Our static library, called over its C interface.
+
+#[repr(C)]
+struct CutAnswer {
+    refusal: u32,
+    tokens: u32,
+}
+
+extern "C" {
+    fn elduvarn_cut(
+        source: *const u8,
+        source_len: usize,
+        tokens: *mut u32,
+        tokens_len: usize,
+    ) -> CutAnswer;
+}
+
+/// Cuts a source of any length and bytes into a room of any size: refusal number and token count.
+pub fn cut(source: &[u8], room: &mut [u32]) -> (u32, u32) {
+    // Sound as far as the library keeps to the two slices, which is what its proof says.
+    let answer =
+        unsafe { elduvarn_cut(source.as_ptr(), source.len(), room.as_mut_ptr(), room.len()) };
+    (answer.refusal, answer.tokens)
+}

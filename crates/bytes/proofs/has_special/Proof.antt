@@ -1,0 +1,50 @@
+-- `has_special` meets its contract. The invariant: a special byte was met, or stands from i on. The measure is what is left.
+use borrow.Author.Needs.{needs}
+use Prim.Native.Nat.{_≤_, _-_}
+use native.Mathlib.Omega.{arith}
+use lib.ListN.{length}
+use Rattle.bytes.specs.Bytes.{isSpecial}
+use Rattle.bytes.proofs.Runs.{Any, any-more, any-end}
+use Rattle.bytes.proofs.has_special.Statement.{statement}
+use Rattle.bytes.proofs.has_special.Tie as tie
+
+abbrev Inv-loop : tie.InvT-loop
+Inv-loop s found₀ i₀ found i = (i ≤ length s) × Any isSpecial s found i
+
+abbrev μ-loop : tie.MeasureT-loop
+μ-loop s found₀ i₀ found i = length s - i
+
+loop-holds : tie.Need-loop-holds Inv-loop μ-loop
+loop-holds c = search needs
+
+shared-slice-read-b : tie.Need-shared-slice-read-b Inv-loop μ-loop
+shared-slice-read-b c = search needs
+
+is-special-requires : tie.Need-is-special-requires Inv-loop μ-loop
+is-special-requires c κs = search needs
+
+add-i : tie.Need-add-i Inv-loop μ-loop
+add-i c = search needs
+
+loop-less : tie.Need-loop-less Inv-loop μ-loop
+loop-less c = search needs
+
+loop-again : tie.Need-loop-again Inv-loop μ-loop
+loop-again c = (omega arith, any-more isSpecial _ (c .before .before .before .loop .found) _ (c .is-special .result) (c .is-special .ensures) (c .before .before .loop-test .taken) (c .before .before .before .loop .inv .1))
+
+returns : tie.Need-returns Inv-loop μ-loop
+returns c = any-end isSpecial _ _ _ (c .loop-test .left) (c .before .loop .inv .1)
+
+pub has-special-spec : {M : Type 1} → statement M
+has-special-spec =
+    tie.close
+    (tie.spec
+    Inv-loop
+    μ-loop
+    loop-holds
+    shared-slice-read-b
+    is-special-requires
+    add-i
+    loop-less
+    loop-again
+    returns)

@@ -1,0 +1,65 @@
+-- `is_in` meets its contract: each arm's test is that of its class.
+use borrow.Author.Needs.{needs}
+use Rattle.bytes.proofs.is_in.Statement.{statement}
+use Rattle.bytes.proofs.is_in.Tie as tie
+
+enum-told : tie.Need-enum-told
+enum-told c = search needs
+
+is-white-requires : tie.Need-is-white-requires
+is-white-requires c κs = search needs
+
+enum-told-2 : tie.Need-enum-told-2
+enum-told-2 c = search needs
+
+ends-word-requires : tie.Need-ends-word-requires
+ends-word-requires c κs = search needs
+
+enum-told-3 : tie.Need-enum-told-3
+enum-told-3 c = search needs
+
+ends-word-requires-2 : tie.Need-ends-word-requires-2
+ends-word-requires-2 c κs = search needs
+
+enum-told-4 : tie.Need-enum-told-4
+enum-told-4 c = search needs
+
+enum-told-5 : tie.Need-enum-told-5
+enum-told-5 c = search needs
+
+is-numeral-requires : tie.Need-is-numeral-requires
+is-numeral-requires c κs = search needs
+
+returns : tie.Need-returns
+returns c = cc
+
+returns-2 : tie.Need-returns-2
+returns-2 c = cc
+
+returns-3 : tie.Need-returns-3
+returns-3 c = cc
+
+returns-4 : tie.Need-returns-4
+returns-4 c = cc
+
+returns-5 : tie.Need-returns-5
+returns-5 c = cc
+
+pub is-in-spec : {M : Type 1} → statement M
+is-in-spec =
+    tie.close
+    (tie.spec
+    enum-told
+    is-white-requires
+    enum-told-2
+    ends-word-requires
+    enum-told-3
+    ends-word-requires-2
+    enum-told-4
+    enum-told-5
+    is-numeral-requires
+    returns
+    returns-2
+    returns-3
+    returns-4
+    returns-5)

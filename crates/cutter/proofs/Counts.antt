@@ -1,0 +1,79 @@
+-- A source has at most one token for each byte, and so at most 65,536. Assumes nothing.
+use mathlib.Core.Path.{_≡_, refl, sym, ap, _∙_}
+use mathlib.Core.List.{List, [], _∷_, _++_}
+use mathlib.Core.Bool.{Bool, true, false, cond}
+use Prim.Native.Nat.{ℕ, suc, _+_, _≤_}
+use native.Mathlib.Omega.{arith}
+use borrow.Author.Tests.{ltb-false}
+use lib.ListN.{length, take, drop, length-append, length-take, length-drop}
+use lib.Dec.{ltb, leb, eqb}
+use Rattle.answers.specs.declared.Refusal.{Refusal}
+use Rattle.answers.specs.declared.Why.the-variants.{SourceTooLong, NotAscii, LastSlice, TokenRoom}
+use Rattle.answers.specs.declared.Outcome.{Outcome}
+use Rattle.answers.specs.declared.Outcome.the-variants.{Done, Refused}
+use Rattle.answers.specs.Answers.{refusal, outcomeCount}
+use Rattle.bytes.specs.declared.Class.the-variants.{White}
+use Rattle.bytes.specs.Bytes.{isHigh, inClass, lead, body, any}
+use Rattle.rooms.specs.Streams.{Stream, end, stop, _▸_, andThen, count, answer, each}
+use Rattle.rooms.specs.Rooms.{capacity, settled}
+use Rattle.rooms.proofs.Streams.{count-then, count-each, answer-count}
+use Rattle.slices.specs.Slices.{slices}
+use Rattle.slices.proofs.Slices.{joined, joined-slices}
+use Rattle.tokens.specs.Tokens.{Token, tokenLayout}
+use Rattle.tokenize.specs.Tokenize.{tokens}
+use Rattle.tokenize.proofs.Sizes.{count-tokens}
+use Rattle.cutter.specs.Cutting.{locate, located, last, allSlices, trimStart, trimmed, tokenStream, cutAnswer}
+
+count-located : (p : ℕ) (s : List ℕ) → count (located p s) ≤ length s
+unfolding located
+count-located p s = rw (count-each (locate p (length s)) (tokens p s)) (count-tokens p s)
+
+count-last : (p : ℕ) (s : List ℕ) → count (last p s) ≤ length s
+unfolding last count
+count-last p [] = omega arith
+count-last p (b ∷ []) = go (eqb b 125)
+  where
+    go : (t : Bool) → count (cond t (locate p 1 Rattle.tokens.specs.Tokens.Shown.closing ▸ end) (stop (refusal LastSlice))) ≤ 1
+    go true = omega arith
+    go false = omega arith
+count-last p (b ∷ c ∷ s) = omega arith
+
+count-all : (p : ℕ) (ss : List (List ℕ)) → count (allSlices p ss) ≤ length (joined ss)
+unfolding allSlices joined count
+count-all p [] = omega arith
+count-all p (s ∷ []) = omega (arith, count-last p s, length-append s [])
+count-all p (s ∷ t ∷ ss) =
+    omega (arith, count-then (located p s) (allSlices (p + length s) (t ∷ ss)), count-located p s, count-all (p + length s) (t ∷ ss), length-append s (t ++ joined ss))
+
+pub length-trimmed : (src : List ℕ) → length (trimmed src) ≤ length src
+unfolding trimmed
+length-trimmed src = simp (length-take, length-drop) (omega arith)
+
+pub count-stream : (src : List ℕ) → count (tokenStream src) ≤ 65536
+unfolding tokenStream count
+count-stream src = go (ltb 65536 (length src)) refl (any isHigh src)
+  where
+    go : (t : Bool) → ltb 65536 (length src) ≡ t → (u : Bool)
+        → count (cond t (stop (refusal SourceTooLong)) (cond u (stop (refusal NotAscii)) (allSlices (trimStart src) (slices (trimmed src))))) ≤ 65536
+    go true e u = omega arith
+    go false e true = omega arith
+    go false e false =
+        let j : length (joined (slices (trimmed src))) ≡ length (trimmed src) = ap length (joined-slices (trimmed src)) in
+        omega (arith, count-all (trimStart src) (slices (trimmed src)), length-trimmed src, ltb-false 65536 (length src) e)
+
+-- the count of an answer
+pub count-answer : (src : List ℕ) (total : ℕ) → outcomeCount (cutAnswer src total) ≤ 65536
+unfolding cutAnswer settled
+count-answer src total = go (answer 0 (tokenStream src)) refl
+  where
+    pick : (n : ℕ) → n ≤ 65536 → (t : Bool) → outcomeCount (cond t (Done n) (Refused (refusal TokenRoom))) ≤ 65536
+    pick n h true = h
+    pick n h false = omega arith
+
+    go : (o : Outcome) → answer 0 (tokenStream src) ≡ o → outcomeCount (settled tokenLayout (refusal TokenRoom) total o) ≤ 65536
+    go (Done n) e = pick n (omega (arith, answer-count (tokenStream src) 0 n e, count-stream src)) (leb n (capacity 6 total))
+    go (Refused r) e = omega arith
+
+-- the same, in a caller's terms
+pub counted : (src : List ℕ) (total : ℕ) {o : Outcome} {k : ℕ} → o ≡ cutAnswer src total → k ≡ outcomeCount o → k ≤ 65536
+counted src total e q = rw (q, e) (count-answer src total)

@@ -1,0 +1,86 @@
+-- What the tokens of a source show stands in the source, and so does the slice that each was cut from.
+--     located-places, last-places    the tokens of a slice
+--     all-places                     those of slices one after the other
+--     stream-places                  those of a source
+-- Assumes nothing.
+use mathlib.Core.Path.{_≡_}
+use mathlib.Core.List.{List, [], _∷_, _++_}
+use mathlib.Core.Bool.{Bool, true, false, cond}
+use Prim.Native.Nat.{ℕ, zero, suc, _+_, _≤_}
+use native.Mathlib.Omega.{arith}
+use lib.ListN.{length, take, drop, length-append, length-take, take-append-drop}
+use lib.Dec.{ltb, eqb}
+use Rattle.answers.specs.declared.Why.the-variants.{SourceTooLong, NotAscii, LastSlice}
+use Rattle.answers.specs.Answers.{refusal}
+use Rattle.bytes.specs.declared.Class.the-variants.{White}
+use Rattle.bytes.specs.Bytes.{inClass, lead, body, isHigh, any}
+use Rattle.bytes.proofs.Runs.{lead-length}
+use Rattle.rooms.specs.Streams.{end, stop, _▸_}
+use Rattle.slices.specs.Slices.{slices}
+use Rattle.slices.proofs.Slices.{joined, joined-slices}
+use Rattle.tokens.specs.Tokens.{Shown, Token}
+use Rattle.tokens.specs.Tokens
+use Rattle.tokenize.specs.Tokenize.{tokens}
+use Rattle.tokenize.proofs.Places.{Each, Each-then, Each-each, Each-weaken, Stands, stands-after, stands-before, tokens-stand}
+use Rattle.cutter.specs.Cutting.{locate, located, last, allSlices, trimStart, trimmed, tokenStream}
+
+-- a token of bytes s that stand at p: what it shows stands in them, and its slice ends in them
+abbrev pub PlacedIn : List ℕ → ℕ → Token → Type 0
+PlacedIn s p t = Stands s p (t .shows) × (t .place + t .length ≤ p + length s)
+
+-- a token of a source: what it shows stands in the source, and so does the slice that it was cut from
+abbrev pub Placed : List ℕ → Token → Type 0
+Placed src t = Stands src 0 (t .shows) × (t .place + t .length ≤ length src)
+
+placed-after : (x s : List ℕ) (p : ℕ) (t : Token) → PlacedIn s (p + length x) t → PlacedIn (x ++ s) p t
+placed-after x s p t h = (stands-after x s p (t .shows) (h .0), rw length-append (omega arith))
+
+placed-before : (y s : List ℕ) (p : ℕ) (t : Token) → PlacedIn s p t → PlacedIn (s ++ y) p t
+placed-before y s p t h = (stands-before y s p (t .shows) (h .0), rw length-append (omega arith))
+
+pub located-places : (p : ℕ) (s : List ℕ) → Each (PlacedIn s p) (located p s)
+unfolding located
+located-places p s =
+    Each-each (PlacedIn s p) (locate p (length s)) (tokens p s)
+    (Each-weaken (Stands s p) (λ (t : Shown). PlacedIn s p (locate p (length s) t)) (λ t h. (h, omega arith)) (tokens p s) (tokens-stand p s))
+
+pub last-places : (p : ℕ) (s : List ℕ) → Each (PlacedIn s p) (last p s)
+unfolding last
+last-places p [] = tt
+last-places p (b ∷ []) = go (eqb b 125)
+  where
+    go : (t : Bool) → Each (PlacedIn (b ∷ []) p) (cond t (locate p 1 Shown.closing ▸ end) (stop (refusal LastSlice)))
+    go true = ((tt, omega arith), tt)
+    go false = tt
+last-places p (b ∷ c ∷ s) = tt
+
+pub all-places : (p : ℕ) (ss : List (List ℕ)) → Each (PlacedIn (joined ss) p) (allSlices p ss)
+unfolding allSlices joined
+all-places p [] = tt
+all-places p (s ∷ []) = Each-weaken (PlacedIn s p) _ (placed-before [] s p) (last p s) (last-places p s)
+all-places p (s ∷ t ∷ ss) =
+    Each-then (PlacedIn (s ++ joined (t ∷ ss)) p) (located p s) (allSlices (p + length s) (t ∷ ss))
+    (Each-weaken (PlacedIn s p) _ (placed-before (joined (t ∷ ss)) s p) (located p s) (located-places p s))
+    (Each-weaken (PlacedIn (joined (t ∷ ss)) (p + length s)) _ (placed-after s (joined (t ∷ ss)) p) (allSlices (p + length s) (t ∷ ss)) (all-places (p + length s) (t ∷ ss)))
+
+-- the trimmed source stands in the source behind its white front
+trimmed-places : (src : List ℕ) (t : Token) → PlacedIn (trimmed src) (trimStart src) t → Placed src t
+unfolding trimmed
+trimmed-places src t h =
+    let k = trimStart src in
+    let m = body (inClass White) (drop k src) in
+    let e : 0 + length (take k src) ≡ k = rw length-take (omega (arith, lead-length (inClass White) src)) in
+    let d : PlacedIn (drop k src) k t = rw take-append-drop at (placed-before (drop m (drop k src)) (take m (drop k src)) k t h) in
+    let a : PlacedIn src 0 t = rw take-append-drop at (placed-after (take k src) (drop k src) 0 t (rw e d)) in
+    (a .0, omega arith)
+
+pub stream-places : (src : List ℕ) → Each (Placed src) (tokenStream src)
+unfolding tokenStream
+stream-places src = go (ltb 65536 (length src)) (any isHigh src)
+  where
+    go : (t u : Bool) → Each (Placed src) (cond t (stop (refusal SourceTooLong)) (cond u (stop (refusal NotAscii)) (allSlices (trimStart src) (slices (trimmed src)))))
+    go true u = tt
+    go false true = tt
+    go false false =
+        Each-weaken (PlacedIn (trimmed src) (trimStart src)) (Placed src) (trimmed-places src) (allSlices (trimStart src) (slices (trimmed src)))
+        (rw joined-slices at (all-places (trimStart src) (slices (trimmed src))))

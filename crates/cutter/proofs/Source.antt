@@ -1,0 +1,105 @@
+-- The whole source and the last slice, a law for each branch of the code. Assumes nothing.
+use mathlib.Core.Path.{_≡_, refl, sym, ap, _∙_}
+use mathlib.Core.List.{List, [], _∷_, _++_}
+use mathlib.Core.Bool.{Bool, true, false, cond}
+use Prim.Native.Nat.{ℕ, suc, _+_, _-_, _*_, _≤_, _<_}
+use native.Mathlib.Omega.{arith}
+use borrow.Author.Tests.{eq-eqb, ne-eqb, lt-ltb, le-ltb}
+use lib.ListN.{length, getD, take, drop, replicate, length-drop}
+use lib.Seq.{take-all}
+use Rattle.answers.specs.declared.Refusal.{Refusal}
+use Rattle.answers.specs.declared.Why.the-variants.{SourceTooLong, NotAscii, LastSlice, TokenRoom}
+use Rattle.answers.specs.declared.Outcome.{Outcome}
+use Rattle.answers.specs.declared.Outcome.the-variants.{Done, Refused}
+use Rattle.answers.specs.Answers.{refusal}
+use Rattle.bytes.specs.declared.Class.the-variants.{White}
+use Rattle.bytes.specs.Bytes.{isHigh, inClass, lead, body, any}
+use Rattle.rooms.specs.Streams.{Stream, end, stop, _▸_, andThen, count, answer}
+use Rattle.rooms.specs.Rooms.{capacity, put, Wrote, putAll, encode, settled, content}
+use Rattle.rooms.proofs.Streams.{answer-count}
+use Rattle.rooms.proofs.Rooms.{wrote-one, length-putAll, length-encode, putAll-front, settled-fits, settled-over}
+use Rattle.slices.specs.Slices.{slices}
+use Rattle.tokens.specs.declared.Record.{Record}
+use Rattle.tokens.specs.Tokens.{Shown, Token, tokenWords, recordWords, bareRecord, tokenLayout}
+use Rattle.tokens.specs.Tokens
+use Rattle.tokens.proofs.Records.{token-sized, closing-record}
+use Rattle.cutter.specs.Cutting.{locate, last, allSlices, trimStart, trimmed, tokenStream, cutAnswer, cutRoom}
+
+module _ (p : ℕ) where
+  pub last-long : (s : List ℕ) → (length s ≡ 1 → ⊥) → last p s ≡ stop (refusal LastSlice)
+  unfolding last
+  last-long [] h = refl
+  last-long (b ∷ []) h = absurd (h refl)
+  last-long (b ∷ c ∷ s) h = refl
+
+  pub last-other : (s : List ℕ) → length s ≡ 1 → (getD s 0 0 ≡ 125 → ⊥) → last p s ≡ stop (refusal LastSlice)
+  unfolding last
+  last-other [] h f = refl
+  last-other (b ∷ []) h f = rw (ne-eqb b 125 f)
+  last-other (b ∷ c ∷ s) h f = refl
+
+  pub last-close : (s : List ℕ) → length s ≡ 1 → getD s 0 0 ≡ 125 → last p s ≡ locate p 1 Shown.closing ▸ end
+  unfolding last
+  last-close [] h e = absurd (omega arith)
+  last-close (b ∷ []) h e = rw e
+  last-close (b ∷ c ∷ s) h e = absurd (omega arith)
+
+pub last-wrote : {x : Stream Token} {p n : ℕ} {room room′ : List ℕ} {r : Record} → x ≡ locate p 1 Shown.closing ▸ end → r ≡ bareRecord 2
+    → room′ ≡ put tokenWords room n (recordWords r) → Wrote tokenLayout n room x (Done (n + 1)) room′
+last-wrote {n = n} {room = room} e q h =
+    wrote-one tokenLayout e (h ∙ ap (λ (z : Record). put tokenWords room n (recordWords z)) (closing-record q))
+
+module _ (src : List ℕ) where
+  pub stream-long : 65536 < length src → tokenStream src ≡ stop (refusal SourceTooLong)
+  unfolding tokenStream
+  stream-long h = rw (lt-ltb 65536 (length src) h)
+
+  module _ (h : length src ≤ 65536) (k : Bool) (q : k ≡ any isHigh src) where
+    pub stream-high : k ≡ true → tokenStream src ≡ stop (refusal NotAscii)
+    unfolding tokenStream
+    stream-high l = rw (le-ltb 65536 (length src) h, ← q, l)
+
+    -- the trimmed source, as the code has it
+    module _ (g : k ≡ false) (a e : ℕ) (x : a ≡ lead (inClass White) src) (y : e ≡ body (inClass White) (take (length src - a) (drop a src))) where
+      pub stream-slices : tokenStream src ≡ allSlices a (slices (take e (take (length src - a) (drop a src))))
+      unfolding tokenStream trimmed
+      stream-slices =
+          let t : take (length src - a) (drop a src) ≡ drop a src = take-all (length src - a) (drop a src) (simp length-drop (omega arith)) in
+          rw (le-ltb 65536 (length src) h, ← q, g, y, t, ← x)
+
+-- what `whole` wrote, settled
+module _ (src : List ℕ) {room room′ : List ℕ} {r : Outcome} (w : Wrote tokenLayout 0 room (tokenStream src) r room′) where
+  length-wrote : length room′ ≡ length room
+  length-wrote = ap length (w .holds) ∙ length-putAll tokenLayout (tokenStream src) room 0
+
+  pub settle-refused : {q : Refusal} → r ≡ Refused q → Refused q ≡ cutAnswer src (length room)
+  unfolding cutAnswer settled
+  settle-refused e = ap (settled tokenLayout (refusal TokenRoom) (length room)) (sym e ∙ w .says)
+
+  pub settle-fits : {n : ℕ} → r ≡ Done n → n ≤ capacity 6 (length room′) → Done n ≡ cutAnswer src (length room)
+  unfolding cutAnswer
+  settle-fits {n} e h =
+      sym (settled-fits tokenLayout (refusal TokenRoom) (length room) n (rw length-wrote at h))
+      ∙ ap (settled tokenLayout (refusal TokenRoom) (length room)) (sym e ∙ w .says)
+
+  pub settle-over : {n : ℕ} {q : Refusal} → r ≡ Done n → capacity 6 (length room′) < n → q ≡ refusal TokenRoom → Refused q ≡ cutAnswer src (length room)
+  unfolding cutAnswer
+  settle-over {n} e h f =
+      ap Refused f
+      ∙ sym (settled-over tokenLayout (refusal TokenRoom) (length room) n (rw length-wrote at h))
+      ∙ ap (settled tokenLayout (refusal TokenRoom) (length room)) (sym e ∙ w .says)
+
+  -- the room after a refusal: zeros
+  pub room-refused : {q : Refusal} → Refused q ≡ cutAnswer src (length room) → {room″ : List ℕ} → room″ ≡ replicate (length room′) 0 → room″ ≡ cutRoom src (length room)
+  unfolding cutRoom content
+  room-refused e z = z ∙ rw (← e, length-wrote)
+
+  -- the room after success: the records, and zeros behind them
+  pub room-fits : {n : ℕ} → r ≡ Done n → n ≤ capacity 6 (length room′) → {room″ : List ℕ} → room″ ≡ take (n * 6) room′ ++ replicate (length room′ - n * 6) 0 → room″ ≡ cutRoom src (length room)
+  unfolding cutRoom content
+  room-fits {n} e h z =
+      let c : n ≡ count (tokenStream src) = answer-count (tokenStream src) 0 n (sym (w .says) ∙ e) ∙ omega arith in
+      let f : take (n * 6) room′ ≡ encode tokenLayout (tokenStream src) =
+      rw (w .holds, c) (putAll-front tokenLayout token-sized (tokenStream src) room (rw (c, length-wrote) at h)) in
+      let l : length (encode tokenLayout (tokenStream src)) ≡ n * 6 = length-encode tokenLayout token-sized (tokenStream src) ∙ rw c in
+      z ∙ rw (← settle-fits e h, f, length-wrote, l)

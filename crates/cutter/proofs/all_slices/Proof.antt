@@ -1,0 +1,100 @@
+-- `all_slices` meets its contract. The invariant: whoever cuts what is left has cut all; the bytes left are the measure.
+use borrow.Author.Needs.{needs}
+use mathlib.Core.Path.{_≡_, _∙_}
+use native.Mathlib.Omega.{arith}
+use lib.ListN.{length, length-take}
+use Rattle.names.specs.Names.{rows}
+use Rattle.rooms.proofs.Rooms.{wrote-none}
+use Rattle.tokens.specs.Tokens.{tokenLayout}
+use Rattle.cutter.proofs.Loop.{Loop, all-none, loop-start, loop-falls, loop-stop, loop-next, loop-last}
+use Rattle.cutter.proofs.all_slices.Statement.{statement}
+use Rattle.cutter.proofs.all_slices.Tie as tie
+
+abbrev Inv-loop : tie.InvT-loop
+Inv-loop s place names room₀ t₀ p₀ n₀ e₀ room t p n e = Loop place s room₀ room t p n e
+
+abbrev μ-loop : tie.MeasureT-loop
+μ-loop s place names room₀ t₀ p₀ n₀ e₀ room t p n e = length t
+
+returns : tie.Need-returns Inv-loop μ-loop
+returns c = wrote-none tokenLayout (all-none _ _ (c .if1 .taken))
+
+slice-end-requires : tie.Need-slice-end-requires Inv-loop μ-loop
+slice-end-requires c κs = search needs
+
+loop-holds : tie.Need-loop-holds Inv-loop μ-loop
+loop-holds c = loop-start _ _ _ _ (c .before .if1 .left) (c .before .before .before .before .pre .0) (c .slice-end .ensures)
+
+slice-aggregate-tokenize : tie.Need-slice-aggregate-tokenize Inv-loop μ-loop
+slice-aggregate-tokenize c = simp length-take (omega arith)
+
+tokenize-requires : tie.Need-tokenize-requires Inv-loop μ-loop
+tokenize-requires c κs = (simp length-take (omega arith), search needs, c .before .before .before .before .before .before .before .before .pre .1)
+
+enum-known-one : tie.Need-enum-known-one Inv-loop μ-loop
+enum-known-one c = search needs
+
+same-length : tie.Need-same-length Inv-loop μ-loop
+same-length c = c .before .before .before .before .before .tokenize .kept .1 .1 .1 .0 ∙ c .before .before .before .before .before .before .before .before .before .loop .inv .long
+
+returns-2 : tie.Need-returns-2 Inv-loop μ-loop
+returns-2 c = loop-stop (c .before .before .before .before .before .before .before .before .before .loop .inv) (c .before .before .before .before .before .before .before .before .loop-test .taken) (c .before .before .before .before .before .tokenize .ensures) (c .before .one .given .1)
+
+enum-known-one-2 : tie.Need-enum-known-one-2 Inv-loop μ-loop
+enum-known-one-2 c = search needs
+
+sub-t : tie.Need-sub-t Inv-loop μ-loop
+sub-t c = search needs
+
+part-t-start : tie.Need-part-t-start Inv-loop μ-loop
+part-t-start c = search needs
+
+part-t-end : tie.Need-part-t-end Inv-loop μ-loop
+part-t-end c = search needs
+
+add-p : tie.Need-add-p Inv-loop μ-loop
+add-p c = search needs
+
+slice-end-requires-2 : tie.Need-slice-end-requires-2 Inv-loop μ-loop
+slice-end-requires-2 c κs = search needs
+
+loop-less : tie.Need-loop-less Inv-loop μ-loop
+loop-less c = loop-falls (c .before .before .before .before .before .before .before .before .before .before .before .loop .inv) (c .before .before .before .before .before .before .before .before .before .before .loop-test .taken)
+
+loop-again : tie.Need-loop-again Inv-loop μ-loop
+loop-again c = loop-next (c .before .before .before .before .before .before .before .before .before .before .before .loop .inv) (c .before .before .before .before .before .before .before .before .before .before .loop-test .taken) (c .before .before .before .before .before .before .before .tokenize .ensures) (c .before .before .before .one2 .given .1) (c .slice-end2 .ensures)
+
+last-requires : tie.Need-last-requires Inv-loop μ-loop
+last-requires c κs = omega arith
+
+same-length-2 : tie.Need-same-length-2 Inv-loop μ-loop
+same-length-2 c = c .before .before .last .kept .1 .1 .0 ∙ c .before .before .before .before .before .loop .inv .long
+
+returns-3 : tie.Need-returns-3 Inv-loop μ-loop
+returns-3 c = loop-last (c .before .before .before .before .before .loop .inv) (c .before .before .before .before .loop-test .left) (c .before .before .last .ensures)
+
+pub all-slices-spec : {M : Type 1} → statement M
+all-slices-spec =
+    tie.close
+    (tie.spec
+    Inv-loop
+    μ-loop
+    returns
+    slice-end-requires
+    loop-holds
+    slice-aggregate-tokenize
+    tokenize-requires
+    enum-known-one
+    same-length
+    returns-2
+    enum-known-one-2
+    sub-t
+    part-t-start
+    part-t-end
+    add-p
+    slice-end-requires-2
+    loop-less
+    loop-again
+    last-requires
+    same-length-2
+    returns-3)

@@ -1,0 +1,75 @@
+-- `cut` meets its contract: a refusal, tokens that fit, or tokens too many.
+use Rattle.cutter.proofs.Source.{settle-refused, settle-fits, settle-over, room-refused, room-fits}
+use borrow.Author.Needs.{needs}
+use Rattle.cutter.proofs.cut.Statement.{statement}
+use Rattle.cutter.proofs.cut.Tie as tie
+
+table-requires : tie.Need-table-requires
+table-requires c κs = search needs
+
+whole-requires : tie.Need-whole-requires
+whole-requires c κs = search needs
+
+enum-known-outcome : tie.Need-enum-known-outcome
+enum-known-outcome c = search needs
+
+clear-requires : tie.Need-clear-requires
+clear-requires c κs = search needs
+
+enum-known-outcome-2 : tie.Need-enum-known-outcome-2
+enum-known-outcome-2 c = search needs
+
+mul-clear-from : tie.Need-mul-clear-from
+mul-clear-from c = search needs
+
+clear-from-requires : tie.Need-clear-from-requires
+clear-from-requires c κs = search needs
+
+same-length : tie.Need-same-length
+same-length c = search needs
+
+returns : tie.Need-returns
+returns c =
+    (settle-fits _ (c .before .before .before .before .before .before .before .before .before .before .whole .ensures) (c .before .before .before .before .before .before .outcome2 .given .1) (c .before .before .before .before .if1 .taken), room-fits _ (c .before .before .before .before .before .before .before .before .before .before .whole .ensures) (c .before .before .before .before .before .before .outcome2 .given .1) (c .before .before .before .before .if1 .taken) (c .before .before .clear-from .ensures))
+
+clear-requires-2 : tie.Need-clear-requires-2
+clear-requires-2 c κs = search needs
+
+of-requires : tie.Need-of-requires
+of-requires c κs = search needs
+
+same-length-2 : tie.Need-same-length-2
+same-length-2 c = search needs
+
+returns-2 : tie.Need-returns-2
+returns-2 c =
+    let e = settle-refused _ (c .before .before .before .before .before .before .before .before .before .whole .ensures) (c .before .before .before .before .before .outcome .given .1) in
+    (e, room-refused _ (c .before .before .before .before .before .before .before .before .before .whole .ensures) e (c .before .before .clear .ensures))
+
+same-length-3 : tie.Need-same-length-3
+same-length-3 c = search needs
+
+returns-3 : tie.Need-returns-3
+returns-3 c =
+    let e = settle-over _ (c .before .before .before .before .before .before .before .before .before .before .before .whole .ensures) (c .before .before .before .before .before .before .before .outcome2 .given .1) (c .before .before .before .before .before .if1 .left) (c .of .ensures) in
+    (e, room-refused _ (c .before .before .before .before .before .before .before .before .before .before .before .whole .ensures) e (c .before .before .before .clear2 .ensures))
+
+pub cut-spec : {M : Type 1} → statement M
+cut-spec =
+    tie.close
+    (tie.spec
+    table-requires
+    whole-requires
+    enum-known-outcome
+    clear-requires
+    enum-known-outcome-2
+    mul-clear-from
+    clear-from-requires
+    same-length
+    returns
+    clear-requires-2
+    of-requires
+    same-length-2
+    returns-2
+    same-length-3
+    returns-3)

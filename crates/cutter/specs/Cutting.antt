@@ -1,0 +1,61 @@
+-- 01, Cutting and Answer numbers: a source's tokens, the one answer and the one content of the token room.
+-- Assumes nothing: these are definitions.
+use Prim.Native.Nat.{ℕ, _+_}
+use mathlib.Core.List.{List, [], _∷_}
+use mathlib.Core.Bool.{Bool, true, false, cond}
+use lib.ListN.{length, take, drop}
+use lib.Dec.{ltb, eqb}
+use Rattle.answers.specs.declared.Why.the-variants.{SourceTooLong, NotAscii, LastSlice, TokenRoom}
+use Rattle.answers.specs.declared.Outcome.{Outcome}
+use Rattle.answers.specs.Answers.{refusal}
+use Rattle.bytes.specs.declared.Class.the-variants.{White}
+use Rattle.bytes.specs.Bytes.{isHigh, inClass, lead, body, any}
+use Rattle.rooms.specs.Streams.{Stream, end, stop, _▸_, andThen, answer, each}
+use Rattle.rooms.specs.Rooms.{settled, content}
+use Rattle.slices.specs.Slices.{slices}
+use Rattle.tokens.specs.Tokens.{Shown, Token, tokenLayout}
+use Rattle.tokenize.specs.Tokenize.{tokens}
+
+-- what a slice of a length at place p shows, as a token
+abbrev pub locate : ℕ → ℕ → Shown → Token
+locate p n shown = record { place = p; length = n; shows = shown }
+
+-- the tokens of a slice at place p
+unfoldable pub located : ℕ → List ℕ → Stream Token
+located p s = each (locate p (length s)) (tokens p s)
+
+-- "the last slice is not `}` alone": 6
+unfoldable pub last : ℕ → List ℕ → Stream Token
+last p [] = stop (refusal LastSlice)
+last p (b ∷ []) = cond (eqb b 125) (locate p 1 Shown.closing ▸ end) (stop (refusal LastSlice))
+last p (b ∷ c ∷ s) = stop (refusal LastSlice)
+
+-- "cutting left to right, all slices but the last, gives the first of 3 to 5; then 6"
+unfoldable pub allSlices : ℕ → List (List ℕ) → Stream Token
+allSlices p [] = end
+allSlices p (s ∷ []) = last p s
+allSlices p (s ∷ t ∷ ss) = andThen (located p s) (allSlices (p + length s) (t ∷ ss))
+
+-- "Trim both ends.": where the trimmed source starts, and its bytes
+abbrev pub trimStart : List ℕ → ℕ
+trimStart src = lead (inClass White) src
+
+unfoldable pub trimmed : List ℕ → List ℕ
+trimmed src =
+    let t = drop (trimStart src) src in
+    take (body (inClass White) t) t
+
+-- a source's tokens, or its refusal of 1 to 6. "Source places count from 0, before trimming."
+unfoldable pub tokenStream : List ℕ → Stream Token
+tokenStream src =
+    cond (ltb 65536 (length src)) (stop (refusal SourceTooLong))
+    (cond (any isHigh src) (stop (refusal NotAscii))
+    (allSlices (trimStart src) (slices (trimmed src))))
+
+-- the one answer for a source and a room of so many words: "more tokens than the token room holds" is 7
+unfoldable pub cutAnswer : List ℕ → ℕ → Outcome
+cutAnswer src total = settled tokenLayout (refusal TokenRoom) total (answer 0 (tokenStream src))
+
+-- the one content of that room
+unfoldable pub cutRoom : List ℕ → ℕ → List ℕ
+cutRoom src total = content tokenLayout total (cutAnswer src total) (tokenStream src)

@@ -1,0 +1,114 @@
+// The cutter: a letter's bytes become tokens in a lent room, or one refusal (01, Cutting; `Lexer::scan` in the crate).
+//
+//   cut         the whole: answers 1 to 7 in 01's order; the room holds the records and zeros, or zeros alone
+//   whole       the source's length, its bytes, trimming
+//   all_slices  slice by slice; the last must be `}` alone
+//
+// `cut` is total. Cutting goes on past a full room, so that 3 to 6 come before 7.
+use answers::Outcome;
+use answers::Refusal;
+use answers::Why;
+use bytes::Class;
+use bytes::body_of;
+use bytes::has_high;
+use bytes::lead_of;
+use names::Table;
+use rooms::clear;
+use rooms::clear_from;
+use slices::slice_end;
+use tokenize::tokenize;
+use tokens::Record;
+use tokens::TOKEN_WORDS;
+use tokens::put;
+ghost use mathlib.Core.Path.{_≡_};
+ghost use Prim.Native.Nat.{_+_, _≤_, _<_};
+ghost use lib.ListN.{length};
+ghost use Rattle.names.specs.Names.{rows};
+ghost use Rattle.rooms.specs.Rooms.{Wrote};
+ghost use Rattle.slices.specs.Slices.{slices as slicesOf};
+ghost use Rattle.tokens.specs.Tokens.{tokenLayout};
+ghost use Rattle.cutter.specs.Cutting.{last as lastOf, allSlices, tokenStream, cutAnswer, cutRoom};
+
+// The last slice: a closing bracket alone.
+fn last(s: &[u8], place: usize, room: &mut [u32], n: usize) -> Outcome
+    requires { ⌜ n < 65536 ⌝ }
+    ensures { λ r. ⌜ Wrote tokenLayout n (now (room .entry)) (lastOf place (now (s .entry))) r (now (room .exit)) ⌝ }
+{
+    if s.len() != 1 {
+        return Outcome::Refused(Refusal::of(Why::LastSlice));
+    }
+    if s[0] != b'}' {
+        return Outcome::Refused(Refusal::of(Why::LastSlice));
+    }
+    put(room, n, Record::bare(2));
+    Outcome::Done(n + 1)
+}
+
+// All slices of a trimmed source that stands at `place`.
+fn all_slices(s: &[u8], place: usize, names: &Table, room: &mut [u32]) -> Outcome
+    requires { ⌜ (place + length (now s) ≤ 65536) × (now names ≡ rows) ⌝ }
+    ensures { λ r. ⌜ Wrote tokenLayout 0 (now (room .entry)) (allSlices place (slicesOf (now (s .entry)))) r (now (room .exit)) ⌝ }
+{
+    if s.len() == 0 {
+        return Outcome::Done(0);
+    }
+    let mut t = s;
+    let mut p = place;
+    let mut n = 0;
+    let mut e = slice_end(t);
+    while e < t.len() {
+        let one = tokenize(&t[..e], p, names, room, n);
+        match one {
+            Outcome::Refused(refusal) => {
+                return Outcome::Refused(refusal);
+            }
+            Outcome::Done(m) => {
+                n = m;
+            }
+        }
+        t = &t[e..];
+        p = p + e;
+        e = slice_end(t);
+    }
+    last(t, p, room, n)
+}
+
+// The source, if it is short enough and of bytes below 128, trimmed and cut.
+fn whole(source: &[u8], names: &Table, room: &mut [u32]) -> Outcome
+    requires { ⌜ now names ≡ rows ⌝ }
+    ensures { λ r. ⌜ Wrote tokenLayout 0 (now (room .entry)) (tokenStream (now (source .entry))) r (now (room .exit)) ⌝ }
+{
+    if 65536 < source.len() {
+        return Outcome::Refused(Refusal::of(Why::SourceTooLong));
+    }
+    if has_high(source) {
+        return Outcome::Refused(Refusal::of(Why::NotAscii));
+    }
+    let start = lead_of(source, Class::White);
+    let t = &source[start..];
+    let end = body_of(t, Class::White);
+    all_slices(&t[..end], start, names, room)
+}
+
+// Cuts a source into tokens. Every word of the room is written once or set to zero once.
+pub fn cut(source: &[u8], room: &mut [u32]) -> Outcome
+    ensures answer { λ r. ⌜ r ≡ cutAnswer (now (source .entry)) (length (now (room .entry))) ⌝ }
+    ensures content { λ _. ⌜ now (room .exit) ≡ cutRoom (now (source .entry)) (length (now (room .entry))) ⌝ }
+{
+    let names = names::table();
+    let outcome = whole(source, &names, room);
+    match outcome {
+        Outcome::Refused(refusal) => {
+            clear(room);
+            Outcome::Refused(refusal)
+        }
+        Outcome::Done(n) => {
+            if n <= room.len() / TOKEN_WORDS {
+                clear_from(room, n * TOKEN_WORDS);
+                return Outcome::Done(n);
+            }
+            clear(room);
+            Outcome::Refused(Refusal::of(Why::TokenRoom))
+        }
+    }
+}

@@ -1,0 +1,2 @@
+-- Names: the table of names, and a word's number.
+pub mod Names

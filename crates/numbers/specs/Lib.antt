@@ -1,0 +1,2 @@
+-- Numbers: hexadecimal pairs and decimals.
+pub mod Numbers

@@ -1,0 +1,72 @@
+-- One stream after another: how it ends, how many items it has. Assumes nothing.
+use mathlib.Core.Path.{_≡_, refl, sym, ap, _∙_}
+use Prim.Native.Nat.{ℕ, zero, suc, _+_, _≤_}
+use native.Mathlib.Omega.{arith}
+use Rattle.answers.specs.declared.Refusal.{Refusal}
+use Rattle.answers.specs.declared.Outcome.{Outcome}
+use Rattle.answers.specs.declared.Outcome.the-variants.{Done, Refused}
+use Rattle.rooms.specs.Streams.{Stream, end, stop, _▸_, andThen, count, answer, each}
+
+pub done-refused : {n : ℕ} {r : Refusal} → Done n ≡ Refused r → ⊥
+done-refused e = let z : _≡_ {A = ℕ} 0 1 = cc in omega arith
+
+done-done : (n m : ℕ) → Done n ≡ Done m → n ≡ m
+done-done n m e = cc
+
+module _ {A : Type 0} where
+  pub then-end : (a : Stream A) → andThen a end ≡ a
+  unfolding andThen
+  then-end end = refl
+  then-end (stop r) = refl
+  then-end (x ▸ a) = ap (λ (s : Stream A). x ▸ s) (then-end a)
+
+  pub then-then : (a b c : Stream A) → andThen (andThen a b) c ≡ andThen a (andThen b c)
+  unfolding andThen
+  then-then end b c = refl
+  then-then (stop r) b c = refl
+  then-then (x ▸ a) b c = ap (λ (s : Stream A). x ▸ s) (then-then a b c)
+
+  pub count-then : (a b : Stream A) → count (andThen a b) ≤ count a + count b
+  unfolding andThen count
+  count-then end b = omega arith
+  count-then (stop r) b = omega arith
+  count-then (x ▸ a) b = omega (arith, count-then a b)
+
+  -- the answer counts the items
+  pub answer-count : (s : Stream A) (n m : ℕ) → answer n s ≡ Done m → m ≡ n + count s
+  unfolding answer count
+  answer-count end n m e = omega (arith, done-done n m e)
+  answer-count (stop r) n m e = absurd (done-refused (sym e))
+  answer-count (x ▸ s) n m e = omega (arith, answer-count s (n + 1) m e)
+
+  module _ (b : Stream A) where
+    pub answer-then : (a : Stream A) (n m : ℕ) → answer n a ≡ Done m → answer n (andThen a b) ≡ answer m b
+    unfolding answer andThen
+    answer-then end n m e = ap (λ (k : ℕ). answer k b) (done-done n m e)
+    answer-then (stop r) n m e = absurd (done-refused (sym e))
+    answer-then (x ▸ a) n m e = answer-then a (n + 1) m e
+
+    pub answer-stops : (a : Stream A) (n : ℕ) (r : Refusal) → answer n a ≡ Refused r → answer n (andThen a b) ≡ Refused r
+    unfolding answer andThen
+    answer-stops end n r e = absurd (done-refused e)
+    answer-stops (stop q) n r e = e
+    answer-stops (x ▸ a) n r e = answer-stops a (n + 1) r e
+
+module _ {A B : Type 0} (f : A → B) where
+  pub each-then : (a b : Stream A) → each f (andThen a b) ≡ andThen (each f a) (each f b)
+  unfolding each andThen
+  each-then end b = refl
+  each-then (stop r) b = refl
+  each-then (x ▸ a) b = ap (λ (s : Stream B). f x ▸ s) (each-then a b)
+
+  pub count-each : (s : Stream A) → count (each f s) ≡ count s
+  unfolding each count
+  count-each end = refl
+  count-each (stop r) = refl
+  count-each (x ▸ s) = ap suc (count-each s)
+
+  pub answer-each : (s : Stream A) (n : ℕ) → answer n (each f s) ≡ answer n s
+  unfolding each answer
+  answer-each end n = refl
+  answer-each (stop r) n = refl
+  answer-each (x ▸ s) n = answer-each s (n + 1)

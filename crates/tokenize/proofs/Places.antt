@@ -1,0 +1,211 @@
+-- What a slice shows stands in it, so that a token's place and length can be read back from the source.
+--     Each-then, -each, -weaken     a property of each item: of two streams, of changed items, of a weaker property
+--     Each-items                    the same of the list of the items, by index
+--     at-after, at-before           bytes that stand in a list stand in it behind a front, and in front of a rest
+--     stands-after, stands-before   the same of what a token shows
+--     tokens-stand                  what the tokens of a slice show stands in the slice; numbers fit their words
+-- Assumes nothing.
+use mathlib.Core.Path.{_≡_, refl}
+use mathlib.Core.List.{List, [], _∷_, _++_, append-assoc}
+use mathlib.Core.Bool.{Bool, true, false, cond}
+use Prim.Native.Nat.{ℕ, zero, suc, _+_, _≤_, _<_}
+use native.Mathlib.Omega.{arith}
+use borrow.Author.Tests.{eqb-true, ltb-true}
+use lib.ListN.{length, getD, take, drop, length-append, length-take, length-drop, take-append-drop}
+use lib.Seq.{take-length, take-append-seam, drop-append-seam, take-append-le, drop-append-le, drop-append-add}
+use lib.Dec.{eqb, ltb}
+use Rattle.bytes.specs.declared.Class.the-variants.{White, WordEnd, InWord, Space, Numeral}
+use Rattle.bytes.specs.Bytes.{isLetter, inClass, lead, body}
+use Rattle.numbers.specs.declared.Number.{Number}
+use Rattle.numbers.specs.declared.Number.the-variants.{Is, Bad}
+use Rattle.numbers.specs.Numbers.{hexPair, decimal}
+use Rattle.numbers.proofs.Numbers.{hex-pair-small, decimal-small}
+use Rattle.names.specs.Names.{wordNumber}
+use Rattle.rooms.specs.Streams.{Stream, end, stop, _▸_, andThen, each, items}
+use Rattle.tokens.specs.declared.Property.{Property}
+use Rattle.tokens.specs.declared.Property.the-variants.{None, Value}
+use Rattle.tokens.specs.Tokens.{Shown, valueOf}
+use Rattle.tokens.specs.Tokens
+use Rattle.tokenize.specs.Tokenize.{isMark, isEscape, mark, plain, hexValue, hexEscape, lineBreakAnd, shownWord, numbered, named, bareLength, wordTail, word, other, escaped, tokens}
+
+-- each item of a stream has a property
+abbrev pub Each : {A : Type 0} → (A → Type 0) → Stream A → Type 0
+Each P end = Unit {0}
+Each P (stop r) = Unit {0}
+Each P (x ▸ s) = P x × Each P s
+
+module _ {A : Type 0} (P : A → Type 0) where
+  pub Each-then : (a b : Stream A) → Each P a → Each P b → Each P (andThen a b)
+  unfolding andThen
+  Each-then end b h k = k
+  Each-then (stop r) b h k = tt
+  Each-then (x ▸ a) b h k = (h .0, Each-then a b (h .1) k)
+
+  pub Each-weaken : (Q : A → Type 0) → ((x : A) → P x → Q x) → (s : Stream A) → Each P s → Each Q s
+  Each-weaken Q f end h = tt
+  Each-weaken Q f (stop r) h = tt
+  Each-weaken Q f (x ▸ s) h = (f x (h .0), Each-weaken Q f s (h .1))
+
+  pub Each-items : (s : Stream A) → Each P s → (i : ℕ) (d : A) → i < length (items s) → P (getD (items s) i d)
+  unfolding items
+  Each-items end h i d l = absurd (omega arith)
+  Each-items (stop r) h i d l = absurd (omega arith)
+  Each-items (x ▸ s) h zero d l = h .0
+  Each-items (x ▸ s) h (suc i) d l = Each-items s (h .1) i d (omega arith)
+
+  -- either way of a choice
+  either : (t : Bool) (a b : Stream A) → Each P a → Each P b → Each P (cond t a b)
+  either true a b h k = h
+  either false a b h k = k
+
+pub Each-each : {A B : Type 0} (P : B → Type 0) (f : A → B) (s : Stream A) → Each (λ (x : A). P (f x)) s → Each P (each f s)
+unfolding each
+Each-each P f end h = tt
+Each-each P f (stop r) h = tt
+Each-each P f (x ▸ s) h = (h .0, Each-each P f s (h .1))
+
+-- the bytes bs stand at source place q, where s stands at p
+pub record At (s : List ℕ) (p q : ℕ) (bs : List ℕ) : Type 0 where
+  pub from : ℕ
+  pub place : q ≡ p + from
+  pub fits : from + length bs ≤ length s
+  pub same : take (length bs) (drop from s) ≡ bs
+
+pub at-after : (x : List ℕ) {s : List ℕ} {p q : ℕ} {bs : List ℕ} → At s (p + length x) q bs → At (x ++ s) p q bs
+at-after x {s} {p} {q} {bs} a = record {
+  from = length x + a .from;
+  place = omega arith;
+  fits = rw length-append (omega arith);
+  same = rw drop-append-add (a .same);
+}
+
+pub at-before : (y : List ℕ) {s : List ℕ} {p q : ℕ} {bs : List ℕ} → At s p q bs → At (s ++ y) p q bs
+at-before y {s} {p} {q} {bs} a = record {
+  from = a .from;
+  place = a .place;
+  fits = rw length-append (omega arith);
+  same =
+      rw (drop-append-le (a .from) s y (omega arith), take-append-le (length bs) (drop (a .from) s) y (rw length-drop (omega arith))) (a .same);
+}
+
+-- all from a place on, and all up to a place
+at-back : (x s : List ℕ) (p q : ℕ) → q ≡ p + length x → At (x ++ s) p q s
+at-back x s p q e = record { from = length x; place = e; fits = rw length-append (omega arith); same = rw drop-append-seam (take-length s) }
+
+at-front : (x y : List ℕ) (p : ℕ) → At (x ++ y) p p x
+at-front x y p = record { from = 0; place = omega arith; fits = rw length-append (omega arith); same = take-append-seam x y }
+
+-- "that number modulo 2^32"
+abbrev pub Small : Property → Type 0
+Small num = valueOf num < 4294967296
+
+-- what a token shows stands in s, which stands at p: the bytes of a text, of an unknown word; numbers fit their words
+abbrev pub Stands : List ℕ → ℕ → Shown → Type 0
+Stands s p (Shown.text q bs) = At s p q bs
+Stands s p Shown.opening = Unit {0}
+Stands s p Shown.closing = Unit {0}
+Stands s p Shown.lineBreak = Unit {0}
+Stands s p Shown.ignorable = Unit {0}
+Stands s p (Shown.word w num) = (w < 49) × Small num
+Stands s p (Shown.unknown q bs num) = At s p q bs × Small num
+
+-- where bytes are moved, what shows them is
+stands-moved : {s s′ : List ℕ} {p p′ : ℕ} → ((q : ℕ) (bs : List ℕ) → At s p q bs → At s′ p′ q bs) → (t : Shown) → Stands s p t → Stands s′ p′ t
+stands-moved f (Shown.text q bs) h = f q bs h
+stands-moved f Shown.opening h = tt
+stands-moved f Shown.closing h = tt
+stands-moved f Shown.lineBreak h = tt
+stands-moved f Shown.ignorable h = tt
+stands-moved f (Shown.word w num) h = h
+stands-moved f (Shown.unknown q bs num) h = (f q bs (h .0), h .1)
+
+pub stands-after : (x s : List ℕ) (p : ℕ) (t : Shown) → Stands s (p + length x) t → Stands (x ++ s) p t
+stands-after x s p = stands-moved (λ q bs. at-after x)
+
+pub stands-before : (y s : List ℕ) (p : ℕ) (t : Shown) → Stands s p t → Stands (s ++ y) p t
+stands-before y s p = stands-moved (λ q bs. at-before y)
+
+mark-stands : (b : ℕ) (s : List ℕ) (p : ℕ) → Each (Stands s p) (mark b)
+unfolding mark
+mark-stands b s p = either (Stands s p) (eqb b 123) _ _ (tt, tt) (either (Stands s p) (eqb b 125) _ _ (tt, tt) tt)
+
+-- the rules below at place p of the source, each with what stands in the slice in front of its bytes
+module _ (p : ℕ) where
+  plain-stands : (x s : List ℕ) (q : ℕ) → q ≡ p + length x → Each (Stands (x ++ s) p) (plain q s)
+  unfolding plain
+  plain-stands x s q e = either (Stands (x ++ s) p) (eqb (lead (inClass White) s) (length s)) _ _ tt (at-back x s p q e, tt)
+
+  hex-stands : (b : ℕ) (s : List ℕ) → Each (Stands (92 ∷ b ∷ s) p) (hexEscape p s)
+  unfolding hexEscape hexValue
+  hex-stands b [] = tt
+  hex-stands b (c ∷ []) = tt
+  hex-stands b (c ∷ d ∷ s) = go (hexPair c d) refl
+    where
+      go : (n : Number) → hexPair c d ≡ n → Each (Stands (92 ∷ b ∷ c ∷ d ∷ s) p) (hexValue n (plain (p + 4) s))
+      go (Is v) e = ((omega arith, omega (arith, hex-pair-small c d v e)), plain-stands (92 ∷ b ∷ c ∷ d ∷ []) s (p + 4) (omega arith))
+      go Bad e = tt
+
+  -- a word's name is the front of what stands behind the backslash
+  shown-stands : (x y : List ℕ) (num : Property) → Small num → Stands (92 ∷ (x ++ y)) p (shownWord p x num)
+  unfolding shownWord
+  shown-stands x y num h = go (ltb (wordNumber x) 49) refl
+    where
+      go : (t : Bool) → ltb (wordNumber x) 49 ≡ t → Stands (92 ∷ (x ++ y)) p (cond t (Shown.word (wordNumber x) num) (Shown.unknown p (92 ∷ x) num))
+      go true e = (ltb-true (wordNumber x) 49 e, h)
+      go false e = (at-front (92 ∷ x) y p, h)
+
+  numbered-stands : (x y : List ℕ) (n : Number) → ((v : ℕ) → n ≡ Is v → v < 4294967296) → Each (Stands (92 ∷ (x ++ y)) p) (numbered p x n)
+  unfolding numbered
+  numbered-stands x y (Is v) h = (shown-stands x y (Value v) (h v refl), tt)
+  numbered-stands x y Bad h = tt
+
+  named-stands : (w y : List ℕ) → Each (Stands (92 ∷ (w ++ y)) p) (named p w)
+  unfolding named
+  named-stands w y =
+      let k = body (inClass Numeral) w in
+      let e : take k w ++ (drop k w ++ y) ≡ w ++ y = rw (← append-assoc, take-append-drop) in
+      either (Stands (92 ∷ (w ++ y)) p) (eqb k (length w)) _ _ (shown-stands w y None (omega arith), tt)
+      (rw e at (numbered-stands (take k w) (drop k w ++ y) (decimal (drop k w)) (decimal-small (drop k w))))
+
+  tail-stands : (x s : List ℕ) (q : ℕ) → (0 < length s → q ≡ p + length x) → Each (Stands (x ++ s) p) (wordTail q s)
+  unfolding wordTail
+  tail-stands x [] q e = tt
+  tail-stands x (b ∷ s) q e =
+      let h : q ≡ p + length x = e (omega arith) in
+      either (Stands (x ++ (b ∷ s)) p) (ltb (lead (inClass WordEnd) (b ∷ s)) (length (b ∷ s))) _ _ (plain-stands x (b ∷ s) q h) (at-back x (b ∷ s) p q h, tt)
+
+  word-stands : (s : List ℕ) → Each (Stands (92 ∷ s) p) (word p s)
+  unfolding word
+  word-stands s =
+      let k = lead (inClass InWord) s in
+      let m = bareLength (take k s) in
+      Each-then (Stands (92 ∷ s) p) _ _ (rw take-append-drop at (named-stands (take m s) (drop m s)))
+      (rw take-append-drop at (tail-stands (92 ∷ take (k + 1) s) (drop (k + 1) s) (p + 1 + (k + 1)) (simp (length-drop, length-take) (omega arith))))
+
+  other-stands : (s : List ℕ) → Each (Stands (92 ∷ s) p) (other p s)
+  unfolding other
+  other-stands s = either (Stands (92 ∷ s) p) (ltb (lead (inClass Space) s) (length s)) _ _ tt (at-back [] (92 ∷ s) p p (omega arith), tt)
+
+  escaped-stands : (s : List ℕ) → Each (Stands (92 ∷ s) p) (escaped p s)
+  unfolding escaped lineBreakAnd
+  escaped-stands [] = other-stands []
+  escaped-stands (b ∷ s) =
+      let P = Stands (92 ∷ b ∷ s) p in
+      either P (isLetter b) _ _ (word-stands (b ∷ s))
+      (either P (isEscape b) _ _ (at-back (92 ∷ []) (b ∷ s) p (p + 1) (omega arith), tt)
+      (either P (eqb b 39) _ _ (hex-stands b s)
+      (either P (eqb b 10) _ _ (tt, plain-stands (92 ∷ b ∷ []) s (p + 2) (omega arith))
+      (either P (eqb b 42) _ _ (tt, tt) (other-stands (b ∷ s))))))
+
+pub tokens-stand : (p : ℕ) (s : List ℕ) → Each (Stands s p) (tokens p s)
+unfolding tokens
+tokens-stand p [] = tt
+tokens-stand p (b ∷ s) = go (isMark b) (eqb b 92) refl (tokens-stand (p + 1) s)
+  where
+    go : (t u : Bool) → eqb b 92 ≡ u → Each (Stands s (p + 1)) (tokens (p + 1) s)
+        → Each (Stands (b ∷ s) p) (cond t (andThen (mark b) (tokens (p + 1) s)) (cond u (escaped p s) (plain p (b ∷ s))))
+    go true u e h =
+        Each-then (Stands (b ∷ s) p) (mark b) (tokens (p + 1) s) (mark-stands b (b ∷ s) p)
+        (Each-weaken (Stands s (p + 1)) (Stands (b ∷ s) p) (stands-after (b ∷ []) s p) (tokens (p + 1) s) h)
+    go false true e h = rw (eqb-true b 92 e) (escaped-stands p s)
+    go false false e h = plain-stands p [] (b ∷ s) p (omega arith)

@@ -1,0 +1,248 @@
+-- The definitions of specs/Tokenize.antt, a law for each branch of the code, in the code's terms: callees' results are
+-- variables, and what the callees promise of them are premises. Assumes nothing.
+use mathlib.Core.Path.{_≡_, refl, sym, ap, _∙_}
+use mathlib.Core.List.{List, [], _∷_}
+use mathlib.Core.Bool.{Bool, true, false, cond}
+use Prim.Native.Nat.{ℕ, suc, _+_, _-_, _≤_, _<_}
+use native.Mathlib.Omega.{arith}
+use borrow.Author.Tests.{eq-eqb, ne-eqb, lt-ltb, le-ltb}
+use lib.ListN.{length, getD, take, drop, length-take, length-drop, List·getD-eq-default}
+use lib.Seq.{take-all}
+use lib.Dec.{eqb, ltb}
+use Rattle.answers.specs.declared.Why.the-variants.{HexShort, HexBad, NumberBad}
+use Rattle.answers.specs.Answers.{refusal}
+use Rattle.bytes.specs.declared.Class.the-variants.{White, WordEnd, InWord, Space, Numeral}
+use Rattle.bytes.specs.Bytes.{isLetter, inClass, lead, body}
+use Rattle.numbers.specs.declared.Number.{Number}
+use Rattle.numbers.specs.declared.Number.the-variants.{Is, Bad}
+use Rattle.numbers.specs.Numbers.{hexPair, decimal}
+use Rattle.names.specs.Names.{wordNumber}
+use Rattle.rooms.specs.Streams.{Stream, end, stop, _▸_, andThen}
+use Rattle.tokens.specs.declared.Property.{Property}
+use Rattle.tokens.specs.declared.Property.the-variants.{None, Value}
+use Rattle.tokens.specs.declared.Record.{Record}
+use Rattle.tokens.specs.Tokens.{Shown, wordRecord, unknownRecord, recordOf}
+use Rattle.tokens.specs.Tokens
+use Rattle.tokenize.specs.Tokenize.{isMark, isEscape, mark, plain, hexValue, hexEscape, lineBreakAnd, shownWord, numbered, named, bareLength, wordTail, word, other, escaped, tokens}
+
+-- the bytes from a place on, as the code has them
+abbrev pub part : ℕ → List ℕ → List ℕ
+part k s = take (length s - k) (drop k s)
+
+part-drop : (k : ℕ) (s : List ℕ) → part k s ≡ drop k s
+part-drop k s = take-all (length s - k) (drop k s) (simp length-drop (omega arith))
+
+-- a list that is not empty
+some-byte : (s : List ℕ) → (length s ≡ 0 → ⊥) → s ≡ getD s 0 0 ∷ drop 1 s
+some-byte [] h = absurd (h refl)
+some-byte (b ∷ s) h = refl
+
+no-byte : (s : List ℕ) → length s ≡ 0 → s ≡ []
+no-byte [] h = refl
+no-byte (b ∷ s) h = absurd (omega arith)
+
+module _ (p : ℕ) (s : List ℕ) (k : ℕ) where
+  pub plain-white : k ≡ lead (inClass White) s → k ≡ length s → plain p s ≡ end
+  unfolding plain
+  plain-white q h = rw (eq-eqb (lead (inClass White) s) (length s) (sym q ∙ h))
+
+  pub plain-text : k ≡ lead (inClass White) s → (k ≡ length s → ⊥) → plain p s ≡ Shown.text p s ▸ end
+  unfolding plain
+  plain-text q h = rw (ne-eqb (lead (inClass White) s) (length s) (λ e. h (q ∙ e)))
+
+  pub other-none : k ≡ lead (inClass Space) s → k < length s → other p s ≡ end
+  unfolding other
+  other-none q h = rw (← q, lt-ltb k (length s) h)
+
+  pub other-text : k ≡ lead (inClass Space) s → length s ≤ k → other p s ≡ Shown.text p (92 ∷ s) ▸ end
+  unfolding other
+  other-text q h = rw (← q, le-ltb k (length s) h)
+
+-- the text behind a word
+pub tail-none : (p : ℕ) (s : List ℕ) → length s ≡ 0 → wordTail p s ≡ end
+unfolding wordTail
+tail-none p [] h = refl
+tail-none p (b ∷ s) h = absurd (omega arith)
+
+pub tail-plain : (p : ℕ) (s : List ℕ) (k : ℕ) → (length s ≡ 0 → ⊥) → k ≡ lead (inClass WordEnd) s → k < length s → wordTail p s ≡ plain p s
+unfolding wordTail
+tail-plain p [] k z q h = absurd (z refl)
+tail-plain p (b ∷ s) k z q h = rw (← q, lt-ltb k (length (b ∷ s)) h)
+
+pub tail-text : (p : ℕ) (s : List ℕ) (k : ℕ) → (length s ≡ 0 → ⊥) → k ≡ lead (inClass WordEnd) s → length s ≤ k → wordTail p s ≡ Shown.text p s ▸ end
+unfolding wordTail
+tail-text p [] k z q h = absurd (z refl)
+tail-text p (b ∷ s) k z q h = rw (← q, le-ltb k (length (b ∷ s)) h)
+
+-- one semicolon at the end
+module _ (w : List ℕ) where
+  pub bare-none : length w ≡ 0 → 0 ≡ bareLength w
+  unfolding bareLength
+  bare-none h = rw (no-byte w h)
+
+  pub bare-semicolon : getD w (length w - 1) 0 ≡ 59 → length w - 1 ≡ bareLength w
+  unfolding bareLength
+  bare-semicolon e = rw (eq-eqb (getD w (length w - 1) 0) 59 e)
+
+  pub bare-other : (getD w (length w - 1) 0 ≡ 59 → ⊥) → length w ≡ bareLength w
+  unfolding bareLength
+  bare-other f = rw (ne-eqb (getD w (length w - 1) 0) 59 f)
+
+-- a word's record
+module _ (p : ℕ) (name : List ℕ) (num : Property) (w : ℕ) (q : w ≡ wordNumber name) (r : Record) where
+  pub record-known : w < 49 → r ≡ wordRecord w num → r ≡ recordOf (shownWord p name num)
+  unfolding recordOf shownWord
+  record-known h e = rw (← q, lt-ltb w 49 h) e
+
+  pub record-unknown : 49 ≤ w → r ≡ unknownRecord p (1 + length name) num → r ≡ recordOf (shownWord p name num)
+  unfolding recordOf shownWord
+  record-unknown h e =
+      let one : 1 + length name ≡ suc (length name) = omega arith in
+      rw (← q, le-ltb w 49 h) (rw one at e)
+
+module _ (p : ℕ) (w : List ℕ) (k : ℕ) (q : k ≡ body (inClass Numeral) w) where
+  pub named-bare : k ≡ length w → named p w ≡ shownWord p w None ▸ end
+  unfolding named
+  named-bare e = rw (eq-eqb (body (inClass Numeral) w) (length w) (sym q ∙ e))
+
+  module _ (f : k ≡ length w → ⊥) (r : Number) (e : r ≡ decimal (part k w)) where
+    named-at : named p w ≡ numbered p (take k w) r
+    unfolding named
+    named-at = rw (← q, ne-eqb k (length w) f, e, part-drop k w)
+
+    pub named-bad : r ≡ Bad → named p w ≡ stop (refusal NumberBad)
+    unfolding numbered
+    named-bad b = named-at ∙ ap (numbered p (take k w)) b
+
+    pub named-is : (v : ℕ) → r ≡ Is v → named p w ≡ shownWord p (take k w) (Value v) ▸ end
+    unfolding numbered
+    named-is v b = named-at ∙ ap (numbered p (take k w)) b
+
+module _ (p : ℕ) (s : List ℕ) (k e : ℕ) (q : k ≡ lead (inClass InWord) s) (z : e ≡ bareLength (take k s)) where
+  pub word-parts : word p s ≡ andThen (named p (take e s)) (wordTail (p + 1 + (k + 1)) (part (k + 1) s))
+  unfolding word
+  word-parts = rw (← q, ← z, part-drop (k + 1) s)
+
+  pub word-short : k ≡ length s → word p s ≡ andThen (named p (take e s)) end
+  word-short h =
+      let t : wordTail (p + 1 + (k + 1)) (part (k + 1) s) ≡ end = tail-none _ _ (simp (length-take, length-drop) (omega arith)) in
+      word-parts ∙ ap (andThen (named p (take e s))) t
+
+-- the hexadecimal escape
+pub hex-short : (p : ℕ) (s : List ℕ) → length s < 2 → hexEscape p s ≡ stop (refusal HexShort)
+unfolding hexEscape
+hex-short p [] h = refl
+hex-short p (a ∷ []) h = refl
+hex-short p (a ∷ b ∷ s) h = absurd (omega arith)
+
+module _ (p : ℕ) where
+  hex-at : (s : List ℕ) → 2 ≤ length s → hexEscape p s ≡ hexValue (hexPair (getD s 0 0) (getD s 1 0)) (plain (p + 4) (part 2 s))
+  unfolding hexEscape
+  hex-at [] h = absurd (omega arith)
+  hex-at (a ∷ []) h = absurd (omega arith)
+  hex-at (a ∷ b ∷ s) h = rw (part-drop 2 (a ∷ b ∷ s))
+
+  module _ (s : List ℕ) (h : 2 ≤ length s) (r : Number) (q : r ≡ hexPair (getD s 0 0) (getD s 1 0)) where
+    pub hex-bad : r ≡ Bad → hexEscape p s ≡ stop (refusal HexBad)
+    unfolding hexValue
+    hex-bad b = hex-at s h ∙ ap (λ (v : Number). hexValue v (plain (p + 4) (part 2 s))) (sym q ∙ b)
+
+    pub hex-is : (v : ℕ) → r ≡ Is v → hexEscape p s ≡ Shown.word 2 (Value v) ▸ plain (p + 4) (part 2 s)
+    unfolding hexValue
+    hex-is v b = hex-at s h ∙ ap (λ (v : Number). hexValue v (plain (p + 4) (part 2 s))) (sym q ∙ b)
+
+pub break-at : (p : ℕ) (s : List ℕ) → lineBreakAnd p s ≡ Shown.lineBreak ▸ plain (p + 2) s
+unfolding lineBreakAnd
+break-at p s = refl
+
+-- behind a backslash, by the byte that follows
+pub escaped-none : (p : ℕ) (s : List ℕ) → length s ≡ 0 → escaped p s ≡ other p s
+unfolding escaped
+escaped-none p [] h = refl
+escaped-none p (b ∷ s) h = absurd (omega arith)
+
+module _ (p : ℕ) where
+  abbrev choice : Bool → Bool → List ℕ → Stream Shown
+  choice l t s =
+      cond l (word p s)
+      (cond t (Shown.text (p + 1) s ▸ end)
+      (cond (eqb (getD s 0 0) 39) (hexEscape p (part 1 s))
+      (cond (eqb (getD s 0 0) 10) (lineBreakAnd p (part 1 s))
+      (cond (eqb (getD s 0 0) 42) (Shown.ignorable ▸ end) (other p s)))))
+
+  escaped-at : (s : List ℕ) → (length s ≡ 0 → ⊥) → escaped p s ≡ choice (isLetter (getD s 0 0)) (isEscape (getD s 0 0)) s
+  unfolding escaped
+  escaped-at [] h = absurd (h refl)
+  escaped-at (b ∷ s) h = rw (part-drop 1 (b ∷ s))
+
+  module _ (s : List ℕ) (z : length s ≡ 0 → ⊥) (l : Bool) (v : l ≡ isLetter (getD s 0 0)) where
+    pub escaped-word : l ≡ true → escaped p s ≡ word p s
+    escaped-word e = escaped-at s z ∙ ap (λ (t : Bool). choice t (isEscape (getD s 0 0)) s) (sym v ∙ e)
+
+    module _ (f : l ≡ false) (r : Bool) (q : r ≡ isEscape (getD s 0 0)) where
+      past-letter : (t : Bool) → r ≡ t → escaped p s ≡ choice false t s
+      past-letter t e =
+          escaped-at s z
+          ∙ ap (λ (t : Bool). choice t (isEscape (getD s 0 0)) s) (sym v ∙ f)
+          ∙ ap (λ (t : Bool). choice false t s) (sym q ∙ e)
+
+      pub escaped-text : r ≡ true → escaped p s ≡ Shown.text (p + 1) s ▸ end
+      escaped-text e = past-letter true e
+
+      pub escaped-hex : r ≡ false → getD s 0 0 ≡ 39 → escaped p s ≡ hexEscape p (part 1 s)
+      escaped-hex e b = past-letter false e ∙ rw (eq-eqb (getD s 0 0) 39 b)
+
+      module _ (e : r ≡ false) (x : getD s 0 0 ≡ 39 → ⊥) where
+        pub escaped-break : getD s 0 0 ≡ 10 → escaped p s ≡ lineBreakAnd p (part 1 s)
+        escaped-break b = past-letter false e ∙ rw (ne-eqb (getD s 0 0) 39 x, eq-eqb (getD s 0 0) 10 b)
+
+        module _ (y : getD s 0 0 ≡ 10 → ⊥) where
+          pub escaped-mark : getD s 0 0 ≡ 42 → escaped p s ≡ Shown.ignorable ▸ end
+          escaped-mark b = past-letter false e ∙ rw (ne-eqb (getD s 0 0) 39 x, ne-eqb (getD s 0 0) 10 y, eq-eqb (getD s 0 0) 42 b)
+
+          pub escaped-other : (getD s 0 0 ≡ 42 → ⊥) → escaped p s ≡ other p s
+          escaped-other b = past-letter false e ∙ rw (ne-eqb (getD s 0 0) 39 x, ne-eqb (getD s 0 0) 10 y, ne-eqb (getD s 0 0) 42 b)
+
+-- a bracket or a line feed
+pub mark-open : (b : ℕ) → b ≡ 123 → mark b ≡ Shown.opening ▸ end
+unfolding mark
+mark-open b e = rw e
+
+pub mark-close : (b : ℕ) → b ≡ 125 → mark b ≡ Shown.closing ▸ end
+unfolding mark
+mark-close b e = rw e
+
+pub mark-none : (b : ℕ) → (b ≡ 123 → ⊥) → (b ≡ 125 → ⊥) → mark b ≡ end
+unfolding mark
+mark-none b f g = rw (ne-eqb b 123 f, ne-eqb b 125 g)
+
+-- a slice, by its first byte
+pub tokens-none : (p : ℕ) (s : List ℕ) → length s ≡ 0 → tokens p s ≡ end
+unfolding tokens
+tokens-none p [] h = refl
+tokens-none p (b ∷ s) h = absurd (omega arith)
+
+module _ (p : ℕ) where
+  abbrev pick : Bool → List ℕ → Stream Shown
+  pick t s = cond t (andThen (mark (getD s 0 0)) (tokens (p + 1) (part 1 s))) (cond (eqb (getD s 0 0) 92) (escaped p (part 1 s)) (plain p s))
+
+  tokens-at : (s : List ℕ) → (length s ≡ 0 → ⊥) → tokens p s ≡ pick (isMark (getD s 0 0)) s
+  unfolding tokens
+  tokens-at [] h = absurd (h refl)
+  tokens-at (b ∷ s) h = rw (part-drop 1 (b ∷ s))
+
+  module _ (s : List ℕ) (z : length s ≡ 0 → ⊥) (r : Bool) (q : r ≡ isMark (getD s 0 0)) where
+    by-mark : (t : Bool) → r ≡ t → tokens p s ≡ pick t s
+    by-mark t e = tokens-at s z ∙ ap (λ (t : Bool). pick t s) (sym q ∙ e)
+
+    pub tokens-mark : r ≡ true → tokens p s ≡ andThen (mark (getD s 0 0)) (tokens (p + 1) (part 1 s))
+    tokens-mark e = by-mark true e
+
+    pub tokens-alone : r ≡ true → length s ≡ 1 → tokens p s ≡ andThen (mark (getD s 0 0)) end
+    tokens-alone e l = tokens-mark e ∙ ap (andThen (mark (getD s 0 0))) (tokens-none (p + 1) (part 1 s) (simp (length-take, length-drop) (omega arith)))
+
+    pub tokens-escaped : r ≡ false → getD s 0 0 ≡ 92 → tokens p s ≡ escaped p (part 1 s)
+    tokens-escaped f e = by-mark false f ∙ rw (eq-eqb (getD s 0 0) 92 e)
+
+    pub tokens-plain : r ≡ false → (getD s 0 0 ≡ 92 → ⊥) → tokens p s ≡ plain p s
+    tokens-plain f e = by-mark false f ∙ rw (ne-eqb (getD s 0 0) 92 e)

@@ -1,0 +1,106 @@
+-- 01, Cutting: the tokens of one slice, rule by rule and in 01's order. A slice stands at place p of the source. Where a
+-- rule speaks of what follows a backslash, p is the backslash's place. Assumes nothing: these are definitions.
+use Prim.Native.Nat.{ℕ, _+_, _-_}
+use mathlib.Core.List.{List, [], _∷_}
+use mathlib.Core.Bool.{Bool, true, false, cond, _||_}
+use lib.ListN.{length, getD, take, drop}
+use lib.Dec.{ltb, eqb}
+use Rattle.answers.specs.declared.Why.the-variants.{HexShort, HexBad, NumberBad}
+use Rattle.answers.specs.Answers.{refusal}
+use Rattle.bytes.specs.declared.Class.the-variants.{White, WordEnd, InWord, Space, Numeral}
+use Rattle.bytes.specs.Bytes.{isLetter, inClass, lead, body}
+use Rattle.numbers.specs.declared.Number.{Number}
+use Rattle.numbers.specs.declared.Number.the-variants.{Is, Bad}
+use Rattle.numbers.specs.Numbers.{hexPair, decimal}
+use Rattle.names.specs.Names.{wordNumber}
+use Rattle.rooms.specs.Streams.{Stream, end, stop, _▸_, andThen}
+use Rattle.tokens.specs.declared.Property.{Property}
+use Rattle.tokens.specs.declared.Property.the-variants.{None, Value}
+use Rattle.tokens.specs.Tokens.{Shown}
+use Rattle.tokens.specs.Tokens
+
+-- "`{`, `}` or a raw line feed"
+abbrev pub isMark : ℕ → Bool
+isMark b = (eqb b 123 || eqb b 125) || eqb b 10
+
+-- "an opening, a closing, or no token"
+unfoldable pub mark : ℕ → Stream Shown
+mark b = cond (eqb b 123) (Shown.opening ▸ end) (cond (eqb b 125) (Shown.closing ▸ end) end)
+
+-- "Such a plain tail is one text token, spaces kept, unless it is all white space: then none."
+unfoldable pub plain : ℕ → List ℕ → Stream Shown
+plain p s = cond (eqb (lead (inClass White) s) (length s)) end (Shown.text p s ▸ end)
+
+-- "`\{`, `\}`, `\\`"
+abbrev pub isEscape : ℕ → Bool
+isEscape b = (eqb b 123 || eqb b 125) || eqb b 92
+
+-- "`\'`: word `u` with the byte's value; the rest as a plain tail"; 3 and 4 of the answer numbers
+unfoldable pub hexValue : Number → Stream Shown → Stream Shown
+hexValue (Is v) rest = Shown.word 2 (Value v) ▸ rest
+hexValue Bad rest = stop (refusal HexBad)
+
+unfoldable pub hexEscape : ℕ → List ℕ → Stream Shown
+hexEscape p [] = stop (refusal HexShort)
+hexEscape p (a ∷ []) = stop (refusal HexShort)
+hexEscape p (a ∷ b ∷ s) = hexValue (hexPair a b) (plain (p + 4) s)
+
+-- "`\` line feed: a line break token; the rest likewise."
+unfoldable pub lineBreakAnd : ℕ → List ℕ → Stream Shown
+lineBreakAnd p s = Shown.lineBreak ▸ plain (p + 2) s
+
+-- a word by its name: "49 is unknown", and shows "its backslash, without its number"
+unfoldable pub shownWord : ℕ → List ℕ → Property → Shown
+shownWord p name num = cond (ltb (wordNumber name) 49) (Shown.word (wordNumber name) num) (Shown.unknown p (92 ∷ name) num)
+
+-- "Digits and minus signs at its end are the number."; 5 of the answer numbers
+unfoldable pub numbered : ℕ → List ℕ → Number → Stream Shown
+numbered p name (Is v) = shownWord p name (Value v) ▸ end
+numbered p name Bad = stop (refusal NumberBad)
+
+unfoldable pub named : ℕ → List ℕ → Stream Shown
+named p w =
+    let k = body (inClass Numeral) w in
+    cond (eqb k (length w)) (shownWord p w None ▸ end) (numbered p (take k w) (decimal (drop k w)))
+
+-- "One `;` ending the word is dropped.": the length that is left
+unfoldable pub bareLength : List ℕ → ℕ
+bareLength w = cond (eqb (getD w (length w - 1) 0) 59) (length w - 1) (length w)
+
+-- "All after it is one text token if not empty, even if all spaces": if all of it is white space that ends a word, and
+-- else as a plain tail (docs/DIFFERENCES.md, 2)
+unfoldable pub wordTail : ℕ → List ℕ → Stream Shown
+wordTail p [] = end
+wordTail p (b ∷ s) =
+    cond (ltb (lead (inClass WordEnd) (b ∷ s)) (length (b ∷ s))) (plain p (b ∷ s)) (Shown.text p (b ∷ s) ▸ end)
+
+-- "`\` and a to z: the word runs to the first white space, which vanishes." (docs/DIFFERENCES.md, 1)
+unfoldable pub word : ℕ → List ℕ → Stream Shown
+word p s =
+    let k = lead (inClass InWord) s in
+    andThen (named p (take (bareLength (take k s)) s)) (wordTail (p + 1 + (k + 1)) (drop (k + 1) s))
+
+-- "`\` and spaces only: a text token of the whole slice. `\` and any other byte: nothing, tail lost."
+unfoldable pub other : ℕ → List ℕ → Stream Shown
+other p s = cond (ltb (lead (inClass Space) s) (length s)) end (Shown.text p (92 ∷ s) ▸ end)
+
+-- a slice that begins with a backslash, by the byte behind that: a word, "one text token, the slice without its first
+-- byte", `\'`, `\` line feed, "`\*`: an ignorable mark; its tail is lost.", and the rest
+unfoldable pub escaped : ℕ → List ℕ → Stream Shown
+escaped p [] = other p []
+escaped p (b ∷ s) =
+    cond (isLetter b) (word p (b ∷ s))
+    (cond (isEscape b) (Shown.text (p + 1) (b ∷ s) ▸ end)
+    (cond (eqb b 39) (hexEscape p s)
+    (cond (eqb b 10) (lineBreakAnd p s)
+    (cond (eqb b 42) (Shown.ignorable ▸ end)
+    (other p (b ∷ s))))))
+
+-- a slice by its first byte: "what follows that byte is cut again by these rules."; "Other: a plain tail."
+unfoldable pub tokens : ℕ → List ℕ → Stream Shown
+tokens p [] = end
+tokens p (b ∷ s) =
+    let again = tokens (p + 1) s in
+    cond (isMark b) (andThen (mark b) again)
+    (cond (eqb b 92) (escaped p s)
+    (plain p (b ∷ s)))

@@ -1,0 +1,74 @@
+-- 01, Cutting: what a token is, and its six words. Assumes nothing: these are definitions.
+use Prim.Native.Nat.{ℕ}
+use mathlib.Core.List.{List, [], _∷_}
+use lib.ListN.{length}
+use Rattle.rooms.specs.Rooms.{Layout}
+use Rattle.tokens.specs.declared.Property.{Property}
+use Rattle.tokens.specs.declared.Property.the-variants.{None, Value}
+use Rattle.tokens.specs.declared.Record.{Record}
+
+-- "kind (0 text, 1 open, 2 close, 3 line break, 4 ignorable, 5 word)": what a token shows. A text has its source place and
+-- its bytes; a word its number and property; an unknown word its source place and bytes, "from its backslash, without its
+-- number", and its property
+pub data Shown : Type 0 where
+  text : ℕ → List ℕ → Shown
+  opening : Shown
+  closing : Shown
+  lineBreak : Shown
+  ignorable : Shown
+  word : ℕ → Property → Shown
+  unknown : ℕ → List ℕ → Property → Shown
+
+-- a token: the place and the length of the slice that it was cut from, and what it shows
+pub record Token : Type 0 where
+  pub place : ℕ
+  pub length : ℕ
+  pub shows : Shown
+
+-- "1 if a number is present, that number modulo 2^32"
+abbrev pub hasOf : Property → ℕ
+hasOf None = 0
+hasOf (Value v) = 1
+
+abbrev pub valueOf : Property → ℕ
+valueOf None = 0
+valueOf (Value v) = v
+
+-- "Unused fields are 0."
+abbrev pub bareRecord : ℕ → Record
+bareRecord k = record { kind = k; word = 0; has = 0; number = 0; place = 0; length = 0 }
+
+-- "source place and length for text"
+abbrev pub textRecord : ℕ → ℕ → Record
+textRecord p n = record { kind = 0; word = 0; has = 0; number = 0; place = p; length = n }
+
+abbrev pub wordRecord : ℕ → Property → Record
+wordRecord w num = record { kind = 5; word = w; has = hasOf num; number = valueOf num; place = 0; length = 0 }
+
+-- "and for an unknown word", whose number is 49
+abbrev pub unknownRecord : ℕ → ℕ → Property → Record
+unknownRecord p n num = record { kind = 5; word = 49; has = hasOf num; number = valueOf num; place = p; length = n }
+
+-- the record of what a token shows
+unfoldable pub recordOf : Shown → Record
+recordOf (text p bs) = textRecord p (length bs)
+recordOf opening = bareRecord 1
+recordOf closing = bareRecord 2
+recordOf lineBreak = bareRecord 3
+recordOf ignorable = bareRecord 4
+recordOf (word w num) = wordRecord w num
+recordOf (unknown p bs num) = unknownRecord p (length bs) num
+
+-- "A token is six u32"
+abbrev pub tokenWords : ℕ
+tokenWords = 6
+
+abbrev pub recordWords : Record → List ℕ
+recordWords t = t .kind ∷ t .word ∷ t .has ∷ t .number ∷ t .place ∷ t .length ∷ []
+
+-- how what a token shows, and how a token, stands in a room
+abbrev pub shownLayout : Layout Shown
+shownLayout = record { width = tokenWords; words = λ s. recordWords (recordOf s) }
+
+abbrev pub tokenLayout : Layout Token
+tokenLayout = record { width = tokenWords; words = λ t. recordWords (recordOf (t .shows)) }
