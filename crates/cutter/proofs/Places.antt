@@ -21,7 +21,8 @@ use Rattle.slices.proofs.Slices.{joined, joined-slices}
 use Rattle.tokens.specs.Tokens.{Shown, Token}
 use Rattle.tokens.specs.Tokens
 use Rattle.tokenize.specs.Tokenize.{tokens}
-use Rattle.tokenize.proofs.Places.{Each, Each-then, Each-each, Each-weaken, Stands, stands-after, stands-before, tokens-stand}
+use Rattle.rooms.proofs.Streams.{Each, Each-then, Each-each, Each-weaken}
+use Rattle.tokenize.proofs.Places.{Stands, stands-after, stands-before, tokens-stand}
 use Rattle.cutter.specs.Cutting.{locate, located, last, allSlices, trimStart, trimmed, tokenStream}
 
 -- a token of bytes s that stand at p: what it shows stands in them, and its slice ends in them

@@ -13,7 +13,6 @@ use bytes::body_of;
 use bytes::has_high;
 use bytes::lead_of;
 use names::Table;
-use rooms::clear;
 use rooms::clear_from;
 use slices::slice_end;
 use tokenize::tokenize;
@@ -22,7 +21,7 @@ use tokens::TOKEN_WORDS;
 use tokens::put;
 ghost use mathlib.Core.Path.{_≡_};
 ghost use Prim.Native.Nat.{_+_, _≤_, _<_};
-ghost use lib.ListN.{length};
+ghost use lib.ListN.{length, replicate};
 ghost use Rattle.names.specs.Names.{rows};
 ghost use Rattle.rooms.specs.Rooms.{Wrote};
 ghost use Rattle.slices.specs.Slices.{slices as slicesOf};
@@ -90,6 +89,15 @@ fn whole(source: &[u8], names: &Table, room: &mut [u32]) -> Outcome
     all_slices(&t[..end], start, names, room)
 }
 
+// A refusal, and the whole room zero.
+fn refuse(refusal: Refusal, room: &mut [u32]) -> Outcome
+    ensures answer { λ r. ⌜ r ≡ Outcome.Refused refusal ⌝ }
+    ensures content { λ _. ⌜ now (room .exit) ≡ replicate (length (now (room .entry))) 0 ⌝ }
+{
+    clear_from(room, 0);
+    Outcome::Refused(refusal)
+}
+
 // Cuts a source into tokens. Every word of the room is written once or set to zero once.
 pub fn cut(source: &[u8], room: &mut [u32]) -> Outcome
     ensures answer { λ r. ⌜ r ≡ cutAnswer (now (source .entry)) (length (now (room .entry))) ⌝ }
@@ -98,17 +106,13 @@ pub fn cut(source: &[u8], room: &mut [u32]) -> Outcome
     let names = names::table();
     let outcome = whole(source, &names, room);
     match outcome {
-        Outcome::Refused(refusal) => {
-            clear(room);
-            Outcome::Refused(refusal)
-        }
+        Outcome::Refused(refusal) => refuse(refusal, room),
         Outcome::Done(n) => {
             if n <= room.len() / TOKEN_WORDS {
                 clear_from(room, n * TOKEN_WORDS);
                 return Outcome::Done(n);
             }
-            clear(room);
-            Outcome::Refused(Refusal::of(Why::TokenRoom))
+            refuse(Refusal::of(Why::TokenRoom), room)
         }
     }
 }

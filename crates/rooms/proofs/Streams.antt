@@ -1,11 +1,18 @@
--- One stream after another: how it ends, how many items it has. Assumes nothing.
+-- One stream after another: how it ends, how many items it has; a property of each item.
+--     then-.., count-.., answer-..    of one stream after another
+--     each-then, count-each, ..       of a stream whose items are changed
+--     Each-then, -each, -weaken       a property of each item: of two streams, of changed items, of a weaker property
+--     Each-items, -either             the same of the list of the items, by index; of either of two streams
+-- Assumes nothing.
 use mathlib.Core.Path.{_≡_, refl, sym, ap, _∙_}
-use Prim.Native.Nat.{ℕ, zero, suc, _+_, _≤_}
+use mathlib.Core.Bool.{Bool, true, false, cond}
+use Prim.Native.Nat.{ℕ, zero, suc, _+_, _≤_, _<_}
 use native.Mathlib.Omega.{arith}
+use lib.ListN.{length, getD}
 use Rattle.answers.specs.declared.Refusal.{Refusal}
 use Rattle.answers.specs.declared.Outcome.{Outcome}
 use Rattle.answers.specs.declared.Outcome.the-variants.{Done, Refused}
-use Rattle.rooms.specs.Streams.{Stream, end, stop, _▸_, andThen, count, answer, each}
+use Rattle.rooms.specs.Streams.{Stream, end, stop, _▸_, andThen, count, items, answer, each}
 
 pub done-refused : {n : ℕ} {r : Refusal} → Done n ≡ Refused r → ⊥
 done-refused e = let z : _≡_ {A = ℕ} 0 1 = cc in omega arith
@@ -70,3 +77,39 @@ module _ {A B : Type 0} (f : A → B) where
   answer-each end n = refl
   answer-each (stop r) n = refl
   answer-each (x ▸ s) n = answer-each s (n + 1)
+
+-- each item of a stream has a property
+abbrev pub Each : {A : Type 0} → (A → Type 0) → Stream A → Type 0
+Each P end = Unit {0}
+Each P (stop r) = Unit {0}
+Each P (x ▸ s) = P x × Each P s
+
+module _ {A : Type 0} (P : A → Type 0) where
+  pub Each-then : (a b : Stream A) → Each P a → Each P b → Each P (andThen a b)
+  unfolding andThen
+  Each-then end b h k = k
+  Each-then (stop r) b h k = tt
+  Each-then (x ▸ a) b h k = (h .0, Each-then a b (h .1) k)
+
+  pub Each-weaken : (Q : A → Type 0) → ((x : A) → P x → Q x) → (s : Stream A) → Each P s → Each Q s
+  Each-weaken Q f end h = tt
+  Each-weaken Q f (stop r) h = tt
+  Each-weaken Q f (x ▸ s) h = (f x (h .0), Each-weaken Q f s (h .1))
+
+  pub Each-items : (s : Stream A) → Each P s → (i : ℕ) (d : A) → i < length (items s) → P (getD (items s) i d)
+  unfolding items
+  Each-items end h i d l = absurd (omega arith)
+  Each-items (stop r) h i d l = absurd (omega arith)
+  Each-items (x ▸ s) h zero d l = h .0
+  Each-items (x ▸ s) h (suc i) d l = Each-items s (h .1) i d (omega arith)
+
+  -- either way of a choice
+  pub Each-either : (t : Bool) (a b : Stream A) → Each P a → Each P b → Each P (cond t a b)
+  Each-either true a b h k = h
+  Each-either false a b h k = k
+
+pub Each-each : {A B : Type 0} (P : B → Type 0) (f : A → B) (s : Stream A) → Each (λ (x : A). P (f x)) s → Each P (each f s)
+unfolding each
+Each-each P f end h = tt
+Each-each P f (stop r) h = tt
+Each-each P f (x ▸ s) h = (h .0, Each-each P f s (h .1))

@@ -19,15 +19,15 @@ fn plain_blocks(s: &[u8], from: usize) -> usize
     requires { ⌜ from ≤ length (now s) ⌝ }
     ensures { λ r. ⌜ Plain (now (s .entry)) from r ⌝ }
 {
-    let mut i = from;
-    while BLOCK <= s.len() - i {
-        let next = i + BLOCK;
-        if bytes::has_special(&s[i..next]) {
-            return i;
+    let mut at = from;
+    while BLOCK <= s.len() - at {
+        let next = at + BLOCK;
+        if bytes::has_special(&s[at..next]) {
+            return at;
         }
-        i = next;
+        at = next;
     }
-    i
+    at
 }
 
 // The length of the first slice of s; 0 if s is empty. Nothing is reset after `\\`: the second backslash is the byte

@@ -1,6 +1,4 @@
 -- What a slice shows stands in it, so that a token's place and length can be read back from the source.
---     Each-then, -each, -weaken     a property of each item: of two streams, of changed items, of a weaker property
---     Each-items                    the same of the list of the items, by index
 --     at-after, at-before           bytes that stand in a list stand in it behind a front, and in front of a rest
 --     stands-after, stands-before   the same of what a token shows
 --     tokens-stand                  what the tokens of a slice show stands in the slice; numbers fit their words
@@ -21,48 +19,13 @@ use Rattle.numbers.specs.declared.Number.the-variants.{Is, Bad}
 use Rattle.numbers.specs.Numbers.{hexPair, decimal}
 use Rattle.numbers.proofs.Numbers.{hex-pair-small, decimal-small}
 use Rattle.names.specs.Names.{wordNumber}
-use Rattle.rooms.specs.Streams.{Stream, end, stop, _▸_, andThen, each, items}
+use Rattle.rooms.specs.Streams.{Stream, end, stop, _▸_, andThen}
+use Rattle.rooms.proofs.Streams.{Each, Each-then, Each-weaken, Each-either}
 use Rattle.tokens.specs.declared.Property.{Property}
 use Rattle.tokens.specs.declared.Property.the-variants.{None, Value}
 use Rattle.tokens.specs.Tokens.{Shown, valueOf}
 use Rattle.tokens.specs.Tokens
 use Rattle.tokenize.specs.Tokenize.{isMark, isEscape, mark, plain, hexValue, hexEscape, lineBreakAnd, shownWord, numbered, named, bareLength, wordTail, word, other, escaped, tokens}
-
--- each item of a stream has a property
-abbrev pub Each : {A : Type 0} → (A → Type 0) → Stream A → Type 0
-Each P end = Unit {0}
-Each P (stop r) = Unit {0}
-Each P (x ▸ s) = P x × Each P s
-
-module _ {A : Type 0} (P : A → Type 0) where
-  pub Each-then : (a b : Stream A) → Each P a → Each P b → Each P (andThen a b)
-  unfolding andThen
-  Each-then end b h k = k
-  Each-then (stop r) b h k = tt
-  Each-then (x ▸ a) b h k = (h .0, Each-then a b (h .1) k)
-
-  pub Each-weaken : (Q : A → Type 0) → ((x : A) → P x → Q x) → (s : Stream A) → Each P s → Each Q s
-  Each-weaken Q f end h = tt
-  Each-weaken Q f (stop r) h = tt
-  Each-weaken Q f (x ▸ s) h = (f x (h .0), Each-weaken Q f s (h .1))
-
-  pub Each-items : (s : Stream A) → Each P s → (i : ℕ) (d : A) → i < length (items s) → P (getD (items s) i d)
-  unfolding items
-  Each-items end h i d l = absurd (omega arith)
-  Each-items (stop r) h i d l = absurd (omega arith)
-  Each-items (x ▸ s) h zero d l = h .0
-  Each-items (x ▸ s) h (suc i) d l = Each-items s (h .1) i d (omega arith)
-
-  -- either way of a choice
-  either : (t : Bool) (a b : Stream A) → Each P a → Each P b → Each P (cond t a b)
-  either true a b h k = h
-  either false a b h k = k
-
-pub Each-each : {A B : Type 0} (P : B → Type 0) (f : A → B) (s : Stream A) → Each (λ (x : A). P (f x)) s → Each P (each f s)
-unfolding each
-Each-each P f end h = tt
-Each-each P f (stop r) h = tt
-Each-each P f (x ▸ s) h = (h .0, Each-each P f s (h .1))
 
 -- the bytes bs stand at source place q, where s stands at p
 pub record At (s : List ℕ) (p q : ℕ) (bs : List ℕ) : Type 0 where
@@ -127,13 +90,13 @@ stands-before y s p = stands-moved (λ q bs. at-before y)
 
 mark-stands : (b : ℕ) (s : List ℕ) (p : ℕ) → Each (Stands s p) (mark b)
 unfolding mark
-mark-stands b s p = either (Stands s p) (eqb b 123) _ _ (tt, tt) (either (Stands s p) (eqb b 125) _ _ (tt, tt) tt)
+mark-stands b s p = Each-either (Stands s p) (eqb b 123) _ _ (tt, tt) (Each-either (Stands s p) (eqb b 125) _ _ (tt, tt) tt)
 
 -- the rules below at place p of the source, each with what stands in the slice in front of its bytes
 module _ (p : ℕ) where
   plain-stands : (x s : List ℕ) (q : ℕ) → q ≡ p + length x → Each (Stands (x ++ s) p) (plain q s)
   unfolding plain
-  plain-stands x s q e = either (Stands (x ++ s) p) (eqb (lead (inClass White) s) (length s)) _ _ tt (at-back x s p q e, tt)
+  plain-stands x s q e = Each-either (Stands (x ++ s) p) (eqb (lead (inClass White) s) (length s)) _ _ tt (at-back x s p q e, tt)
 
   hex-stands : (b : ℕ) (s : List ℕ) → Each (Stands (92 ∷ b ∷ s) p) (hexEscape p s)
   unfolding hexEscape hexValue
@@ -164,7 +127,7 @@ module _ (p : ℕ) where
   named-stands w y =
       let k = body (inClass Numeral) w in
       let e : take k w ++ (drop k w ++ y) ≡ w ++ y = rw (← append-assoc, take-append-drop) in
-      either (Stands (92 ∷ (w ++ y)) p) (eqb k (length w)) _ _ (shown-stands w y None (omega arith), tt)
+      Each-either (Stands (92 ∷ (w ++ y)) p) (eqb k (length w)) _ _ (shown-stands w y None (omega arith), tt)
       (rw e at (numbered-stands (take k w) (drop k w ++ y) (decimal (drop k w)) (decimal-small (drop k w))))
 
   tail-stands : (x s : List ℕ) (q : ℕ) → (0 < length s → q ≡ p + length x) → Each (Stands (x ++ s) p) (wordTail q s)
@@ -172,7 +135,7 @@ module _ (p : ℕ) where
   tail-stands x [] q e = tt
   tail-stands x (b ∷ s) q e =
       let h : q ≡ p + length x = e (omega arith) in
-      either (Stands (x ++ (b ∷ s)) p) (ltb (lead (inClass WordEnd) (b ∷ s)) (length (b ∷ s))) _ _ (plain-stands x (b ∷ s) q h) (at-back x (b ∷ s) p q h, tt)
+      Each-either (Stands (x ++ (b ∷ s)) p) (ltb (lead (inClass WordEnd) (b ∷ s)) (length (b ∷ s))) _ _ (plain-stands x (b ∷ s) q h) (at-back x (b ∷ s) p q h, tt)
 
   word-stands : (s : List ℕ) → Each (Stands (92 ∷ s) p) (word p s)
   unfolding word
@@ -184,18 +147,18 @@ module _ (p : ℕ) where
 
   other-stands : (s : List ℕ) → Each (Stands (92 ∷ s) p) (other p s)
   unfolding other
-  other-stands s = either (Stands (92 ∷ s) p) (ltb (lead (inClass Space) s) (length s)) _ _ tt (at-back [] (92 ∷ s) p p (omega arith), tt)
+  other-stands s = Each-either (Stands (92 ∷ s) p) (ltb (lead (inClass Space) s) (length s)) _ _ tt (at-back [] (92 ∷ s) p p (omega arith), tt)
 
   escaped-stands : (s : List ℕ) → Each (Stands (92 ∷ s) p) (escaped p s)
   unfolding escaped lineBreakAnd
   escaped-stands [] = other-stands []
   escaped-stands (b ∷ s) =
       let P = Stands (92 ∷ b ∷ s) p in
-      either P (isLetter b) _ _ (word-stands (b ∷ s))
-      (either P (isEscape b) _ _ (at-back (92 ∷ []) (b ∷ s) p (p + 1) (omega arith), tt)
-      (either P (eqb b 39) _ _ (hex-stands b s)
-      (either P (eqb b 10) _ _ (tt, plain-stands (92 ∷ b ∷ []) s (p + 2) (omega arith))
-      (either P (eqb b 42) _ _ (tt, tt) (other-stands (b ∷ s))))))
+      Each-either P (isLetter b) _ _ (word-stands (b ∷ s))
+      (Each-either P (isEscape b) _ _ (at-back (92 ∷ []) (b ∷ s) p (p + 1) (omega arith), tt)
+      (Each-either P (eqb b 39) _ _ (hex-stands b s)
+      (Each-either P (eqb b 10) _ _ (tt, plain-stands (92 ∷ b ∷ []) s (p + 2) (omega arith))
+      (Each-either P (eqb b 42) _ _ (tt, tt) (other-stands (b ∷ s))))))
 
 pub tokens-stand : (p : ℕ) (s : List ℕ) → Each (Stands s p) (tokens p s)
 unfolding tokens

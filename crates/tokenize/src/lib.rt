@@ -73,8 +73,8 @@ fn word_tail(s: &[u8], place: usize, room: &mut [u32], n: usize) -> Outcome
     if s.len() == 0 {
         return Outcome::Done(n);
     }
-    let k = lead_of(s, Class::WordEnd);
-    if k < s.len() {
+    let white = lead_of(s, Class::WordEnd);
+    if white < s.len() {
         return plain(s, place, room, n);
     }
     put(room, n, text(place, s.len()));

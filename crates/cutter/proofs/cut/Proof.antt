@@ -1,4 +1,5 @@
 -- `cut` meets its contract: a refusal, tokens that fit, or tokens too many.
+use mathlib.Core.Path.{_∙_}
 use Rattle.cutter.proofs.Source.{settle-refused, settle-fits, settle-over, room-refused, room-fits}
 use borrow.Author.Needs.{needs}
 use Rattle.cutter.proofs.cut.Statement.{statement}
@@ -13,8 +14,8 @@ whole-requires c κs = search needs
 enum-known-outcome : tie.Need-enum-known-outcome
 enum-known-outcome c = search needs
 
-clear-requires : tie.Need-clear-requires
-clear-requires c κs = search needs
+refuse-requires : tie.Need-refuse-requires
+refuse-requires c κs = search needs
 
 enum-known-outcome-2 : tie.Need-enum-known-outcome-2
 enum-known-outcome-2 c = search needs
@@ -32,11 +33,11 @@ returns : tie.Need-returns
 returns c =
     (settle-fits _ (c .before .before .before .before .before .before .before .before .before .before .whole .ensures) (c .before .before .before .before .before .before .outcome2 .given .1) (c .before .before .before .before .if1 .taken), room-fits _ (c .before .before .before .before .before .before .before .before .before .before .whole .ensures) (c .before .before .before .before .before .before .outcome2 .given .1) (c .before .before .before .before .if1 .taken) (c .before .before .clear-from .ensures))
 
-clear-requires-2 : tie.Need-clear-requires-2
-clear-requires-2 c κs = search needs
-
 of-requires : tie.Need-of-requires
 of-requires c κs = search needs
+
+refuse-requires-2 : tie.Need-refuse-requires-2
+refuse-requires-2 c κs = search needs
 
 same-length-2 : tie.Need-same-length-2
 same-length-2 c = search needs
@@ -44,15 +45,15 @@ same-length-2 c = search needs
 returns-2 : tie.Need-returns-2
 returns-2 c =
     let e = settle-refused _ (c .before .before .before .before .before .before .before .before .before .whole .ensures) (c .before .before .before .before .before .outcome .given .1) in
-    (e, room-refused _ (c .before .before .before .before .before .before .before .before .before .whole .ensures) e (c .before .before .clear .ensures))
+    (c .before .before .refuse .ensures .0 ∙ e, room-refused _ (c .before .before .before .before .before .before .before .before .before .whole .ensures) e (c .before .before .refuse .ensures .1))
 
 same-length-3 : tie.Need-same-length-3
 same-length-3 c = search needs
 
 returns-3 : tie.Need-returns-3
 returns-3 c =
-    let e = settle-over _ (c .before .before .before .before .before .before .before .before .before .before .before .whole .ensures) (c .before .before .before .before .before .before .before .outcome2 .given .1) (c .before .before .before .before .before .if1 .left) (c .of .ensures) in
-    (e, room-refused _ (c .before .before .before .before .before .before .before .before .before .before .before .whole .ensures) e (c .before .before .before .clear2 .ensures))
+    let e = settle-over _ (c .before .before .before .before .before .before .before .before .before .before .before .whole .ensures) (c .before .before .before .before .before .before .before .outcome2 .given .1) (c .before .before .before .before .before .if1 .left) (c .before .before .before .before .of .ensures) in
+    (c .before .before .refuse2 .ensures .0 ∙ e, room-refused _ (c .before .before .before .before .before .before .before .before .before .before .before .whole .ensures) e (c .before .before .refuse2 .ensures .1))
 
 pub cut-spec : {M : Type 1} → statement M
 cut-spec =
@@ -61,14 +62,14 @@ cut-spec =
     table-requires
     whole-requires
     enum-known-outcome
-    clear-requires
+    refuse-requires
     enum-known-outcome-2
     mul-clear-from
     clear-from-requires
     same-length
     returns
-    clear-requires-2
     of-requires
+    refuse-requires-2
     same-length-2
     returns-2
     same-length-3

@@ -1,4 +1,4 @@
--- `plain_blocks` meets its contract. The invariant: no special byte stands from `from` up to i. The measure is what is left.
+-- `plain_blocks` meets its contract. The invariant: no special byte stands from `from` up to `at`. The measure is what is left.
 use borrow.Author.Needs.{needs}
 use Prim.Native.Nat.{_-_}
 use native.Mathlib.Omega.{arith}
@@ -9,10 +9,10 @@ use Rattle.slices.proofs.plain_blocks.Statement.{statement}
 use Rattle.slices.proofs.plain_blocks.Tie as tie
 
 abbrev Inv-loop : tie.InvT-loop
-Inv-loop s from i₀ i = Plain s from i
+Inv-loop s from at₀ at = Plain s from at
 
 abbrev μ-loop : tie.MeasureT-loop
-μ-loop s from i₀ i = length s - i
+μ-loop s from at₀ at = length s - at
 
 loop-holds : tie.Need-loop-holds Inv-loop μ-loop
 loop-holds c = plain-start _ _ (c .before .pre)

@@ -1,0 +1,75 @@
+-- Telling letters, as theorems on the definitions: each is computed through the whole of cutting. Assumes nothing.
+use mathlib.Core.Path.{_≡_, refl}
+use mathlib.Core.List.{List, [], _∷_, _++_}
+use mathlib.Core.Bool.{Bool, true, false, cond, _&&_}
+use Prim.Native.Nat.{ℕ, zero, suc}
+use Prim.Native.String.{String}
+use lib.ListN.{length, take}
+use lib.Dec.{eqb}
+use Rattle.answers.specs.Answers.{outcomeNumber, outcomeCount}
+use Rattle.bytes.specs.Bytes.{lead, body, any}
+use Rattle.bytes.specs.Texts.{bytesOf}
+use Rattle.names.specs.Names.{sameBytes, placeIn, wordNumber}
+use Rattle.numbers.specs.Numbers.{hexDigit, hexPair, digitsFrom, digits, decimal}
+use Rattle.rooms.specs.Streams.{andThen, each, answer}
+use Rattle.rooms.specs.Rooms.{encode, settled, content}
+use Rattle.slices.specs.Slices.{split, slices}
+use Rattle.tokens.specs.Tokens.{recordOf}
+use Rattle.tokenize.specs.Tokenize.{mark, plain, hexValue, hexEscape, lineBreakAnd, shownWord, numbered, named, bareLength, wordTail, word, other, escaped, tokens}
+use Rattle.cutter.specs.Cutting.{located, last, allSlices, trimmed, tokenStream, cutAnswer, cutRoom}
+
+-- a letter, a room's words, the answer's number and count, and the room's first words, of which the rest are zero
+record Case : Type 0 where
+  letter : String
+  room : ℕ
+  number : ℕ
+  count : ℕ
+  holds : List ℕ
+
+cases : List Case
+cases =
+    -- 01's sample letters, as far as cutting goes
+    record { letter = "{}"; room = 12; number = 0; count = 2; holds = 1 ∷ 0 ∷ 0 ∷ 0 ∷ 0 ∷ 0 ∷ 2 ∷ 0 ∷ 0 ∷ 0 ∷ 0 ∷ 0 ∷ [] }
+    ∷ record { letter = ""; room = 7; number = 0; count = 0; holds = 0 ∷ 0 ∷ 0 ∷ 0 ∷ 0 ∷ 0 ∷ 0 ∷ [] }
+    ∷ record { letter = "{\\\\{a}}"; room = 24; number = 0; count = 4; holds = 1 ∷ 0 ∷ 0 ∷ 0 ∷ 0 ∷ 0 ∷ 0 ∷ 0 ∷ 0 ∷ 0 ∷ 2 ∷ 3 ∷ 2 ∷ 0 ∷ 0 ∷ 0 ∷ 0 ∷ 0 ∷ 2 ∷ [] }
+    ∷ record { letter = "{\\u-3913 }"; room = 18; number = 0; count = 3; holds = 1 ∷ 0 ∷ 0 ∷ 0 ∷ 0 ∷ 0 ∷ 5 ∷ 2 ∷ 1 ∷ 4294963383 ∷ 0 ∷ 0 ∷ 2 ∷ [] }
+    ∷ record { letter = "{\\'e9\\'e8}"; room = 24; number = 0; count = 4; holds = 1 ∷ 0 ∷ 0 ∷ 0 ∷ 0 ∷ 0 ∷ 5 ∷ 2 ∷ 1 ∷ 233 ∷ 0 ∷ 0 ∷ 5 ∷ 2 ∷ 1 ∷ 232 ∷ 0 ∷ 0 ∷ 2 ∷ [] }
+    -- `?` belongs to the word, which is then unknown: DIFFERENCES, 5
+    ∷ record { letter = "{\\u8217?}"; room = 18; number = 0; count = 3; holds = 1 ∷ 0 ∷ 0 ∷ 0 ∷ 0 ∷ 0 ∷ 5 ∷ 49 ∷ 0 ∷ 0 ∷ 1 ∷ 7 ∷ 2 ∷ [] }
+    ∷ record { letter = "{a\\~b}"; room = 18; number = 0; count = 3; holds = 1 ∷ 0 ∷ 0 ∷ 0 ∷ 0 ∷ 0 ∷ 0 ∷ 0 ∷ 0 ∷ 0 ∷ 1 ∷ 1 ∷ 2 ∷ [] }
+    -- byte 11 ends no word, and a white tail with it is lost: DIFFERENCES, 1 and 2
+    ∷ record { letter = "\\a\u{b}}"; room = 12; number = 0; count = 2; holds = 5 ∷ 49 ∷ 0 ∷ 0 ∷ 0 ∷ 3 ∷ 2 ∷ [] }
+    ∷ record { letter = "\\a \u{b}}"; room = 12; number = 0; count = 2; holds = 5 ∷ 49 ∷ 0 ∷ 0 ∷ 0 ∷ 2 ∷ 2 ∷ [] }
+    ∷ record { letter = "\\a  }"; room = 18; number = 0; count = 3; holds = 5 ∷ 49 ∷ 0 ∷ 0 ∷ 0 ∷ 2 ∷ 0 ∷ 0 ∷ 0 ∷ 0 ∷ 3 ∷ 1 ∷ 2 ∷ [] }
+    -- the smallest letter of each refusal from 3 on
+    ∷ record { letter = "\\'}"; room = 12; number = 3; count = 0; holds = [] }
+    ∷ record { letter = "\\'zz}"; room = 12; number = 4; count = 0; holds = [] }
+    ∷ record { letter = "\\a-}"; room = 12; number = 5; count = 0; holds = [] }
+    ∷ record { letter = "a"; room = 12; number = 6; count = 0; holds = [] }
+    ∷ record { letter = "}"; room = 5; number = 7; count = 0; holds = [] }
+    -- both sides of the 32-bit limits; 5 comes before 7
+    ∷ record { letter = "\\b2147483647}"; room = 12; number = 0; count = 2; holds = 5 ∷ 13 ∷ 1 ∷ 2147483647 ∷ 0 ∷ 0 ∷ 2 ∷ [] }
+    ∷ record { letter = "\\b2147483648}"; room = 12; number = 5; count = 0; holds = [] }
+    ∷ record { letter = "\\b-2147483648}"; room = 12; number = 0; count = 2; holds = 5 ∷ 13 ∷ 1 ∷ 2147483648 ∷ 0 ∷ 0 ∷ 2 ∷ [] }
+    ∷ record { letter = "{}\\b-2147483649}"; room = 0; number = 5; count = 0; holds = [] } ∷ []
+
+-- the room's words are those that a case lists, and zeros behind them
+sameRoom : List ℕ → List ℕ → Bool
+sameRoom [] [] = true
+sameRoom [] (y ∷ ys) = false
+sameRoom (x ∷ xs) [] = eqb x 0 && sameRoom xs []
+sameRoom (x ∷ xs) (y ∷ ys) = eqb x y && sameRoom xs ys
+
+right : Case → Bool
+right c =
+    let src = bytesOf (c .letter) in
+    let o = cutAnswer src (c .room) in
+    (eqb (outcomeNumber o) (c .number) && eqb (outcomeCount o) (c .count)) && sameRoom (cutRoom src (c .room)) (c .holds)
+
+every : List Case → Bool
+every [] = true
+every (c ∷ cs) = right c && every cs
+
+cases-right : every cases ≡ true
+unfolding cases right every sameRoom lead body any sameBytes placeIn wordNumber hexDigit hexPair digitsFrom digits decimal andThen each answer encode settled content split slices recordOf mark plain hexValue hexEscape lineBreakAnd shownWord numbered named bareLength wordTail word other escaped tokens located last allSlices trimmed tokenStream cutAnswer cutRoom
+cases-right = refl

@@ -1,0 +1,2 @@
+-- Listed: a listed answer, and when ours agrees with it.
+pub mod Listed
