@@ -19,9 +19,9 @@ pub extern "C" fn elduvarn_cut(source: &[u8], tokens: &mut [u32]) -> CutAnswer
 {
     let outcome = cutter::cut(source, tokens);
     let refusal = outcome.number();
-    let count = outcome.count();
+    let count = outcome.count() as u32;
     CutAnswer {
         refusal: refusal,
-        tokens: count as u32,
+        tokens: count,
     }
 }

@@ -16,8 +16,8 @@ number-requires c κs = search needs
 count-requires : tie.Need-count-requires
 count-requires c κs = search needs
 
-cast-t8 : tie.Need-cast-t8
-cast-t8 c = let b = counted _ _ (c .before .before .before .before .cut .ensures .0) (c .count .ensures) in omega arith
+cast-count : tie.Need-cast-count
+cast-count c = let b = counted _ _ (c .before .before .before .before .cut .ensures .0) (c .count .ensures) in omega arith
 
 same-length : tie.Need-same-length
 same-length c = search needs
@@ -27,4 +27,4 @@ returns c = (c .before .number .ensures ∙ ap outcomeNumber (c .before .before 
 
 pub elduvarn-cut-spec : {M : Type 1} → statement M
 elduvarn-cut-spec =
-    tie.close (tie.spec cut-requires number-requires count-requires cast-t8 same-length returns)
+    tie.close (tie.spec cut-requires number-requires count-requires cast-count same-length returns)
