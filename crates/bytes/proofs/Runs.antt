@@ -3,7 +3,6 @@
 --     lead-length                      at most all bytes
 --     body-more, body-stop, body-end   the same from the other end
 --     any-more, any-end, any-append    one byte more of `any`, the end, two lists
---     special-last                     the last of the special bytes
 --     and-left, and-right              both parts of a test that holds
 --     or-left, or-right                both parts of a test that fails
 --     letter-from, letter-to           a letter's range
@@ -16,9 +15,9 @@ use native.Mathlib.Numerals.{add-one}
 use native.Mathlib.Omega.{arith}
 use lib.ListN.{length, getD, take, drop, drop-of-length-le}
 use lib.Seq.{drop-cons, take-suc, take-length, length-take-le}
-use lib.Dec.{eqb, leb}
-use borrow.Author.Tests.{leb-true, ne-eqb, not-true, not-false}
-use Rattle.bytes.specs.Bytes.{isSpecial, isLetter, lead, body, grown, any}
+use lib.Dec.{leb}
+use borrow.Author.Tests.{leb-true, not-true, not-false}
+use Rattle.bytes.specs.Bytes.{isLetter, lead, body, grown, any}
 
 module _ (f : ℕ → Bool) (s : List ℕ) where
   -- what is counted from an index on
@@ -151,7 +150,3 @@ pub any-append : (f : ℕ → Bool) (a b : List ℕ) → any f (a ++ b) ≡ any 
 unfolding any
 any-append f [] b = refl
 any-append f (x ∷ a) b = ap (λ (t : Bool). f x || t) (any-append f a b) ∙ or-assoc (f x) (any f a) (any f b)
-
--- what is none of three of the special bytes
-pub special-last : (b : ℕ) → (b ≡ 92 → ⊥) → (b ≡ 123 → ⊥) → (b ≡ 125 → ⊥) → eqb b 10 ≡ isSpecial b
-special-last b p q r = rw (ne-eqb b 92 p, ne-eqb b 123 q, ne-eqb b 125 r)

@@ -1,10 +1,9 @@
 -- Telling letters, as theorems on the definitions: each is computed through the whole of cutting. Assumes nothing.
 use mathlib.Core.Path.{_≡_, refl}
-use mathlib.Core.List.{List, [], _∷_, _++_}
-use mathlib.Core.Bool.{Bool, true, false, cond, _&&_}
-use Prim.Native.Nat.{ℕ, zero, suc}
+use mathlib.Core.List.{List, [], _∷_}
+use mathlib.Core.Bool.{Bool, true, false, _&&_}
+use Prim.Native.Nat.{ℕ}
 use Prim.Native.String.{String}
-use lib.ListN.{length, take}
 use lib.Dec.{eqb}
 use Rattle.answers.specs.Answers.{outcomeNumber, outcomeCount}
 use Rattle.bytes.specs.Bytes.{lead, body, any}

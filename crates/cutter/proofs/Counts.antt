@@ -1,25 +1,23 @@
 -- A source has at most one token for each byte, and so at most 65,536. Assumes nothing.
-use mathlib.Core.Path.{_≡_, refl, sym, ap, _∙_}
+use mathlib.Core.Path.{_≡_, refl, ap}
 use mathlib.Core.List.{List, [], _∷_, _++_}
 use mathlib.Core.Bool.{Bool, true, false, cond}
-use Prim.Native.Nat.{ℕ, suc, _+_, _≤_}
+use Prim.Native.Nat.{ℕ, _+_, _≤_}
 use native.Mathlib.Omega.{arith}
 use borrow.Author.Tests.{ltb-false}
-use lib.ListN.{length, take, drop, length-append, length-take, length-drop}
+use lib.ListN.{length, length-append, length-take, length-drop}
 use lib.Dec.{ltb, leb, eqb}
-use Rattle.answers.specs.declared.Refusal.{Refusal}
 use Rattle.answers.specs.declared.Why.the-variants.{SourceTooLong, NotAscii, LastSlice, TokenRoom}
 use Rattle.answers.specs.declared.Outcome.{Outcome}
 use Rattle.answers.specs.declared.Outcome.the-variants.{Done, Refused}
 use Rattle.answers.specs.Answers.{refusal, outcomeCount}
-use Rattle.bytes.specs.declared.Class.the-variants.{White}
-use Rattle.bytes.specs.Bytes.{isHigh, inClass, lead, body, any}
-use Rattle.rooms.specs.Streams.{Stream, end, stop, _▸_, andThen, count, answer, each}
+use Rattle.bytes.specs.Bytes.{isHigh, any}
+use Rattle.rooms.specs.Streams.{end, stop, _▸_, count, answer}
 use Rattle.rooms.specs.Rooms.{capacity, settled}
 use Rattle.rooms.proofs.Streams.{count-then, count-each, answer-count}
 use Rattle.slices.specs.Slices.{slices}
 use Rattle.slices.proofs.Slices.{joined, joined-slices}
-use Rattle.tokens.specs.Tokens.{Token, tokenLayout}
+use Rattle.tokens.specs.Tokens.{tokenLayout}
 use Rattle.tokenize.specs.Tokenize.{tokens}
 use Rattle.tokenize.proofs.Sizes.{count-tokens}
 use Rattle.cutter.specs.Cutting.{locate, located, last, allSlices, trimStart, trimmed, tokenStream, cutAnswer}

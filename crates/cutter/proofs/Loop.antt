@@ -9,7 +9,7 @@ use lib.Seq.{take-all, take-length, drop-length}
 use Rattle.answers.specs.declared.Refusal.{Refusal}
 use Rattle.answers.specs.declared.Outcome.{Outcome}
 use Rattle.answers.specs.declared.Outcome.the-variants.{Done, Refused}
-use Rattle.rooms.specs.Streams.{Stream, end, andThen}
+use Rattle.rooms.specs.Streams.{end, andThen}
 use Rattle.rooms.specs.Rooms.{Wrote}
 use Rattle.rooms.proofs.Rooms.{Left, left-start, left-end, left-stop, left-more, length-putAll, wrote-each}
 use Rattle.slices.specs.Slices.{slices, sliceLength, split, onto}

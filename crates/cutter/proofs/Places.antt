@@ -6,14 +6,14 @@
 use mathlib.Core.Path.{_≡_}
 use mathlib.Core.List.{List, [], _∷_, _++_}
 use mathlib.Core.Bool.{Bool, true, false, cond}
-use Prim.Native.Nat.{ℕ, zero, suc, _+_, _≤_}
+use Prim.Native.Nat.{ℕ, _+_, _≤_}
 use native.Mathlib.Omega.{arith}
 use lib.ListN.{length, take, drop, length-append, length-take, take-append-drop}
 use lib.Dec.{ltb, eqb}
 use Rattle.answers.specs.declared.Why.the-variants.{SourceTooLong, NotAscii, LastSlice}
 use Rattle.answers.specs.Answers.{refusal}
 use Rattle.bytes.specs.declared.Class.the-variants.{White}
-use Rattle.bytes.specs.Bytes.{inClass, lead, body, isHigh, any}
+use Rattle.bytes.specs.Bytes.{inClass, body, isHigh, any}
 use Rattle.bytes.proofs.Runs.{lead-length}
 use Rattle.rooms.specs.Streams.{end, stop, _▸_}
 use Rattle.slices.specs.Slices.{slices}

@@ -1,10 +1,10 @@
 -- The whole source and the last slice, a law for each branch of the code. Assumes nothing.
 use mathlib.Core.Path.{_≡_, refl, sym, ap, _∙_}
 use mathlib.Core.List.{List, [], _∷_, _++_}
-use mathlib.Core.Bool.{Bool, true, false, cond}
-use Prim.Native.Nat.{ℕ, suc, _+_, _-_, _*_, _≤_, _<_}
+use mathlib.Core.Bool.{Bool, true, false}
+use Prim.Native.Nat.{ℕ, _+_, _-_, _*_, _≤_, _<_}
 use native.Mathlib.Omega.{arith}
-use borrow.Author.Tests.{eq-eqb, ne-eqb, lt-ltb, le-ltb}
+use borrow.Author.Tests.{ne-eqb, lt-ltb, le-ltb}
 use lib.ListN.{length, getD, take, drop, replicate, length-drop}
 use lib.Seq.{take-all}
 use Rattle.answers.specs.declared.Refusal.{Refusal}
@@ -14,8 +14,8 @@ use Rattle.answers.specs.declared.Outcome.the-variants.{Done, Refused}
 use Rattle.answers.specs.Answers.{refusal}
 use Rattle.bytes.specs.declared.Class.the-variants.{White}
 use Rattle.bytes.specs.Bytes.{isHigh, inClass, lead, body, any}
-use Rattle.rooms.specs.Streams.{Stream, end, stop, _▸_, andThen, count, answer}
-use Rattle.rooms.specs.Rooms.{capacity, put, Wrote, putAll, encode, settled, content}
+use Rattle.rooms.specs.Streams.{Stream, end, stop, _▸_, count}
+use Rattle.rooms.specs.Rooms.{capacity, put, Wrote, encode, settled, content}
 use Rattle.rooms.proofs.Streams.{answer-count}
 use Rattle.rooms.proofs.Rooms.{wrote-one, length-putAll, length-encode, putAll-front, settled-fits, settled-over}
 use Rattle.slices.specs.Slices.{slices}
@@ -23,7 +23,7 @@ use Rattle.tokens.specs.declared.Record.{Record}
 use Rattle.tokens.specs.Tokens.{Shown, Token, tokenWords, recordWords, bareRecord, tokenLayout}
 use Rattle.tokens.specs.Tokens
 use Rattle.tokens.proofs.Records.{token-sized, closing-record}
-use Rattle.cutter.specs.Cutting.{locate, last, allSlices, trimStart, trimmed, tokenStream, cutAnswer, cutRoom}
+use Rattle.cutter.specs.Cutting.{locate, last, allSlices, trimmed, tokenStream, cutAnswer, cutRoom}
 
 module _ (p : ℕ) where
   pub last-long : (s : List ℕ) → (length s ≡ 1 → ⊥) → last p s ≡ stop (refusal LastSlice)

@@ -5,22 +5,21 @@
 --     settled-.., content-..                the public answer and content, by how the stream ends
 -- Assumes nothing.
 use mathlib.Core.Path.{_≡_, refl, sym, ap, _∙_}
-use mathlib.Core.List.{List, [], _∷_, _++_, append-nil, append-assoc}
+use mathlib.Core.List.{List, _++_, append-nil, append-assoc}
 use mathlib.Core.Bool.{Bool, true, false, cond}
-use Prim.Native.Nat.{ℕ, zero, suc, _+_, _-_, _*_, _/_, _≤_, _<_}
+use Prim.Native.Nat.{ℕ, suc, _+_, _-_, _*_, _≤_, _<_}
 use native.Mathlib.Nat.{zero-mul, div-mul-le-self, mul-le-mul-right, le-trans}
-use native.Mathlib.Numerals.{add-one}
 use native.Mathlib.Omega.{arith}
 use borrow.Author.Tests.{lt-ltb, le-ltb, le-leb, lt-leb}
-use lib.ListN.{length, getD, take, drop, set, replicate, length-append, length-take, length-drop, take-append-drop}
-use lib.Seq.{sets, length-sets, sets-eq, take-at, drop-at, drop-drop, length-take-le, take-append-le, drop-append-le}
-use lib.Dec.{ltb, leb}
+use lib.ListN.{length, take, drop, length-append, take-append-drop}
+use lib.Seq.{sets, length-sets, sets-eq, take-at, drop-at, drop-drop, length-take-le}
+use lib.Dec.{ltb}
 use Rattle.answers.specs.declared.Refusal.{Refusal}
 use Rattle.answers.specs.declared.Outcome.{Outcome}
 use Rattle.answers.specs.declared.Outcome.the-variants.{Done, Refused}
 use Rattle.rooms.specs.Streams.{Stream, end, stop, _▸_, andThen, count, answer, each}
-use Rattle.rooms.specs.Rooms.{Layout, capacity, put, putAll, encode, Wrote, settled, content}
-use Rattle.rooms.proofs.Streams.{done-refused, answer-then, answer-stops, answer-count, answer-each}
+use Rattle.rooms.specs.Rooms.{Layout, capacity, put, putAll, encode, Wrote, settled}
+use Rattle.rooms.proofs.Streams.{done-refused, answer-then, answer-stops, answer-each}
 
 module _ (width : ℕ) (room : List ℕ) (n : ℕ) (ws : List ℕ) where
   pub put-in : n < capacity width (length room) → sets room (n * width) ws ≡ put width room n ws

@@ -4,13 +4,12 @@
 --     Each-then, -each, -weaken       a property of each item: of two streams, of changed items, of a weaker property
 --     Each-items, -either             the same of the list of the items, by index; of either of two streams
 -- Assumes nothing.
-use mathlib.Core.Path.{_≡_, refl, sym, ap, _∙_}
+use mathlib.Core.Path.{_≡_, refl, sym, ap}
 use mathlib.Core.Bool.{Bool, true, false, cond}
 use Prim.Native.Nat.{ℕ, zero, suc, _+_, _≤_, _<_}
 use native.Mathlib.Omega.{arith}
 use lib.ListN.{length, getD}
 use Rattle.answers.specs.declared.Refusal.{Refusal}
-use Rattle.answers.specs.declared.Outcome.{Outcome}
 use Rattle.answers.specs.declared.Outcome.the-variants.{Done, Refused}
 use Rattle.rooms.specs.Streams.{Stream, end, stop, _▸_, andThen, count, items, answer, each}
 

@@ -3,10 +3,10 @@
 --     slices-append   two sources one after the other, where the second starts a slice
 --     joined-slices   the slices one after the other are the source
 -- Assumes nothing.
-use mathlib.Core.Path.{_≡_, refl, sym, ap, _∙_}
+use mathlib.Core.Path.{_≡_, refl, ap, _∙_}
 use mathlib.Core.List.{List, [], _∷_, _++_}
 use mathlib.Core.Bool.{Bool, true, false, cond}
-use Prim.Native.Nat.{ℕ, zero, suc, _+_, _-_, _≤_, _<_}
+use Prim.Native.Nat.{ℕ, zero, suc, _+_, _-_, _<_}
 use native.Mathlib.Nat.{not-suc-le-zero}
 use native.Mathlib.Omega.{arith}
 use lib.ListN.{length, getD, take, drop}
@@ -41,9 +41,6 @@ lastByte-at before (b ∷ c ∷ s) h =
     let y : suc (length s) - 1 ≡ length s = omega arith in
     let z : suc (suc (length s)) - 1 ≡ suc (length s) = omega arith in
     lastByte-at b (c ∷ s) (omega arith) ∙ rw (y, z)
-
-onto-append : (b : ℕ) (x : List ℕ) (xs ys : List (List ℕ)) → onto b ((x ∷ xs) ++ ys) ≡ onto b (x ∷ xs) ++ ys
-onto-append b x xs ys = refl
 
 module _ (c : ℕ) (y : List ℕ) where
   split-append : (b : ℕ) (x : List ℕ) → startsSlice (lastByte b x) c ≡ true → split b (x ++ (c ∷ y)) ≡ split b x ++ slices (c ∷ y)

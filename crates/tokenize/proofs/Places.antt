@@ -6,10 +6,10 @@
 use mathlib.Core.Path.{_≡_, refl}
 use mathlib.Core.List.{List, [], _∷_, _++_, append-assoc}
 use mathlib.Core.Bool.{Bool, true, false, cond}
-use Prim.Native.Nat.{ℕ, zero, suc, _+_, _≤_, _<_}
+use Prim.Native.Nat.{ℕ, _+_, _≤_, _<_}
 use native.Mathlib.Omega.{arith}
 use borrow.Author.Tests.{eqb-true, ltb-true}
-use lib.ListN.{length, getD, take, drop, length-append, length-take, length-drop, take-append-drop}
+use lib.ListN.{length, take, drop, length-append, length-take, length-drop, take-append-drop}
 use lib.Seq.{take-length, take-append-seam, drop-append-seam, take-append-le, drop-append-le, drop-append-add}
 use lib.Dec.{eqb, ltb}
 use Rattle.bytes.specs.declared.Class.the-variants.{White, WordEnd, InWord, Space, Numeral}
@@ -19,7 +19,7 @@ use Rattle.numbers.specs.declared.Number.the-variants.{Is, Bad}
 use Rattle.numbers.specs.Numbers.{hexPair, decimal}
 use Rattle.numbers.proofs.Numbers.{hex-pair-small, decimal-small}
 use Rattle.names.specs.Names.{wordNumber}
-use Rattle.rooms.specs.Streams.{Stream, end, stop, _▸_, andThen}
+use Rattle.rooms.specs.Streams.{andThen}
 use Rattle.rooms.proofs.Streams.{Each, Each-then, Each-weaken, Each-either}
 use Rattle.tokens.specs.declared.Property.{Property}
 use Rattle.tokens.specs.declared.Property.the-variants.{None, Value}

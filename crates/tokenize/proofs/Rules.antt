@@ -6,9 +6,9 @@ use mathlib.Core.Bool.{Bool, true, false, cond}
 use Prim.Native.Nat.{ℕ, suc, _+_, _-_, _≤_, _<_}
 use native.Mathlib.Omega.{arith}
 use borrow.Author.Tests.{eq-eqb, ne-eqb, lt-ltb, le-ltb}
-use lib.ListN.{length, getD, take, drop, length-take, length-drop, List·getD-eq-default}
+use lib.ListN.{length, getD, take, drop, length-take, length-drop}
 use lib.Seq.{take-all}
-use lib.Dec.{eqb, ltb}
+use lib.Dec.{eqb}
 use Rattle.answers.specs.declared.Why.the-variants.{HexShort, HexBad, NumberBad}
 use Rattle.answers.specs.Answers.{refusal}
 use Rattle.bytes.specs.declared.Class.the-variants.{White, WordEnd, InWord, Space, Numeral}
@@ -31,11 +31,6 @@ part k s = take (length s - k) (drop k s)
 
 part-drop : (k : ℕ) (s : List ℕ) → part k s ≡ drop k s
 part-drop k s = take-all (length s - k) (drop k s) (simp length-drop (omega arith))
-
--- a list that is not empty
-some-byte : (s : List ℕ) → (length s ≡ 0 → ⊥) → s ≡ getD s 0 0 ∷ drop 1 s
-some-byte [] h = absurd (h refl)
-some-byte (b ∷ s) h = refl
 
 no-byte : (s : List ℕ) → length s ≡ 0 → s ≡ []
 no-byte [] h = refl

@@ -1,23 +1,23 @@
 -- A slice gives at most one token for each byte. Assumes nothing.
-use mathlib.Core.Path.{_≡_, refl, sym, ap, _∙_}
+use mathlib.Core.Path.{_≡_, sym, _∙_}
 use mathlib.Core.List.{List, [], _∷_}
 use mathlib.Core.Bool.{Bool, true, false, cond}
-use Prim.Native.Nat.{ℕ, suc, _+_, _≤_}
+use Prim.Native.Nat.{ℕ, _+_, _≤_}
 use native.Mathlib.Omega.{arith}
 use lib.ListN.{length, take, drop}
 use lib.Dec.{eqb, ltb}
 use Rattle.answers.specs.declared.Outcome.{Outcome}
-use Rattle.answers.specs.declared.Outcome.the-variants.{Done, Refused}
+use Rattle.answers.specs.declared.Outcome.the-variants.{Done}
 use Rattle.bytes.specs.declared.Class.the-variants.{White, WordEnd, InWord, Space, Numeral}
 use Rattle.bytes.specs.Bytes.{isLetter, inClass, lead, body}
 use Rattle.numbers.specs.declared.Number.{Number}
 use Rattle.numbers.specs.declared.Number.the-variants.{Is, Bad}
 use Rattle.numbers.specs.Numbers.{hexPair, decimal}
-use Rattle.rooms.specs.Streams.{Stream, end, stop, _▸_, andThen, count, answer}
+use Rattle.rooms.specs.Streams.{Stream, count}
 use Rattle.rooms.specs.Rooms.{Wrote}
 use Rattle.rooms.proofs.Streams.{count-then, answer-count}
 use Rattle.tokens.specs.Tokens.{Shown, shownLayout}
-use Rattle.tokenize.specs.Tokenize.{isMark, isEscape, mark, plain, hexValue, hexEscape, lineBreakAnd, shownWord, numbered, named, bareLength, wordTail, word, other, escaped, tokens}
+use Rattle.tokenize.specs.Tokenize.{isMark, isEscape, mark, plain, hexValue, hexEscape, lineBreakAnd, numbered, named, bareLength, wordTail, word, other, escaped, tokens}
 
 -- a bound on both is a bound on a choice
 either : (t : Bool) (a b : Stream Shown) (k : ℕ) → count a ≤ k → count b ≤ k → count (cond t a b) ≤ k

@@ -2,7 +2,7 @@
 -- rule speaks of what follows a backslash, p is the backslash's place. Assumes nothing: these are definitions.
 use Prim.Native.Nat.{ℕ, _+_, _-_}
 use mathlib.Core.List.{List, [], _∷_}
-use mathlib.Core.Bool.{Bool, true, false, cond, _||_}
+use mathlib.Core.Bool.{Bool, cond, _||_}
 use lib.ListN.{length, getD, take, drop}
 use lib.Dec.{ltb, eqb}
 use Rattle.answers.specs.declared.Why.the-variants.{HexShort, HexBad, NumberBad}

@@ -1,11 +1,11 @@
 -- A token's record.
 --     put-six                       its words, stored one by one
---     shown-.., token-sized         each layout is as wide as it says
+--     token-sized                   a record is as wide as its layout says
 --     text-record, opening-record ..   the record that the code makes is the token's
 --     wrote-token, wrote-token-and  a token's record was written; and then a stream by a further call
 -- Assumes nothing.
 use mathlib.Core.Path.{_≡_, refl, ap, _∙_}
-use mathlib.Core.List.{List, [], _∷_}
+use mathlib.Core.List.{List}
 use Prim.Native.Nat.{ℕ, _+_, _*_, _<_}
 use native.Mathlib.Numerals.{towards-suc}
 use lib.ListN.{length, set}
@@ -30,10 +30,7 @@ module _ (room : List ℕ) (n : ℕ) (t : Record) where
       ≡ put tokenWords room n (recordWords t)
   put-six h = six (n * 6) ∙ put-in tokenWords room n (recordWords t) h
 
--- each record is as wide as its layout says
-pub shown-sized : (s : Shown) → length (shownLayout .words s) ≡ shownLayout .width
-shown-sized s = refl
-
+-- a record is as wide as its layout says
 pub token-sized : (t : Token) → length (tokenLayout .words t) ≡ tokenLayout .width
 token-sized t = refl
 

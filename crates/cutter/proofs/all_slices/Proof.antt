@@ -1,9 +1,8 @@
 -- `all_slices` meets its contract. The invariant: whoever cuts what is left has cut all; the bytes left are the measure.
 use borrow.Author.Needs.{needs}
-use mathlib.Core.Path.{_≡_, _∙_}
+use mathlib.Core.Path.{_∙_}
 use native.Mathlib.Omega.{arith}
 use lib.ListN.{length, length-take}
-use Rattle.names.specs.Names.{rows}
 use Rattle.rooms.proofs.Rooms.{wrote-none}
 use Rattle.tokens.specs.Tokens.{tokenLayout}
 use Rattle.cutter.proofs.Loop.{Loop, all-none, loop-start, loop-falls, loop-stop, loop-next, loop-last}

@@ -1,5 +1,4 @@
 -- `other` meets its contract: a byte that is no space, or one text token, the backslash with it.
-use mathlib.Core.Path.{refl}
 use native.Mathlib.Omega.{arith}
 use Rattle.rooms.proofs.Rooms.{wrote-none}
 use Rattle.tokens.proofs.Records.{wrote-token, text-record}
