@@ -23,6 +23,32 @@ pub enum Why {
     LastSlice,
     // 7: more tokens than the token room holds
     TokenRoom,
+    // 8: there are no tokens: the source is blank, as the empty letter
+    NoTokens,
+    // 9: the first token is no opening bracket, as in `}`
+    FirstToken,
+    // 10: line breaks stand between a bracket and `\fonttbl` or `\colortbl`, as in `{\<0A>\fonttbl}`
+    TableLineBreak,
+    // 11: `\f` without a number in a font table, as in `{{\fonttbl\f}}`
+    FontNumber,
+    // 12: a number does not fit its field, as in `{\f-1}`
+    NumberField,
+    // 13: `\*` is met in the body, as in `{a\*}`
+    IgnorableInBody,
+    // 14: a closing bracket, control word, text or line break with no state left, as in `{}}}`
+    NoState,
+    // 15: `\sl-2147483648` in the body
+    LineSpacing,
+    // 16: an opening bracket with 64 states held
+    TooDeep,
+    // 17: a new font key beyond 256 or the lent room
+    FontRoom,
+    // 18: a new colour beyond 256 or the lent room
+    ColourRoom,
+    // 19: no room for a new block
+    BlockRoom,
+    // 20: no room for the text
+    TextRoom,
 }
 
 // A struct from the start, so that a place can join the name.
@@ -55,6 +81,19 @@ impl Refusal {
             Why::NumberBad => 5,
             Why::LastSlice => 6,
             Why::TokenRoom => 7,
+            Why::NoTokens => 8,
+            Why::FirstToken => 9,
+            Why::TableLineBreak => 10,
+            Why::FontNumber => 11,
+            Why::NumberField => 12,
+            Why::IgnorableInBody => 13,
+            Why::NoState => 14,
+            Why::LineSpacing => 15,
+            Why::TooDeep => 16,
+            Why::FontRoom => 17,
+            Why::ColourRoom => 18,
+            Why::BlockRoom => 19,
+            Why::TextRoom => 20,
         }
     }
 }

@@ -4,7 +4,7 @@ use mathlib.Core.List.{List, [], _∷_}
 use mathlib.Core.Bool.{Bool, true, false, cond, not, _&&_, _||_}
 use lib.Dec.{leb, ltb, eqb}
 use Rattle.bytes.specs.declared.Class.{Class}
-use Rattle.bytes.specs.declared.Class.the-variants.{White, WordEnd, InWord, Space, Numeral}
+use Rattle.bytes.specs.declared.Class.the-variants.{White, WordEnd, InWord, Space, Numeral, Semicolon}
 
 -- "White space is bytes 9 to 13 and 32."
 abbrev pub isWhite : ℕ → Bool
@@ -33,6 +33,7 @@ inClass WordEnd b = endsWord b
 inClass InWord b = not (endsWord b)
 inClass Space b = eqb b 32
 inClass Numeral b = isNumeral b
+inClass Semicolon b = eqb b 59
 
 -- how many bytes that pass a test stand in front
 unfoldable pub lead : (ℕ → Bool) → List ℕ → ℕ

@@ -22,6 +22,8 @@ pub enum Class {
     Space,
     // a digit or a minus sign
     Numeral,
+    // 59 alone
+    Semicolon,
 }
 
 // White space, as the crate's `str::trim` takes it.
@@ -65,6 +67,7 @@ pub fn is_in(b: u8, class: Class) -> bool
         Class::InWord => !ends_word(b),
         Class::Space => b == 32,
         Class::Numeral => is_numeral(b),
+        Class::Semicolon => b == b';',
     }
 }
 

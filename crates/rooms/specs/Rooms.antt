@@ -20,6 +20,10 @@ pub record Layout (A : Type 0) : Type 0 where
 abbrev pub capacity : ℕ → ℕ → ℕ
 capacity width total = total / width
 
+-- "beyond 256 or the lent room": how many records of a table such a room holds
+unfoldable pub tableLimit : ℕ → ℕ → ℕ
+tableLimit width total = cond (ltb (capacity width total) 256) (capacity width total) 256
+
 -- the room with a record's words at place n, if it holds that place
 unfoldable pub put : ℕ → List ℕ → ℕ → List ℕ → List ℕ
 put width room n ws = cond (ltb n (capacity width (length room))) (sets room (n * width) ws) room

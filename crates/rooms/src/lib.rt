@@ -25,3 +25,22 @@ pub fn clear_from(room: &mut [u32], at: usize)
         clear(&mut room[at..]);
     }
 }
+
+// The same of a room of bytes: two functions more, since no function takes rooms of both.
+pub fn clear_bytes(room: &mut [u8])
+    ensures { λ _. ⌜ now (room .exit) ≡ replicate (length (now (room .entry))) 0 ⌝ }
+{
+    let mut i = 0;
+    while i < room.len() {
+        room[i] = 0;
+        i += 1;
+    }
+}
+
+pub fn clear_bytes_from(room: &mut [u8], at: usize)
+    ensures { λ _. ⌜ now (room .exit) ≡ take at (now (room .entry)) ++ replicate (length (now (room .entry)) - at) 0 ⌝ }
+{
+    if at < room.len() {
+        clear_bytes(&mut room[at..]);
+    }
+}

@@ -2,6 +2,11 @@
 use borrow.Author.Needs.{needs}
 use Rattle.bytes.proofs.is_in.Statement.{statement}
 use Rattle.bytes.proofs.is_in.Tie as tie
+use Rattle.bytes.proofs.is_in.Reads as reads
+use Rattle.bytes.proofs.is_in.Lts as lts
+use Rattle.bytes.proofs.ends_word.Reads as ends-word-reads
+use Rattle.bytes.proofs.is_numeral.Reads as is-numeral-reads
+use Rattle.bytes.proofs.is_white.Reads as is-white-reads
 
 enum-told : tie.Need-enum-told
 enum-told c = search needs
@@ -30,6 +35,9 @@ enum-told-5 c = search needs
 is-numeral-requires : tie.Need-is-numeral-requires
 is-numeral-requires c κs = search needs
 
+enum-told-6 : tie.Need-enum-told-6
+enum-told-6 c = search needs
+
 returns : tie.Need-returns
 returns c = cc
 
@@ -45,6 +53,9 @@ returns-4 c = cc
 returns-5 : tie.Need-returns-5
 returns-5 c = cc
 
+returns-6 : tie.Need-returns-6
+returns-6 c = cc
+
 pub is-in-spec : {M : Type 1} → statement M
 is-in-spec =
     tie.close
@@ -58,8 +69,10 @@ is-in-spec =
     enum-told-4
     enum-told-5
     is-numeral-requires
+    enum-told-6
     returns
     returns-2
     returns-3
     returns-4
-    returns-5)
+    returns-5
+    returns-6)

@@ -1,0 +1,322 @@
+-- The loop over the tokens: a stack of states in an array, and what is left.
+--     held-..                       the stack that an array holds, the top in front
+--     Loop, loop-start, loop-end    what is left, from the present states and page, leads where the whole leads
+--     turn-..                       one turn: a group, a token without a state, and each act
+-- Assumes nothing.
+use mathlib.Core.Path.{_≡_, refl, sym, ap, _∙_}
+use mathlib.Core.List.{List, [], _∷_}
+use mathlib.Core.Bool.{Bool, true, false, cond}
+use Prim.Native.Nat.{ℕ, zero, suc, _+_, _-_, _*_, _<_, _≤_}
+use native.Mathlib.Nat.{not-suc-le-zero}
+use native.Mathlib.Omega.{arith}
+use native.Mathlib.Numerals.{add-one}
+use borrow.Author.Tests.{eq-eqb, ne-eqb}
+use lib.ListN.{length, getD, set, take, drop, length-drop, length-take, length-set}
+use lib.Dec.{eqb}
+use lib.Seq.{getD-set-same, getD-set-other}
+use Rattle.answers.specs.declared.Refusal.{Refusal}
+use Rattle.answers.specs.declared.Why.the-variants.{TooDeep}
+use Rattle.answers.specs.Answers.{refusal}
+use Rattle.tokens.specs.Tokens.{Shown}
+use Rattle.tokens.specs.Tokens
+use Rattle.items.specs.declared.Item.{Item}
+use Rattle.items.specs.Items.{itemAt, shownOf, shownAll}
+use Rattle.items.proofs.Items.{rest, words-less, shown-none, shown-some, shown-drop}
+use Rattle.styles.specs.declared.State.{State}
+use Rattle.styles.specs.declared.Reading.{Reading}
+use Rattle.styles.specs.Styles.{freshFlags, freshParagraph, fresh}
+use Rattle.pages.specs.declared.Page.{Page}
+use Rattle.pages.specs.declared.Laid.{Laid}
+use Rattle.pages.specs.declared.Laid.the-variants.{On, Full}
+use Rattle.pages.specs.Laying.{Laying, on, off, told, blank, layAll, Ready, Still}
+use Rattle.pages.proofs.Laying.{lay-end, lay-stop, ready-blank}
+use Rattle.walk.specs.Walk.{passedBy}
+use Rattle.body.specs.declared.Act.{Act}
+use Rattle.body.specs.declared.Act.the-variants.{Push, Pop, Keep, Said, Bad}
+use Rattle.body.specs.declared.Bare.{Bare}
+use Rattle.body.specs.declared.Bare.the-variants.{Opens, Refuses}
+use Rattle.body.specs.Body.{Asked, token, asks, statesOf, uttered, bareAsks}
+use Rattle.body.specs.Acting.{from, onward, StillAct, OnwardFrom, bareOf}
+use Rattle.runs.specs.Runs.{isUnit}
+use Rattle.body.proofs.Items.{from-end, from-group, from-bare}
+
+-- what an array's place that is not there would give
+abbrev pub zeroed : State
+zeroed = record { painter = record { colour = 0; font = 0; size = 0; flags = freshFlags }; paragraph = freshParagraph; skip = 0 }
+
+-- the stack that an array holds, the top in front
+unfoldable pub held : List State → ℕ → List State
+held states zero = []
+held states (suc d) = getD states d zeroed ∷ held states d
+
+held-length : (states : List State) (d : ℕ) → length (held states d) ≡ d
+unfolding held
+held-length states zero = refl
+held-length states (suc d) = ap suc (held-length states d)
+
+held-set : (states : List State) (d i : ℕ) (s : State) → d ≤ i → held (set states i s) d ≡ held states d
+unfolding held
+held-set states zero i s h = refl
+held-set states (suc d) i s h =
+    let e : getD (set states i s) d zeroed ≡ getD states d zeroed = getD-set-other states i d s zeroed (λ q. omega arith) in
+    let r : held (set states i s) d ≡ held states d = held-set states d i s (omega arith) in
+    rw (e, r)
+
+-- a store on top
+held-put : (states : List State) (d : ℕ) (s : State) → d < length states → held (set states d s) (d + 1) ≡ s ∷ held states d
+unfolding held
+held-put states d s h =
+    let q : d + 1 ≡ suc d = omega arith in
+    let e : getD (set states d s) d zeroed ≡ s = getD-set-same states d s zeroed h in
+    let r : held (set states d s) d ≡ held states d = held-set states d d s (omega arith) in
+    rw (q, e, r)
+
+held-top : (states : List State) (d : ℕ) → 0 < d → held states d ≡ getD states (d - 1) zeroed ∷ held states (d - 1)
+unfolding held
+held-top states zero h = absurd (not-suc-le-zero h)
+held-top states (suc d) h =
+    let q : suc d - 1 ≡ d = omega arith in
+    rw q
+
+-- a token where no state is left, by what the code says of it
+opens-refuses : {A : Type 0} {k : Refusal} → Opens ≡ Refuses k → A
+opens-refuses e = absurd (let w : _≡_ {A = ℕ} 0 1 = cc in omega arith)
+
+module _ (rd : Reading) (p : Page) (b t : List ℕ) where
+  refused-off : (x : Shown) (s : List Shown) {m : Refusal} (k : Refusal) → bareAsks x ≡ Asked.stops m → bareOf x ≡ Refuses m → bareOf x ≡ Refuses k
+      → layAll (on p b t) (uttered (bareAsks x) (from rd (statesOf (bareAsks x)) s)) ≡ off k
+  refused-off x s {m} k e f g =
+      ap (λ (a : Asked). layAll (on p b t) (uttered a (from rd (statesOf a) s))) e ∙ lay-stop p b t m ∙ ap off (let q : Refuses m ≡ Refuses k = sym f ∙ g in cc)
+
+  bare-refuses : (x : Shown) (s : List Shown) (k : Refusal) → bareOf x ≡ Refuses k → layAll (on p b t) (uttered (bareAsks x) (from rd (statesOf (bareAsks x)) s)) ≡ off k
+  bare-refuses Shown.opening s k g = opens-refuses g
+  bare-refuses Shown.ignorable s k g = refused-off Shown.ignorable s k refl refl g
+  bare-refuses Shown.closing s k g = refused-off Shown.closing s k refl refl g
+  bare-refuses Shown.lineBreak s k g = refused-off Shown.lineBreak s k refl refl g
+  bare-refuses (Shown.text q bs) s k g = refused-off (Shown.text q bs) s k refl refl g
+  bare-refuses (Shown.word w num) s k g = refused-off (Shown.word w num) s k refl refl g
+  bare-refuses (Shown.unknown q bs num) s k g = refused-off (Shown.unknown q bs num) s k refl refl g
+
+  bare-opens : (x : Shown) (s : List Shown) → bareOf x ≡ Opens → layAll (on p b t) (uttered (bareAsks x) (from rd (statesOf (bareAsks x)) s)) ≡ layAll (on p b t) (from rd (fresh ∷ []) s)
+  bare-opens Shown.opening s g = refl
+  bare-opens Shown.ignorable s g = opens-refuses (sym g)
+  bare-opens Shown.closing s g = opens-refuses (sym g)
+  bare-opens Shown.lineBreak s g = opens-refuses (sym g)
+  bare-opens (Shown.text q bs) s g = opens-refuses (sym g)
+  bare-opens (Shown.word w num) s g = opens-refuses (sym g)
+  bare-opens (Shown.unknown q bs num) s g = opens-refuses (sym g)
+
+pub ne-pos : {d : ℕ} → (d ≡ 0 → ⊥) → 0 < d
+ne-pos h = omega arith
+
+-- where the body leads from here
+abbrev leads : Reading → List ℕ → List ℕ → List ℕ → List State → ℕ → Page → List ℕ → ℕ → Laying
+leads rd src b t states depth p ws n = layAll (on p b t) (from rd (held states depth) (shownAll src n ws))
+
+abbrev whole : Reading → List ℕ → List ℕ → List ℕ → List ℕ → ℕ → Laying
+whole rd src b₀ t₀ tokens count = layAll (on blank b₀ t₀) (from rd (fresh ∷ []) (shownAll src count tokens))
+
+pub record Loop (rd : Reading) (src b₀ t₀ tokens : List ℕ) (count : ℕ) (b t : List ℕ) (states : List State) (depth : ℕ) (p : Page) (ws : List ℕ) (n : ℕ) : Type 0 where
+  pub deep : depth ≤ 64
+  pub all : length states ≡ 64
+  pub words : n * 6 ≤ length ws
+  pub few : n ≤ 65536
+  pub long-b : length b ≡ length b₀
+  pub long-t : length t ≡ length t₀
+  pub ready : Ready p (length b) (length t)
+  pub left : leads rd src b t states depth p ws n ≡ whole rd src b₀ t₀ tokens count
+
+pub loop-start : (rd : Reading) (src b t tokens : List ℕ) (count : ℕ) (states : List State) {p : Page} → p ≡ blank → length states ≡ 64 → getD states 0 zeroed ≡ fresh
+    → (count * 6 ≤ length tokens) × (count ≤ 65536) → Loop rd src b t tokens count b t states 1 p tokens count
+unfolding held
+loop-start rd src b t tokens count states q l e h = record {
+  deep = omega arith;
+  all = l;
+  words = h .0;
+  few = h .1;
+  long-b = refl;
+  long-t = refl;
+  ready = rw q (ready-blank (length b) (length t));
+  left = rw (q, e) refl;
+}
+
+-- the words of the tokens behind the first k
+words-behind : (k n : ℕ) (ws : List ℕ) → n * 6 ≤ length ws → (n - k) * 6 ≤ length (rest ws (k * 6))
+words-behind k n ws h = simp (length-take, length-drop) (omega arith)
+
+module _ {rd : Reading} {src b₀ t₀ tokens : List ℕ} {count : ℕ} {b t : List ℕ} {states : List State} {depth : ℕ} {p : Page} {ws : List ℕ} {n : ℕ}
+    (l : Loop rd src b₀ t₀ tokens count b t states depth p ws n) where
+  -- what a refusal, and a page at the end, give
+  still-full : (r : Refusal) → Still (Full r) (length b₀) (length t₀)
+  still-full r = omega arith
+
+  pub loop-end : n ≤ 0 → (on p b t ≡ whole rd src b₀ t₀ tokens count) × Ready p (length b₀) (length t₀)
+  loop-end z =
+      let e : shownAll src n ws ≡ [] = shown-none src n ws z in
+      let f : from rd (held states depth) (shownAll src n ws) ≡ from rd (held states depth) [] = ap (from rd (held states depth)) e in
+      let q : on p b t ≡ leads rd src b t states depth p ws n = sym (lay-end (on p b t)) ∙ ap (layAll (on p b t)) (sym (from-end rd (held states depth)) ∙ sym f) in
+      (q ∙ l .left, rw (l .long-b, l .long-t) at (l .ready))
+
+  module _ (z : 0 < n) where
+    abbrev front : List Shown
+    front = shownOf src (itemAt ws) ∷ shownAll src (n - 1) (rest ws 6)
+
+    left-front : layAll (on p b t) (from rd (held states depth) front) ≡ whole rd src b₀ t₀ tokens count
+    left-front = rw (shown-some src n ws z) at (l .left)
+
+    module _ {i : Item} (e : i ≡ itemAt ws) {h : ℕ} (q : (s : List ℕ) → h ≡ passedBy (shownOf s i) (shownAll s (n - 1) (rest ws 6))) where
+      passes : h ≡ passedBy (shownOf src (itemAt ws)) (shownAll src (n - 1) (rest ws 6))
+      passes = rw e at (q src)
+
+      -- a group
+      pub turn-group : 0 < h → h ≤ n - 1 → Loop rd src b₀ t₀ tokens count b t states depth p (rest ws ((h + 1) * 6)) (n - (h + 1))
+      turn-group y m =
+          let k : h + 1 ≤ n = omega arith in
+          let d : drop (h + 1) (shownAll src n ws) ≡ drop h (shownAll src (n - 1) (rest ws 6)) = rw (add-one h, shown-some src n ws z) in
+          let g : from rd (held states depth) (shownAll src (n - (h + 1)) (rest ws ((h + 1) * 6))) ≡ from rd (held states depth) front =
+          ap (from rd (held states depth)) (sym (shown-drop src (h + 1) n ws k) ∙ d ∙ ap (λ (j : ℕ). drop j (shownAll src (n - 1) (rest ws 6))) passes)
+          ∙ sym (from-group rd (held states depth) (shownOf src (itemAt ws)) (shownAll src (n - 1) (rest ws 6)) (rw passes at y)) in
+          record {
+            deep = l .deep;
+            all = l .all;
+            words = words-behind (h + 1) n ws (l .words);
+            few = let u : n ≤ 65536 = l .few in omega arith;
+            long-b = l .long-b;
+            long-t = l .long-t;
+            ready = l .ready;
+            left = ap (layAll (on p b t)) g ∙ left-front;
+          }
+
+      pub not-passed : h ≤ 0 → passedBy (shownOf src (itemAt ws)) (drop 1 (shownAll src n ws)) ≡ 0
+      not-passed y = let v : h ≡ 0 = omega arith in rw (shown-some src n ws z) (sym passes ∙ v)
+
+      -- a token where no state is left
+      module _ (y : h ≤ 0) (d : depth ≡ 0) {r : Bare} (f : (s : List ℕ) → r ≡ bareOf (shownOf s i)) where
+        bare-front : layAll (on p b t) (uttered (bareAsks (shownOf src (itemAt ws))) (from rd (statesOf (bareAsks (shownOf src (itemAt ws)))) (shownAll src (n - 1) (rest ws 6)))) ≡ whole rd src b₀ t₀ tokens count
+        unfolding held
+        bare-front =
+            let v : passedBy (shownOf src (itemAt ws)) (shownAll src (n - 1) (rest ws 6)) ≡ 0 = let u : h ≡ 0 = omega arith in sym passes ∙ u in
+            let g : layAll (on p b t) (from rd [] front) ≡ whole rd src b₀ t₀ tokens count = rw d at left-front in
+            ap (layAll (on p b t)) (sym (from-bare rd (shownOf src (itemAt ws)) (shownAll src (n - 1) (rest ws 6)) v)) ∙ g
+
+        said : r ≡ bareOf (shownOf src (itemAt ws))
+        said = rw e at (f src)
+
+        pub turn-refused : {k : Refusal} → r ≡ Refuses k → (off k ≡ whole rd src b₀ t₀ tokens count) × Still (Full k) (length b₀) (length t₀)
+        turn-refused {k} g =
+            (sym (bare-refuses rd p b t (shownOf src (itemAt ws)) (shownAll src (n - 1) (rest ws 6)) k (sym said ∙ g)) ∙ bare-front, still-full k)
+
+        pub turn-opened : r ≡ Opens → (s : State) → s ≡ fresh → Loop rd src b₀ t₀ tokens count b t (set states 0 s) 1 p (rest ws 6) (n - 1)
+        unfolding held
+        turn-opened g s m =
+            let a : length states ≡ 64 = l .all in
+            record {
+              deep = omega arith;
+              all = simp length-set a;
+              words = words-less n ws (l .words);
+              few = let u : n ≤ 65536 = l .few in omega arith;
+              long-b = l .long-b;
+              long-t = l .long-t;
+              ready = l .ready;
+              left =
+                  rw (getD-set-same states 0 s zeroed (omega arith), m)
+                  (sym (bare-opens rd p b t (shownOf src (itemAt ws)) (shownAll src (n - 1) (rest ws 6)) (sym said ∙ g)) ∙ bare-front);
+            }
+
+    -- a token where there is a state
+    module _ (d : 0 < depth) {top : State} (f : top ≡ getD states (depth - 1) zeroed) {a : Act} {b′ t′ : List ℕ}
+        (h : OnwardFrom rd a top p b t b′ t′ n (shownAll src n ws)) (lb : length b′ ≡ length b) (lt : length t′ ≡ length t) where
+      acted : onward rd a top (held states (depth - 1)) p b′ t′ (shownAll src n ws) ≡ whole rd src b₀ t₀ tokens count
+      acted =
+          sym (h .goes (held states (depth - 1)))
+          ∙ ap (λ (st : List State). layAll (on p b t) (from rd st (shownAll src n ws))) (rw f (sym (held-top states depth d)))
+          ∙ l .left
+
+      -- the tokens behind the first
+      behind-one : drop 1 (shownAll src n ws) ≡ shownAll src (n - 1) (rest ws 6)
+      behind-one = shown-drop src 1 n ws z
+
+      ready′ : Ready p (length b′) (length t′)
+      ready′ = rw (lb, lt) (l .ready)
+
+      pub turn-bad : {k : Refusal} → a ≡ Bad k → (off k ≡ whole rd src b₀ t₀ tokens count) × Still (Full k) (length b₀) (length t₀)
+      turn-bad {k} e = (rw e at acted, still-full k)
+
+      module _ (e : a ≡ Push) where
+        pushed : cond (eqb (suc (length (held states (depth - 1)))) 64) (off (refusal TooDeep)) (layAll (on p b′ t′) (from rd (top ∷ top ∷ held states (depth - 1)) (shownAll src (n - 1) (rest ws 6))))
+            ≡ whole rd src b₀ t₀ tokens count
+        pushed = rw behind-one at (rw e at acted)
+
+        size : suc (length (held states (depth - 1))) ≡ depth
+        size = let q : length (held states (depth - 1)) ≡ depth - 1 = held-length states (depth - 1) in omega arith
+
+        pub turn-deep : {k : Refusal} → depth ≡ 64 → k ≡ refusal TooDeep → (off k ≡ whole rd src b₀ t₀ tokens count) × Still (Full k) (length b₀) (length t₀)
+        turn-deep {k} g m = (rw m (rw (eq-eqb _ 64 (size ∙ g)) at pushed), still-full k)
+
+        pub turn-push : (depth ≡ 64 → ⊥) → Loop rd src b₀ t₀ tokens count b′ t′ (set states depth top) (depth + 1) p (rest ws 6) (n - 1)
+        turn-push g =
+            let v : depth ≤ 64 = l .deep in
+            let u : length states ≡ 64 = l .all in
+            let w : held (set states depth top) (depth + 1) ≡ top ∷ top ∷ held states (depth - 1) =
+            held-put states depth top (omega arith) ∙ ap (λ (st : List State). top ∷ st) (held-top states depth d ∙ rw f) in
+            record {
+              deep = omega arith;
+              all = simp length-set u;
+              words = words-less n ws (l .words);
+              few = let x : n ≤ 65536 = l .few in omega arith;
+              long-b = lb ∙ l .long-b;
+              long-t = lt ∙ l .long-t;
+              ready = ready′;
+              left = rw w (rw (ne-eqb _ 64 (λ q. g (sym size ∙ q))) at pushed);
+            }
+
+      pub turn-pop : a ≡ Pop → Loop rd src b₀ t₀ tokens count b′ t′ states (depth - 1) p (rest ws 6) (n - 1)
+      turn-pop e = record {
+        deep = let v : depth ≤ 64 = l .deep in omega arith;
+        all = l .all;
+        words = words-less n ws (l .words);
+        few = let x : n ≤ 65536 = l .few in omega arith;
+        long-b = lb ∙ l .long-b;
+        long-t = lt ∙ l .long-t;
+        ready = ready′;
+        left = rw behind-one at (rw e at acted);
+      }
+
+      pub turn-keep : {s : State} → a ≡ Keep s → Loop rd src b₀ t₀ tokens count b′ t′ (set states (depth - 1) s) depth p (rest ws 6) (n - 1)
+      turn-keep {s} e =
+          let v : depth ≤ 64 = l .deep in
+          let u : length states ≡ 64 = l .all in
+          let y : depth - 1 + 1 ≡ depth = omega arith in
+          let w : held (set states (depth - 1) s) depth ≡ s ∷ held states (depth - 1) = rw y at (held-put states (depth - 1) s (omega arith)) in
+          record {
+            deep = v;
+            all = simp length-set u;
+            words = words-less n ws (l .words);
+            few = let x : n ≤ 65536 = l .few in omega arith;
+            long-b = lb ∙ l .long-b;
+            long-t = lt ∙ l .long-t;
+            ready = ready′;
+            left = rw w (rw behind-one at (rw e at acted));
+          }
+
+      -- what an act says of its page
+      kept-page : {q : Page} {k : ℕ} → a ≡ Said q k → Ready q (length b) (length t) × (0 < k) × (k ≤ n)
+      kept-page e = rw e at (h .keeps)
+
+      pub said-fits : {q : Page} {k : ℕ} → a ≡ Said q k → (0 < k) × (k ≤ n)
+      said-fits e = (kept-page e .1, kept-page e .2)
+
+      pub turn-said : {q : Page} {k : ℕ} → a ≡ Said q k → Loop rd src b₀ t₀ tokens count b′ t′ states depth q (rest ws (k * 6)) (n - k)
+      turn-said {q} {k} e = record {
+        deep = l .deep;
+        all = l .all;
+        words = words-behind k n ws (l .words);
+        few = let x : n ≤ 65536 = l .few in omega arith;
+        long-b = lb ∙ l .long-b;
+        long-t = lt ∙ l .long-t;
+        ready = rw (lb, lt) (kept-page e .0);
+        left =
+            ap (λ (st : List State). layAll (on q b′ t′) (from rd st (shownAll src (n - k) (rest ws (k * 6))))) (held-top states depth d ∙ rw f)
+            ∙ ap (λ (ts : List Shown). layAll (on q b′ t′) (from rd (top ∷ held states (depth - 1)) ts)) (sym (shown-drop src k n ws (kept-page e .2)))
+            ∙ (rw e at acted);
+      }

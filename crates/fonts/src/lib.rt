@@ -1,0 +1,272 @@
+// The font table (01, Header walk, "Fonts"; `Parser::parse_font_table` in the crate): a group's tokens become records of three
+// words in a lent room, ascending by key.
+//
+//   Font        the current font: key, place and length of its name
+//   Effect      what a token does: a new current font; the current one stored first; stored, and then no number
+//   key_of      a number as a key
+//   step        a token's effect
+//   rank        where a key stands, or would stand, among the records
+//   store       puts the current font in its place
+//   read_fonts  the whole table
+use answers::Outcome;
+use answers::Refusal;
+use answers::Why;
+use bytes::Class;
+use bytes::body_of;
+use items::Item;
+use items::item_at;
+use items::part;
+use tokens::Property;
+ghost use mathlib.Core.Path.{_≡_};
+ghost use mathlib.Core.List.{List};
+ghost use Prim.Native.Nat.{ℕ, _+_, _*_, _%_, _≤_};
+ghost use lib.ListN.{length};
+ghost use lib.Seq.{sets};
+ghost use Rattle.bytes.specs.declared.Class.the-variants.{Semicolon};
+ghost use Rattle.bytes.specs.Bytes.{inClass, body};
+ghost use Rattle.items.specs.Items.{part as partOf, shownAll};
+ghost use Rattle.rooms.specs.Rooms.{tableLimit};
+ghost use Rattle.fonts.specs.Fonts.{Font as Named, fonts as fontsOf, ReadFonts};
+ghost use Rattle.fonts.specs.Rows.{rowWords, Ascends, Rank, stands as standsOf, shifted, StoredFont};
+ghost use Rattle.fonts.specs.Effects.{namedRow, numbered as numberedOf, wordEffect, effectOf, unnumbered as unnumberedOf};
+
+pub struct Font {
+    pub key: u32,
+    pub place: u32,
+    pub length: u32,
+}
+
+pub enum Effect {
+    Set(Font),
+    Store(Font),
+    Unnumbered,
+}
+
+// How many records of three words a room of n words holds, and at most 256.
+fn limit_of(n: usize) -> usize
+    ensures { λ r. ⌜ r ≡ tableLimit 3 n ⌝ }
+{
+    let whole = n / 3;
+    if whole < 256 {
+        return whole;
+    }
+    256
+}
+
+// A signed number modulo 65,536, as the crate's cast to u16: the magnitude of a negative number is subtracted from 0.
+fn key_of(v: u32) -> u32
+    ensures { λ r. ⌜ r ≡ v % 65536 ⌝ }
+{
+    if v < 2147483648 {
+        return v % 65536;
+    }
+    let magnitude = 4294967295 - v + 1;
+    std::num::wrapping_sub_u32(0, magnitude) % 65536
+}
+
+// The length of a text without the semicolons that it ends with.
+fn name_length(source: &[u8], place: u32, count: u32) -> u32
+    ensures { λ r. ⌜ r ≡ body (inClass Semicolon) (partOf (now (source .entry)) place count) ⌝ }
+{
+    let bytes = part(source, place, count);
+    let n = body_of(bytes, Class::Semicolon);
+    n as u32
+}
+
+// The font with a text for its name; the place of an empty name is 0.
+fn named(source: &[u8], place: u32, count: u32, f: Font) -> Font
+    ensures { λ r. ⌜ r ≡ namedRow f place (partOf (now (source .entry)) place count) ⌝ }
+{
+    let n = name_length(source, place, count);
+    if n == 0 {
+        return Font {
+            key: f.key,
+            place: 0,
+            length: n,
+        };
+    }
+    Font {
+        key: f.key,
+        place: place,
+        length: n,
+    }
+}
+
+// `\f` stores, and then needs a number.
+fn numbered(number: Property, f: Font) -> Effect
+    ensures { λ r. ⌜ r ≡ numberedOf number f ⌝ }
+{
+    match number {
+        Property::None => Effect::Unnumbered,
+        Property::Value(v) => {
+            let key = key_of(v);
+            Effect::Store(Font {
+                key: key,
+                place: f.place,
+                length: f.length,
+            })
+        }
+    }
+}
+
+// `f` is word 9; other words say nothing.
+fn word_effect(w: u32, number: Property, f: Font) -> Effect
+    ensures { λ r. ⌜ r ≡ wordEffect w number f ⌝ }
+{
+    if w == 9 {
+        return numbered(number, f);
+    }
+    Effect::Set(f)
+}
+
+// What a token does, where f is the current font. Nothing is reset between fonts.
+fn step(source: &[u8], i: Item, f: Font) -> Effect
+    ensures { λ r. ⌜ r ≡ effectOf (now (source .entry)) i f ⌝ }
+{
+    match i {
+        Item::Word(w, number) => word_effect(w, number, f),
+        Item::Text(place, count) => {
+            let g = named(source, place, count, f);
+            Effect::Set(g)
+        }
+        Item::Closing => Effect::Store(f),
+        Item::Opening => Effect::Set(f),
+        Item::LineBreak => Effect::Set(f),
+        Item::Ignorable => Effect::Set(f),
+        Item::Unknown(_, _, _) => Effect::Set(f),
+    }
+}
+
+// How many of the first n records have a smaller key: the records ascend, so the search halves them.
+fn rank(room: &[u32], n: usize, key: u32) -> usize
+    requires { ⌜ (n * 3 ≤ length (now room)) × (n ≤ 256) × Ascends n (now room) ⌝ }
+    ensures { λ r. ⌜ Rank n (now (room .entry)) key r ⌝ }
+{
+    let mut low: usize = 0;
+    let mut high = n;
+    while low < high {
+        let half = (high - low) / 2;
+        let middle = low + half;
+        let at = middle * 3;
+        let k = room[at];
+        if k < key {
+            low = middle + 1;
+        } else {
+            high = middle;
+        }
+    }
+    low
+}
+
+// Whether the record at a rank has the key.
+fn stands(room: &[u32], n: usize, r: usize, key: u32) -> bool
+    requires { ⌜ (n * 3 ≤ length (now room)) × (n ≤ 256) ⌝ }
+    ensures { λ b. ⌜ b ≡ standsOf n (now (room .entry)) r key ⌝ }
+{
+    if r < n {
+        let at = r * 3;
+        let k = room[at];
+        return k == key;
+    }
+    false
+}
+
+// Moves the words between two places on by one record, the last one first.
+fn shift(room: &mut [u32], from: usize, to: usize)
+    requires { ⌜ (from ≤ to) × (to + 3 ≤ length (now room)) ⌝ }
+    ensures { λ _. ⌜ now (room .exit) ≡ shifted from to (now (room .entry)) ⌝ }
+{
+    let mut i = to;
+    while from < i {
+        i -= 1;
+        let w = room[i];
+        let next = i + 3;
+        room[next] = w;
+    }
+}
+
+// Writes a font's record.
+fn put(room: &mut [u32], at: usize, f: Font)
+    requires { ⌜ at + 3 ≤ length (now room) ⌝ }
+    ensures { λ _. ⌜ now (room .exit) ≡ sets (now (room .entry)) at (rowWords f) ⌝ }
+{
+    room[at] = f.key;
+    room[at + 1] = f.place;
+    room[at + 2] = f.length;
+}
+
+// Puts the current font among the n records of a table: over the record of the same key, or in its place, where the later ones
+// move on by one; 17 if that would be a record too many. The answer is how many records there are then.
+fn store(room: &mut [u32], n: usize, f: Font, limit: usize) -> Outcome
+    requires { ⌜ (n ≤ limit) × (limit ≤ 256) × (limit * 3 ≤ length (now room)) × Ascends n (now room) ⌝ }
+    ensures { λ r. ⌜ ((fs : List Named) (g : Named) → StoredFont limit n f fs g (now (room .entry)) r (now (room .exit))) ⌝ }
+{
+    let key = f.key;
+    let r = rank(room, n, key);
+    let at = r * 3;
+    if stands(room, n, r, key) {
+        put(room, at, f);
+        return Outcome::Done(n);
+    }
+    if limit <= n {
+        return Outcome::Refused(Refusal::of(Why::FontRoom));
+    }
+    let end = n * 3;
+    shift(room, at, end);
+    put(room, at, f);
+    Outcome::Done(n + 1)
+}
+
+// What `\f` without a number answers, after the store: the store's refusal comes first.
+fn unnumbered(o: Outcome) -> Refusal
+    ensures { λ r. ⌜ r ≡ unnumberedOf o ⌝ }
+{
+    match o {
+        Outcome::Done(_) => Refusal::of(Why::FontNumber),
+        Outcome::Refused(refusal) => refusal,
+    }
+}
+
+// Reads the table of a group's tokens, which starts anew.
+pub fn read_fonts(source: &[u8], tokens: &[u32], count: usize, room: &mut [u32]) -> Outcome
+    requires { ⌜ (count * 6 ≤ length (now tokens)) × (count ≤ 65536) ⌝ }
+    ensures { λ r. ⌜ ReadFonts (fontsOf (tableLimit 3 (length (now (room .entry)))) (shownAll (now (source .entry)) count (now (tokens .entry)))) r (now (room .exit)) ⌝ }
+{
+    let limit = limit_of(room.len());
+    let mut t = tokens;
+    let mut n = count;
+    let mut font = Font {
+        key: 0,
+        place: 0,
+        length: 0,
+    };
+    let mut held: usize = 0;
+    while 0 < n {
+        let i = item_at(t);
+        let e = step(source, i, font);
+        t = &t[6..];
+        n -= 1;
+        match e {
+            Effect::Set(g) => {
+                font = g;
+            }
+            Effect::Store(g) => {
+                let o = store(room, held, font, limit);
+                match o {
+                    Outcome::Done(m) => {
+                        held = m;
+                        font = g;
+                    }
+                    Outcome::Refused(refusal) => {
+                        return Outcome::Refused(refusal);
+                    }
+                }
+            }
+            Effect::Unnumbered => {
+                let last = store(room, held, font, limit);
+                return Outcome::Refused(unnumbered(last));
+            }
+        }
+    }
+    Outcome::Done(held)
+}

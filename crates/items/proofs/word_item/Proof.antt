@@ -1,0 +1,16 @@
+-- `word_item` meets its contract.
+use borrow.Author.Needs.{needs}
+use borrow.Author.Tests.{eq-eqb, ne-eqb}
+use Rattle.items.proofs.word_item.Statement.{statement}
+use Rattle.items.proofs.word_item.Tie as tie
+use Rattle.items.proofs.word_item.Reads as reads
+use Rattle.items.proofs.word_item.Lts as lts
+
+returns : tie.Need-returns
+returns c = rw (eq-eqb _ 49 (c .if1 .taken))
+
+returns-2 : tie.Need-returns-2
+returns-2 c = rw (ne-eqb _ 49 (c .if1 .left))
+
+pub word-item-spec : {M : Type 1} → statement M
+word-item-spec = tie.close (tie.spec returns returns-2)

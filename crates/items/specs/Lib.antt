@@ -1,0 +1,2 @@
+-- Items: a token record read back.
+pub mod Items

@@ -1,0 +1,160 @@
+-- The functions inside the reader, one law for each way through the code.
+--     start-none, start-first      the first token
+--     body-full, body-laid         the body
+--     letter-refused, letter-read  header and body
+-- Assumes nothing.
+use mathlib.Core.Path.{_≡_, refl, sym, ap, _∙_}
+use mathlib.Core.List.{List, [], _∷_, _++_}
+use Prim.Native.Nat.{ℕ, _+_, _-_, _*_, _≤_, _<_}
+use native.Mathlib.Nat.{div-mul-le-self, mul-le-mul-right, le-trans}
+use native.Mathlib.Omega.{arith}
+use lib.ListN.{length, take, replicate, length-take}
+use Rattle.answers.specs.declared.Refusal.{Refusal}
+use Rattle.answers.specs.declared.Why.the-variants.{NoTokens}
+use Rattle.answers.specs.declared.Outcome.{Outcome}
+use Rattle.answers.specs.declared.Outcome.the-variants.{Done, Refused}
+use Rattle.answers.specs.Answers.{refusal, Found, found, refused}
+use Rattle.rooms.specs.Streams.{Stream, items, answer}
+use Rattle.tokens.specs.Tokens.{Shown}
+use Rattle.tokens.specs.Tokens
+use Rattle.items.specs.declared.Item.{Item}
+use Rattle.items.specs.Items.{itemAt, shownOf, shownAll}
+use Rattle.items.proofs.Items.{shown-none, shown-some}
+use Rattle.styles.specs.declared.Reading.{Reading}
+use Rattle.pages.specs.declared.Page.{Page}
+use Rattle.pages.specs.declared.Laid.{Laid}
+use Rattle.pages.specs.declared.Laid.the-variants.{On, Full}
+use Rattle.rooms.specs.Rooms.{capacity}
+use Rattle.pages.specs.Pages.{Piece, blocks, textOf, records, textCapacity}
+use Rattle.pages.specs.Laying.{Laying, on, off, told, blank, blockCount, lastPut, layAll, Ready}
+use Rattle.pages.proofs.Blocks.{length-records}
+use Rattle.pages.proofs.Laying.{length-last, ready-count}
+use Rattle.pages.proofs.Settling.{lay-refuses, lay-joins, Joined}
+use Rattle.walk.specs.Walk.{walk}
+use Rattle.body.specs.Body.{body}
+use Rattle.fonts.specs.Fonts.{tableWords, InFront}
+use Rattle.fonts.proofs.Tables.{length-table}
+use Rattle.header.specs.declared.Header.{Header}
+use Rattle.header.specs.declared.Header.the-variants.{Read as Headed, Refused as Unheaded}
+use Rattle.header.specs.Header.{Tables, ReadHeader}
+use Rattle.reader.specs.declared.Answer.{Answer}
+use Rattle.reader.specs.declared.Answer.the-variants.{Read, Refuses}
+use Rattle.reader.specs.Reading.{Letter, begun, ended, placed, bodied, headed, filled}
+use Rattle.reader.specs.Parts.{Starts, firstOf, BodyInto, LetterInto}
+
+-- the first token
+pub start-none : (src : List ℕ) (n : ℕ) (ws : List ℕ) {r : Refusal} → n ≡ 0 → r ≡ refusal NoTokens → Starts (begun (shownAll src n ws)) (Refused r)
+start-none src n ws e f = rw (shown-none src n ws (omega arith), f) refl
+
+starts-first : (x : Shown) (ts : List Shown) → Starts (begun (x ∷ ts)) (firstOf x)
+starts-first Shown.opening ts = refl
+starts-first Shown.closing ts = refl
+starts-first Shown.lineBreak ts = refl
+starts-first Shown.ignorable ts = refl
+starts-first (Shown.text p bs) ts = refl
+starts-first (Shown.word w num) ts = refl
+starts-first (Shown.unknown p bs num) ts = refl
+
+pub start-first : (src : List ℕ) (n : ℕ) (ws : List ℕ) {i : Item} {r : Outcome} → (n ≡ 0 → ⊥) → i ≡ itemAt ws → ((s : List ℕ) → r ≡ firstOf (shownOf s i)) → Starts (begun (shownAll src n ws)) r
+start-first src n ws z e f = rw (shown-some src n ws (omega arith), f src, e) (starts-first (shownOf src (itemAt ws)) _)
+
+-- a room whose front is written, and the rest cleared
+pub filled-front : (total k : ℕ) (ws room room′ : List ℕ) → room′ ≡ take k room ++ replicate (length room - k) 0 → take k room ≡ ws → length ws ≡ k → length room ≡ total
+    → room′ ≡ filled total ws
+filled-front total k ws room room′ e f l h = e ∙ ap (λ (xs : List ℕ). xs ++ replicate (length room - k) 0) f ∙ rw (h, ← l)
+
+-- the body
+module _ (rd : Reading) (ts : List Shown) (b t : List ℕ) (n f c : ℕ) where
+  abbrev stream : Stream Piece
+  stream = placed rd (length b) (length t) ts
+
+  module _ (l : Laid) (b₁ t₁ : List ℕ) (h : told l b₁ t₁ ≡ layAll (on blank b t) (body rd (walk ts))) where
+    pub body-full : {k : Refusal} → l ≡ Full k → (b′ t′ : List ℕ) → BodyInto (answer 0 stream) (items stream) n f c (Refuses k) b′ t′ (length b) (length t)
+    unfolding placed
+    body-full {k} e b′ t′ =
+        let a : answer 0 stream ≡ Refused k = lay-refuses (body rd (walk ts)) b t (sym h ∙ ap (λ (m : Laid). told m b₁ t₁) e) in
+        rw a refl
+
+    module _ {p : Page} (e : l ≡ On p) where
+      joined : Joined stream b t p b₁ t₁
+      unfolding placed
+      joined = lay-joins (body rd (walk ts)) b t (sym h ∙ ap (λ (m : Laid). told m b₁ t₁) e)
+
+      pub count-fits : (blockCount p ≤ capacity 13 (length b)) × (p .text ≤ textCapacity (length t))
+      count-fits = (joined .fits, joined .room)
+
+      pub body-laid : {cnt : ℕ} {b₂ b₃ t₂ : List ℕ} → b₂ ≡ lastPut p b₁ → cnt ≡ blockCount p → b₃ ≡ take (cnt * 13) b₂ ++ replicate (length b₂ - cnt * 13) 0
+          → t₂ ≡ take (p .text) t₁ ++ replicate (length t₁ - p .text) 0
+          → BodyInto (answer 0 stream) (items stream) n f c (Read (record { tokens = n; fonts = f; colours = c; blocks = cnt; text = p .text })) b₃ t₂ (length b) (length t)
+      body-laid {cnt} {b₂} {b₃} {t₂} g q u v =
+          let bl : List Piece = blocks (items stream) in
+          let k : cnt ≡ length bl = q ∙ joined .counted in
+          let w : take (cnt * 13) b₂ ≡ records 0 bl = rw (q, g) (joined .words) in
+          let lr : length (records 0 bl) ≡ cnt * 13 = length-records bl 0 ∙ rw k in
+          let lb : length b₂ ≡ length b = ap length g ∙ length-last p b₁ ∙ joined .wide in
+          rw (joined .done) (
+            ap (λ (m : ℕ). Read (record { tokens = n; fonts = f; colours = c; blocks = m; text = p .text })) k
+                ∙ ap (λ (m : ℕ). Read (record { tokens = n; fonts = f; colours = c; blocks = length bl; text = m })) (joined .text),
+            filled-front (length b) (cnt * 13) (records 0 bl) b₂ b₃ u w lr lb,
+            filled-front (length t) (p .text) (textOf (items stream)) t₁ t₂ v (joined .bytes) (sym (joined .text)) (joined .long),
+          )
+
+-- header and body
+headed-unheaded : {A : Type 0} {f c : ℕ} {k : Refusal} → Headed f c ≡ Unheaded k → A
+headed-unheaded e = absurd (let w : _≡_ {A = ℕ} 0 1 = cc in omega arith)
+
+front-fits : (k : ℕ) (ws room : List ℕ) → take k room ≡ ws → length ws ≡ k → k ≤ length room
+front-fits k ws room e l = let q : length (take k room) ≡ k = ap length e ∙ l in let h = length-take k room in omega arith
+
+module _ (x : Found Tables) (r : Header) (fs cs : List ℕ) (h : ReadHeader x r fs cs) where
+  pub header-fits : {f c : ℕ} → r ≡ Headed f c → f * 3 ≤ length fs
+  header-fits = go x h
+    where
+      go : (y : Found Tables) → ReadHeader y r fs cs → {f c : ℕ} → r ≡ Headed f c → f * 3 ≤ length fs
+      go (found s) (a, b, d) {f} {c} e =
+          let q : Headed f c ≡ Headed (length (s .fonts)) (length (s .colours)) = sym e ∙ a in
+          let k : f ≡ length (s .fonts) = cc in
+          let l : length (tableWords (s .fonts)) ≡ 3 * length (s .fonts) = length-table (s .fonts) in
+          let m : length (tableWords (s .fonts)) ≤ length fs = front-fits (length (tableWords (s .fonts))) (tableWords (s .fonts)) fs b refl in
+          omega arith
+      go (refused q) g e = headed-unheaded (sym e ∙ g)
+
+module _ (rd : Reading) (zf zc zb zt : ℕ) (ts : List Shown) (n : ℕ) where
+  pub letter-refused : (x : Found Tables) (r : Header) (fs cs : List ℕ) → ReadHeader x r fs cs → {k : Refusal} → r ≡ Unheaded k
+      → (fs′ cs′ bs tx : List ℕ) → LetterInto (headed rd zb zt ts x) n (Refuses k) fs′ cs′ bs tx zf zc zb zt
+  letter-refused (found s) r fs cs h e fs′ cs′ bs tx = headed-unheaded (sym (h .0) ∙ e)
+  letter-refused (refused q) r fs cs h {k} e fs′ cs′ bs tx = let w : Unheaded k ≡ Unheaded q = sym e ∙ h in cc
+
+  -- the body's answer is the letter's
+  body-ends : (s : Tables) (o : Outcome) (st : Stream Piece) (a : Answer) (fs cs bs tx : List ℕ)
+      → fs ≡ filled zf (tableWords (s .fonts)) → cs ≡ filled zc (s .colours)
+      → BodyInto o (items st) n (length (s .fonts)) (length (s .colours)) a bs tx zb zt → LetterInto (ended s st o) n a fs cs bs tx zf zc zb zt
+  body-ends s (Done k) st a fs cs bs tx p q h = (h .0, p, q, h .1, h .2)
+  body-ends s (Refused r) st a fs cs bs tx p q h = h
+
+  pub letter-read : (x : Found Tables) (r : Header) (fs cs : List ℕ) → ReadHeader x r fs cs → {f c : ℕ} → r ≡ Headed f c → (fs′ cs′ : List ℕ)
+      → fs′ ≡ take (f * 3) fs ++ replicate (length fs - f * 3) 0 → cs′ ≡ take c cs ++ replicate (length cs - c) 0 → length fs ≡ zf → length cs ≡ zc
+      → (a : Answer) (bs tx : List ℕ) → BodyInto (answer 0 (placed rd zb zt ts)) (items (placed rd zb zt ts)) n f c a bs tx zb zt
+      → LetterInto (headed rd zb zt ts x) n a fs′ cs′ bs tx zf zc zb zt
+  unfolding bodied
+  letter-read (refused q) r fs cs h e fs′ cs′ u v lf lc a bs tx g = headed-unheaded (sym e ∙ h)
+  letter-read (found s) r fs cs h {f} {c} e fs′ cs′ u v lf lc a bs tx g =
+      let q : Headed f c ≡ Headed (length (s .fonts)) (length (s .colours)) = sym e ∙ h .0 in
+      let k : f ≡ length (s .fonts) = cc in
+      let m : c ≡ length (s .colours) = cc in
+      let st : Stream Piece = placed rd zb zt ts in
+      let lw : length (tableWords (s .fonts)) ≡ f * 3 = length-table (s .fonts) ∙ omega arith in
+      let front : take (f * 3) fs ≡ tableWords (s .fonts) = rw (← lw) (h .1) in
+      let w : BodyInto (answer 0 st) (items st) n (length (s .fonts)) (length (s .colours)) a bs tx zb zt = rw (k, m) at g in
+      body-ends s (answer 0 st) st a fs′ cs′ bs tx
+      (filled-front zf (f * 3) (tableWords (s .fonts)) fs fs′ u front lw lf)
+      (filled-front zc c (s .colours) cs cs′ v (rw m (h .2)) (sym m) lc) w
+
+-- a page's blocks fit their room, and so do their words
+pub blocks-small : {p : Page} (w v : ℕ) → Ready p w v → w < 18446744073709551616 → p .blocks ≤ 4611686018427387904
+blocks-small {p} w v h k = let a = ready-count p w v h in let b = div-mul-le-self w 13 in omega arith
+
+pub count-words : {p : Page} (w v : ℕ) {cnt : ℕ} → Ready p w v → cnt ≡ blockCount p → cnt * 13 ≤ w
+count-words {p} w v {cnt} h e =
+    let a : cnt ≤ capacity 13 w = rw e (h .page .blocks) in
+    le-trans (mul-le-mul-right 13 a) (div-mul-le-self w 13)

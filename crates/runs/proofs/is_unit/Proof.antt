@@ -1,0 +1,68 @@
+-- `is_unit` meets its contract: case by case.
+use Rattle.runs.proofs.Loops.{is-unit-word}
+use borrow.Author.Needs.{needs}
+use Rattle.runs.proofs.is_unit.Statement.{statement}
+use Rattle.runs.proofs.is_unit.Tie as tie
+use Rattle.runs.proofs.is_unit.Reads as reads
+use Rattle.runs.proofs.is_unit.Lts as lts
+
+enum-known-i : tie.Need-enum-known-i
+enum-known-i c = search needs
+
+enum-told : tie.Need-enum-told
+enum-told c = search needs
+
+enum-told-2 : tie.Need-enum-told-2
+enum-told-2 c = search needs
+
+enum-told-3 : tie.Need-enum-told-3
+enum-told-3 c = search needs
+
+enum-told-4 : tie.Need-enum-told-4
+enum-told-4 c = search needs
+
+enum-told-5 : tie.Need-enum-told-5
+enum-told-5 c = search needs
+
+enum-told-6 : tie.Need-enum-told-6
+enum-told-6 c = search needs
+
+returns : tie.Need-returns
+returns c src = is-unit-word src (c .before .i .given .1)
+
+returns-2 : tie.Need-returns-2
+returns-2 c src = cc
+
+returns-3 : tie.Need-returns-3
+returns-3 c src = cc
+
+returns-4 : tie.Need-returns-4
+returns-4 c src = cc
+
+returns-5 : tie.Need-returns-5
+returns-5 c src = cc
+
+returns-6 : tie.Need-returns-6
+returns-6 c src = cc
+
+returns-7 : tie.Need-returns-7
+returns-7 c src = cc
+
+pub is-unit-spec : {M : Type 1} → statement M
+is-unit-spec =
+    tie.close
+    (tie.spec
+    enum-known-i
+    enum-told
+    enum-told-2
+    enum-told-3
+    enum-told-4
+    enum-told-5
+    enum-told-6
+    returns
+    returns-2
+    returns-3
+    returns-4
+    returns-5
+    returns-6
+    returns-7)

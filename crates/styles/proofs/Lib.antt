@@ -1,0 +1,2 @@
+-- Laws: Styles, of a word's effect, case by case.
+pub mod Styles

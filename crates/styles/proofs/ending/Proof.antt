@@ -1,0 +1,21 @@
+-- `ending` meets its contract: case by case.
+use borrow.Author.Needs.{needs}
+use Rattle.styles.proofs.ending.Statement.{statement}
+use Rattle.styles.proofs.ending.Tie as tie
+use Rattle.styles.proofs.ending.Reads as reads
+use Rattle.styles.proofs.ending.Lts as lts
+
+enum-told : tie.Need-enum-told
+enum-told c = search needs
+
+enum-told-2 : tie.Need-enum-told-2
+enum-told-2 c = search needs
+
+returns : tie.Need-returns
+returns c = rw (c .enum-told .given .1)
+
+returns-2 : tie.Need-returns-2
+returns-2 c = rw (c .enum-told2 .given .1)
+
+pub ending-spec : {M : Type 1} → statement M
+ending-spec = tie.close (tie.spec enum-told enum-told-2 returns returns-2)

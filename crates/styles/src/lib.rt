@@ -1,0 +1,462 @@
+// The state that text is written in, and what a word does to it (01, Body; `Painter`, `Paragraph` and `ParserState` in the
+// crate).
+//
+//   Painter, Paragraph, State   as in the crate; `fresh` is a fresh one
+//   Style                       what a block says of a state: the first eleven words of its record
+//   apply_word                  a word's effect: another state, a character to write, or a refusal
+//
+// Signed numbers stand in two's complement. Every function is total.
+use answers::Refusal;
+use answers::Why;
+use tokens::Property;
+ghost use mathlib.Core.Path.{_≡_};
+ghost use Prim.Native.Nat.{_≤_, _<_};
+ghost use mathlib.Core.Bool.{cond};
+ghost use Rattle.styles.specs.Styles.{freshFlags, freshPainter, freshParagraph, fresh as freshState, isOn, flagged, flagging, fitted, fitting, alignment as alignmentOf, aligning, lined, spacing, measured, character as characterOf, ending as endingOf, change as changeOf, bit as bitOf, flagsNumber, styleOf, sameStyle};
+
+pub struct Flags {
+    pub bold: bool,
+    pub italic: bool,
+    pub underline: bool,
+    pub superscript: bool,
+    pub subscript: bool,
+    pub smallcaps: bool,
+    pub strike: bool,
+}
+
+// Colour and font by key; the size in half points.
+pub struct Painter {
+    pub colour: u32,
+    pub font: u32,
+    pub size: u32,
+    pub flags: Flags,
+}
+
+// Alignment: 0 left, 1 right, 2 centre, 3 justified. The space between lines: kind 0 automatic, 1 the value `line`.
+pub struct Paragraph {
+    pub alignment: u32,
+    pub before: u32,
+    pub after: u32,
+    pub kind: u32,
+    pub line: u32,
+    pub multiplier: u32,
+    pub tab: u32,
+}
+
+// What a bracket saves: style, paragraph, and how many units are skipped behind a `u` word.
+pub struct State {
+    pub painter: Painter,
+    pub paragraph: Paragraph,
+    pub skip: u32,
+}
+
+pub struct Style {
+    pub colour: u32,
+    pub font: u32,
+    pub size: u32,
+    pub flags: u32,
+    pub alignment: u32,
+    pub before: u32,
+    pub after: u32,
+    pub kind: u32,
+    pub line: u32,
+    pub multiplier: u32,
+    pub tab: u32,
+}
+
+// Plain as the crate; in paragraph reading `par` adds a line feed.
+pub enum Reading {
+    Plain,
+    Paragraphs,
+}
+
+pub enum Change {
+    To(State),
+    Says(u32),
+    Refuses(Refusal),
+}
+
+impl Flags {
+    pub fn fresh() -> Flags
+        ensures { λ r. ⌜ r ≡ freshFlags ⌝ }
+    {
+        Flags {
+            bold: false,
+            italic: false,
+            underline: false,
+            superscript: false,
+            subscript: false,
+            smallcaps: false,
+            strike: false,
+        }
+    }
+}
+
+impl Painter {
+    pub const SIZE: u32 = 12;
+
+    pub fn fresh() -> Painter
+        ensures { λ r. ⌜ r ≡ freshPainter ⌝ }
+    {
+        let flags = Flags::fresh();
+        Painter {
+            colour: 0,
+            font: 0,
+            size: Painter::SIZE,
+            flags: flags,
+        }
+    }
+}
+
+impl Paragraph {
+    pub fn fresh() -> Paragraph
+        ensures { λ r. ⌜ r ≡ freshParagraph ⌝ }
+    {
+        Paragraph {
+            alignment: 0,
+            before: 0,
+            after: 0,
+            kind: 0,
+            line: 0,
+            multiplier: 0,
+            tab: 0,
+        }
+    }
+}
+
+impl State {
+    pub const SKIP: u32 = 1;
+
+    pub fn fresh() -> State
+        ensures { λ r. ⌜ r ≡ freshState ⌝ }
+    {
+        let painter = Painter::fresh();
+        let paragraph = Paragraph::fresh();
+        State {
+            painter: painter,
+            paragraph: paragraph,
+            skip: State::SKIP,
+        }
+    }
+}
+
+// No number is on, else on only for 1.
+fn is_on(number: Property) -> bool
+    ensures { λ r. ⌜ r ≡ isOn number ⌝ }
+{
+    match number {
+        Property::None => true,
+        Property::Value(v) => v == 1,
+    }
+}
+
+// One of i b ul ulnone super sub scaps strike, 12 to 19.
+fn flag(f: Flags, w: u32, on: bool) -> Flags
+    ensures { λ r. ⌜ r ≡ flagged f w on ⌝ }
+{
+    let mut r = f;
+    if w == 12 {
+        r.italic = on;
+        return r;
+    }
+    if w == 13 {
+        r.bold = on;
+        return r;
+    }
+    if w == 14 {
+        r.underline = on;
+        return r;
+    }
+    if w == 15 {
+        r.underline = false;
+        return r;
+    }
+    if w == 16 {
+        r.superscript = on;
+        return r;
+    }
+    if w == 17 {
+        r.subscript = on;
+        return r;
+    }
+    if w == 18 {
+        r.smallcaps = on;
+        return r;
+    }
+    if w == 19 {
+        r.strike = on;
+        return r;
+    }
+    r
+}
+
+fn flag_word(s: State, w: u32, number: Property) -> State
+    ensures { λ r. ⌜ r ≡ flagging s w number ⌝ }
+{
+    let mut r = s;
+    let on = is_on(number);
+    let mut painter = s.painter;
+    let flags = painter.flags;
+    let changed = flag(flags, w, on);
+    painter.flags = changed;
+    r.painter = painter;
+    r
+}
+
+// One of f fs cf, 9 to 11.
+fn fit(p: Painter, w: u32, v: u32) -> Painter
+    ensures { λ r. ⌜ r ≡ fitted p w v ⌝ }
+{
+    let mut r = p;
+    if w == 9 {
+        r.font = v;
+        return r;
+    }
+    if w == 10 {
+        r.size = v;
+        return r;
+    }
+    if w == 11 {
+        r.colour = v;
+        return r;
+    }
+    r
+}
+
+// A number of at most 65,535, as the crate's cast to u16 asks.
+fn fit_word(s: State, w: u32, v: u32) -> Change
+    ensures { λ r. ⌜ r ≡ fitting s w v ⌝ }
+{
+    if v <= 65535 {
+        let mut r = s;
+        let painter = s.painter;
+        let changed = fit(painter, w, v);
+        r.painter = changed;
+        return Change::To(r);
+    }
+    Change::Refuses(Refusal::of(Why::NumberField))
+}
+
+// One of ql qr qj qc, 26 to 29.
+fn alignment(w: u32) -> u32
+    ensures { λ r. ⌜ r ≡ alignmentOf w ⌝ }
+{
+    if w == 26 {
+        return 0;
+    }
+    if w == 27 {
+        return 1;
+    }
+    if w == 28 {
+        return 3;
+    }
+    2
+}
+
+fn align(s: State, w: u32) -> State
+    ensures { λ r. ⌜ r ≡ aligning s w ⌝ }
+{
+    let mut r = s;
+    let changed = alignment(w);
+    r.paragraph.alignment = changed;
+    r
+}
+
+fn line(s: State, kind: u32, v: u32) -> State
+    ensures { λ r. ⌜ r ≡ lined s kind v ⌝ }
+{
+    let mut r = s;
+    r.paragraph.kind = kind;
+    r.paragraph.line = v;
+    r
+}
+
+// The space between lines. The crate's absolute value of -2147483648 wraps in one build and stops another: 15.
+fn space(s: State, v: u32) -> Change
+    ensures { λ r. ⌜ r ≡ spacing s v ⌝ }
+{
+    if v == 1000 {
+        return Change::To(line(s, 0, 0));
+    }
+    if v == 2147483648 {
+        return Change::Refuses(Refusal::of(Why::LineSpacing));
+    }
+    if v < 2147483648 {
+        return Change::To(line(s, 1, v));
+    }
+    let magnitude = 4294967295 - v + 1;
+    Change::To(line(s, 1, magnitude))
+}
+
+// One of pardeftab sb sa slmul, 25, 33, 34 and 36; any other word does nothing.
+fn measure(p: Paragraph, w: u32, v: u32) -> Paragraph
+    ensures { λ r. ⌜ r ≡ measured p w v ⌝ }
+{
+    let mut r = p;
+    if w == 25 {
+        r.tab = v;
+        return r;
+    }
+    if w == 33 {
+        r.before = v;
+        return r;
+    }
+    if w == 34 {
+        r.after = v;
+        return r;
+    }
+    if w == 36 {
+        r.multiplier = v;
+        return r;
+    }
+    r
+}
+
+// One of the nine from emdash on, 40 to 48.
+fn character(w: u32) -> u32
+    requires { ⌜ (40 ≤ w) × (w ≤ 48) ⌝ }
+    ensures { λ r. ⌜ r ≡ characterOf w ⌝ }
+{
+    if w == 40 {
+        return 0x2014;
+    }
+    if w == 41 {
+        return 0x2013;
+    }
+    if w == 42 {
+        return 0x2022;
+    }
+    if w == 43 {
+        return 0x2018;
+    }
+    if w == 44 {
+        return 0x2019;
+    }
+    if w == 45 {
+        return 0x201C;
+    }
+    if w == 46 {
+        return 0x201D;
+    }
+    if w == 47 {
+        return 0x9;
+    }
+    0xA
+}
+
+fn ending(reading: Reading, s: State) -> Change
+    ensures { λ r. ⌜ r ≡ endingOf reading s ⌝ }
+{
+    match reading {
+        Reading::Plain => Change::To(s),
+        Reading::Paragraphs => Change::Says(10),
+    }
+}
+
+// A word of the body but `u`.
+pub fn apply_word(reading: Reading, s: State, w: u32, number: Property) -> Change
+    ensures { λ r. ⌜ r ≡ changeOf reading s w number ⌝ }
+{
+    if (12 <= w) & (w <= 19) {
+        return Change::To(flag_word(s, w, number));
+    }
+    let v = number.value();
+    if (9 <= w) & (w <= 11) {
+        return fit_word(s, w, v);
+    }
+    if (40 <= w) & (w <= 48) {
+        return Change::Says(character(w));
+    }
+    if (26 <= w) & (w <= 29) {
+        return Change::To(align(s, w));
+    }
+    if w == 35 {
+        return space(s, v);
+    }
+    let mut r = s;
+    if w == 23 {
+        let painter = Painter::fresh();
+        r.painter = painter;
+        return Change::To(r);
+    }
+    if w == 21 {
+        let paragraph = Paragraph::fresh();
+        r.paragraph = paragraph;
+        return Change::To(r);
+    }
+    if w == 20 {
+        return ending(reading, s);
+    }
+    if w == 3 {
+        r.skip = v;
+        return Change::To(r);
+    }
+    let paragraph = s.paragraph;
+    let changed = measure(paragraph, w, v);
+    r.paragraph = changed;
+    Change::To(r)
+}
+
+fn bit(b: bool, n: u32) -> u32
+    ensures { λ r. ⌜ (r ≡ bitOf b n) × (r ≤ n) ⌝ }
+{
+    if b {
+        return n;
+    }
+    0
+}
+
+impl Flags {
+    // 1 bold, 2 italic, 4 underline, 8 super, 16 sub, 32 scaps, 64 strike.
+    pub fn number(self) -> u32
+        ensures { λ r. ⌜ r ≡ flagsNumber self ⌝ }
+    {
+        let bold = bit(self.bold, 1);
+        let italic = bit(self.italic, 2);
+        let underline = bit(self.underline, 4);
+        let superscript = bit(self.superscript, 8);
+        let subscript = bit(self.subscript, 16);
+        let smallcaps = bit(self.smallcaps, 32);
+        let strike = bit(self.strike, 64);
+        bold + italic + underline + superscript + subscript + smallcaps + strike
+    }
+}
+
+impl State {
+    // What a block says of the state.
+    pub fn style(self) -> Style
+        ensures { λ r. ⌜ r ≡ styleOf self ⌝ }
+    {
+        let flags = self.painter.flags.number();
+        Style {
+            colour: self.painter.colour,
+            font: self.painter.font,
+            size: self.painter.size,
+            flags: flags,
+            alignment: self.paragraph.alignment,
+            before: self.paragraph.before,
+            after: self.paragraph.after,
+            kind: self.paragraph.kind,
+            line: self.paragraph.line,
+            multiplier: self.paragraph.multiplier,
+            tab: self.paragraph.tab,
+        }
+    }
+}
+
+// Whether text of one style joins a block of the other.
+pub fn same_style(a: Style, b: Style) -> bool
+    ensures { λ r. ⌜ r ≡ sameStyle a b ⌝ }
+{
+    (a.colour == b.colour)
+        & ((a.font == b.font)
+            & ((a.size == b.size)
+                & ((a.flags == b.flags)
+                    & ((a.alignment == b.alignment)
+                        & ((a.before == b.before)
+                            & ((a.after == b.after)
+                                & ((a.kind == b.kind)
+                                    & ((a.line == b.line)
+                                        & ((a.multiplier == b.multiplier)
+                                            & (a.tab == b.tab))))))))))
+}

@@ -1,0 +1,2 @@
+-- Units: the text of a run of `u` tokens.
+pub mod Units

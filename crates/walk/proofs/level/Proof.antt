@@ -1,0 +1,76 @@
+-- `level` meets its contract: case by case.
+use native.Mathlib.Omega.{arith}
+use borrow.Author.Needs.{needs}
+use Rattle.walk.proofs.level.Statement.{statement}
+use Rattle.walk.proofs.level.Tie as tie
+use Rattle.walk.proofs.level.Reads as reads
+use Rattle.walk.proofs.level.Lts as lts
+
+enum-told : tie.Need-enum-told
+enum-told c = search needs
+
+add-result : tie.Need-add-result
+add-result c = search needs
+
+enum-told-2 : tie.Need-enum-told-2
+enum-told-2 c = search needs
+
+sub-result : tie.Need-sub-result
+sub-result c = search needs
+
+enum-told-3 : tie.Need-enum-told-3
+enum-told-3 c = search needs
+
+enum-told-4 : tie.Need-enum-told-4
+enum-told-4 c = search needs
+
+enum-told-5 : tie.Need-enum-told-5
+enum-told-5 c = search needs
+
+enum-told-6 : tie.Need-enum-told-6
+enum-told-6 c = search needs
+
+enum-told-7 : tie.Need-enum-told-7
+enum-told-7 c = search needs
+
+returns : tie.Need-returns
+returns c src = rw (c .enum-told .given .1) (omega arith)
+
+returns-2 : tie.Need-returns-2
+returns-2 c src = rw (c .enum-told2 .given .1)
+
+returns-3 : tie.Need-returns-3
+returns-3 c src = rw (c .enum-told3 .given .1)
+
+returns-4 : tie.Need-returns-4
+returns-4 c src = rw (c .enum-told4 .given .1)
+
+returns-5 : tie.Need-returns-5
+returns-5 c src = cc
+
+returns-6 : tie.Need-returns-6
+returns-6 c src = cc
+
+returns-7 : tie.Need-returns-7
+returns-7 c src = cc
+
+pub level-spec : {M : Type 1} → statement M
+level-spec =
+    tie.close
+    (tie.spec
+    enum-told
+    add-result
+    enum-told-2
+    sub-result
+    enum-told-3
+    enum-told-4
+    enum-told-5
+    enum-told-6
+    enum-told-7
+    returns
+    returns-2
+    returns-3
+    returns-4
+    returns-5
+    returns-6
+    returns-7)

@@ -1,0 +1,2 @@
+-- Walk: the header walk over a letter's tokens.
+pub mod Walk

@@ -1,0 +1,121 @@
+-- 01, Header walk: what the tokens of a letter are to the reader: a kept token, a hidden group, a font table, a colour table.
+-- Assumes nothing: these are definitions.
+use Prim.Native.Nat.{ℕ, zero, suc, _-_}
+use mathlib.Core.List.{List, [], _∷_, _++_}
+use mathlib.Core.Bool.{Bool, true, false, cond}
+use lib.ListN.{take}
+use lib.Dec.{eqb}
+use Rattle.tokens.specs.declared.Property.{Property}
+use Rattle.tokens.specs.declared.Property.the-variants.{None, Value}
+use Rattle.tokens.specs.Tokens.{Shown}
+use Rattle.tokens.specs.Tokens
+use Rattle.walk.specs.declared.Aim.{Aim}
+use Rattle.walk.specs.declared.Aim.the-variants.{Nothing, Hide, Fonts, Colours}
+
+-- "`\*`, or `stylesheet` without a number: pass over .. `fonttbl` or `colortbl` without a number: the same, and read it. Else
+-- go one token on."; late: line breaks stand before the word
+abbrev pub wordAim : ℕ → Property → Bool → Aim
+wordAim w None late = cond (eqb w 7) Hide (cond (eqb w 4) (Fonts late) (cond (eqb w 5) (Colours late) Nothing))
+wordAim w (Value v) late = Nothing
+
+-- what a token behind a bracket makes of the group; a line break leaves it to those behind
+abbrev pub aimAt : Bool → Shown → Aim → Aim
+aimAt late Shown.lineBreak later = later
+aimAt late Shown.ignorable later = Hide
+aimAt late (Shown.word w num) later = wordAim w num late
+aimAt late (Shown.text p bs) later = Nothing
+aimAt late Shown.opening later = Nothing
+aimAt late Shown.closing later = Nothing
+aimAt late (Shown.unknown p bs num) later = Nothing
+
+abbrev pub isBreak : Shown → Bool
+isBreak Shown.lineBreak = true
+isBreak Shown.ignorable = false
+isBreak (Shown.word w num) = false
+isBreak (Shown.text p bs) = false
+isBreak Shown.opening = false
+isBreak Shown.closing = false
+isBreak (Shown.unknown p bs num) = false
+
+-- "At an opening bracket look at the first token after the bracket that is not a line break."
+unfoldable pub aimFrom : Bool → List Shown → Aim
+aimFrom late [] = Nothing
+aimFrom late (t ∷ ts) = aimAt late t (aimFrom true ts)
+
+abbrev pub aim : List Shown → Aim
+aim ts = aimFrom false ts
+
+-- how many groups are open behind a token, where d were before it
+abbrev pub level : Shown → ℕ → ℕ
+level Shown.opening d = suc d
+level Shown.closing d = d - 1
+level Shown.lineBreak d = d
+level Shown.ignorable d = d
+level (Shown.text p bs) d = d
+level (Shown.word w num) d = d
+level (Shown.unknown p bs num) d = d
+
+-- "to the bracket that matches, or to the end": how many tokens that is, where d groups are open
+unfoldable pub extent : ℕ → List Shown → ℕ
+extent d [] = 0
+extent d (t ∷ ts) = cond (eqb (level t d) 0) 1 (suc (extent (level t d) ts))
+
+-- what the walk makes of the tokens. A table is read from the tokens behind its bracket; late: a line break is the first
+pub data Step : Type 0 where
+  kept : Shown → Step
+  hidden : Step
+  fontTable : Bool → List Shown → Step
+  colourTable : Bool → List Shown → Step
+
+-- the tokens of a group, behind its bracket
+abbrev pub group : List Shown → List Shown
+group ts = take (extent 1 ts) ts
+
+-- an opening bracket, by what it begins
+abbrev pub entered : Aim → List Shown → Step
+entered Nothing ts = kept Shown.opening
+entered Hide ts = hidden
+entered (Fonts late) ts = fontTable late (group ts)
+entered (Colours late) ts = colourTable late (group ts)
+
+abbrev pub enteredLength : Aim → List Shown → ℕ
+enteredLength Nothing ts = 0
+enteredLength Hide ts = extent 1 ts
+enteredLength (Fonts late) ts = extent 1 ts
+enteredLength (Colours late) ts = extent 1 ts
+
+-- a token of the walk, and how many tokens behind it the walk passes over
+abbrev pub stepOf : Shown → List Shown → Step
+stepOf Shown.opening ts = entered (aim ts) ts
+stepOf Shown.closing ts = kept Shown.closing
+stepOf Shown.lineBreak ts = kept Shown.lineBreak
+stepOf Shown.ignorable ts = kept Shown.ignorable
+stepOf (Shown.text p bs) ts = kept (Shown.text p bs)
+stepOf (Shown.word w num) ts = kept (Shown.word w num)
+stepOf (Shown.unknown p bs num) ts = kept (Shown.unknown p bs num)
+
+abbrev pub passedBy : Shown → List Shown → ℕ
+passedBy Shown.opening ts = enteredLength (aim ts) ts
+passedBy Shown.closing ts = 0
+passedBy Shown.lineBreak ts = 0
+passedBy Shown.ignorable ts = 0
+passedBy (Shown.text p bs) ts = 0
+passedBy (Shown.word w num) ts = 0
+passedBy (Shown.unknown p bs num) ts = 0
+
+-- the same, where w tokens are still to be passed over
+abbrev pub stepsAt : ℕ → Shown → List Shown → List Step
+stepsAt zero t ts = stepOf t ts ∷ []
+stepsAt (suc w) t ts = []
+
+abbrev pub leftAt : ℕ → Shown → List Shown → ℕ
+leftAt zero t ts = passedBy t ts
+leftAt (suc w) t ts = w
+
+-- "From the first token while a next one exists."; the first w tokens are passed over
+unfoldable pub walkFrom : ℕ → List Shown → List Step
+walkFrom w [] = []
+walkFrom w (t ∷ ts) = stepsAt w t ts ++ walkFrom (leftAt w t ts) ts
+
+abbrev pub walk : List Shown → List Step
+walk ts = walkFrom 0 ts
