@@ -1,17 +1,29 @@
-//! Letters, and what rtf-parser 0.4.3 answers to them. Nothing here knows of our library.
+//! Letters, and what rtf-parser 0.4.3 answers to them. Nothing here is linked with our library.
 //!
 //!   letters   listed letters: short strings, bytes everywhere, names, numbers, long ones
 //!   grammar   letters at random
 //!   mutate    damaged letters
+//!   fragments, reading_grammar   letters for the whole reading, listed and at random
 //!   oracle    the crate's answers, from both of its builds
-//!   cut       the form of an answer
+//!   cut       the form of a cutter's answer
+//!   whole     the form of a reading's
+//!   room      what is lent for a call
+//!   clock     medians, for bench_letters
+//!   bridge    our library on another processor
 
+pub mod bench_letters;
+pub mod bridge;
+pub mod clock;
 pub mod cut;
+pub mod fragments;
 pub mod grammar;
 pub mod letters;
 pub mod mutate;
 pub mod oracle;
 pub mod random;
+pub mod reading_grammar;
+pub mod room;
+pub mod whole;
 
 /// Reads `--name NUMBER` pairs over the numbers given for the names.
 pub fn options<const N: usize>(

@@ -1,23 +1,26 @@
 //! The crate's answers in our form. The crate is linked twice, with overflow checks off and on.
 
 use crate::cut::{Cut, NAMES};
+use crate::whole::Whole;
 use std::cell::RefCell;
 use std::panic;
 
 pub mod wrapping {
     use rtf_parser_wrap as rtf_parser;
     include!("oracle_tokens.rs");
+    include!("oracle_reading.rs");
 }
 
 pub mod checked {
     use rtf_parser_checked as rtf_parser;
     include!("oracle_tokens.rs");
+    include!("oracle_reading.rs");
 }
 
 /// What the crate did with a letter.
 #[derive(Debug, PartialEq, Eq)]
-pub enum Reading {
-    Answered(Cut),
+pub enum Reading<T = Cut> {
+    Answered(T),
     Panicked(String),
 }
 
@@ -26,9 +29,9 @@ thread_local! {
 }
 
 /// Keeps the message of a panic for the report instead of printing it at once.
-fn caught(read: impl FnOnce() -> Cut + panic::UnwindSafe) -> Reading {
+fn caught<T>(read: impl FnOnce() -> T + panic::UnwindSafe) -> Reading<T> {
     match panic::catch_unwind(read) {
-        Ok(cut) => Reading::Answered(cut),
+        Ok(answer) => Reading::Answered(answer),
         Err(_) => Reading::Panicked(LAST_PANIC.with_borrow(String::clone)),
     }
 }
@@ -48,6 +51,11 @@ pub fn wrapping_reading(source: &str) -> Reading {
 
 pub fn checked_reading(source: &str) -> Reading {
     caught(|| checked::cut(source))
+}
+
+/// What the two builds make of a letter, overflow checks off and on.
+pub fn whole_readings(source: &str, paragraphs: bool) -> [Reading<Whole>; 2] {
+    [caught(|| wrapping::read(source, paragraphs)), caught(|| checked::read(source, paragraphs))]
 }
 
 /// Our numbers for the crate's words are the places of their names in the table.

@@ -1,15 +1,14 @@
 //! Both sides against the clock, on the same letters in one run.
 
-use crate::{bench_letters, ours};
+use crate::ours;
+use common::bench_letters;
+use common::clock::{median, time};
 use common::cut::{Cut, RECORD_WORDS};
 use common::oracle::wrapping;
 use std::hint::black_box;
-use std::time::{Duration, Instant};
 
 /// Tokens that the wider room holds: those of the extractor's.
 const WIDE_TOKENS: usize = 1_024;
-/// A sample repeats its call until it is about this long.
-const SAMPLE: Duration = Duration::from_micros(200);
 
 const HEADING: &str = "\
 Nanoseconds per byte, medians over the rounds. A round times each letter in each column once, each
@@ -91,30 +90,4 @@ impl Row {
             times(2)
         );
     }
-}
-
-/// Nanoseconds of one call.
-fn time(mut call: impl FnMut()) -> f64 {
-    call();
-    let start = Instant::now();
-    let mut calls = 0;
-    let mut batch = 1;
-    loop {
-        for _ in 0..batch {
-            call();
-        }
-        calls += batch;
-        let passed = start.elapsed();
-        if passed >= SAMPLE {
-            return passed.as_nanos() as f64 / f64::from(calls);
-        }
-        // The clock is read seldom enough not to count.
-        batch = calls;
-    }
-}
-
-fn median(values: impl Iterator<Item = f64>) -> f64 {
-    let mut values: Vec<f64> = values.collect();
-    values.sort_by(f64::total_cmp);
-    values[values.len() / 2]
 }

@@ -2,11 +2,11 @@
 
 use crate::ours;
 use crate::report;
-use crate::room::{Room, Source};
 use crate::seen::Seen;
 use common::cut::{Cut, RECORD_WORDS, ROOM_SMALL};
 use common::oracle::{self, Reading};
 use common::random::Random;
+use common::room::{Room, Source};
 
 /// One letter in so many is also tried in small rooms, and each that is so short.
 const SMALL_ROOMS: usize = 8;
@@ -89,7 +89,7 @@ impl Judge {
         }
         let junk = self.random.draw() as u32 | 0x8000_0001;
         let answer = ours::cut(self.source.lend(letter), self.room.lend(words, junk));
-        let wrong = wrong_word(self.room.words(), records.as_flattened(), junk);
+        let wrong = wrong_word(self.room.lent(), records.as_flattened(), junk);
         let what = if !self.room.guards_hold() {
             "a word outside the room was written".to_string()
         } else if answer != (refusal, records.len() as u32) {
@@ -100,7 +100,7 @@ impl Judge {
             return Ok(());
         };
         let (refusal, tokens) = answer;
-        let room = self.room.words().to_vec();
+        let room = self.room.lent().to_vec();
         Err(Fault { words, refusal, tokens, what, room })
     }
 

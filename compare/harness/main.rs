@@ -3,20 +3,17 @@
 //!   compare   the parts of a comparison
 //!   judge     one letter on both sides
 //!   limits    refusals 1 and 2
-//!   bench     both sides against the clock, on bench_letters
+//!   bench     both sides against the clock
 //!   ours      our library's C interface
-//!   room      what is lent to it
 //!   seen      what the letters covered
 //!   report    how a difference is printed
 
 mod bench;
-mod bench_letters;
 mod compare;
 mod judge;
 mod limits;
 mod ours;
 mod report;
-mod room;
 mod seen;
 
 use std::process::ExitCode;

@@ -1,8 +1,9 @@
 -- The walk, token by token and group by group, in the terms of a loop over the tokens that are left.
+--     walk-passed     tokens that are passed over
 --     walk-end        no token is left
---     walk-kept       a token that is no opening bracket
+--     walk-one        any token, by its step
 --     walk-opening    an opening bracket that begins nothing
---     walk-group      one that begins a group to pass over or to read
+--     walk-hidden, -fonts, -colours   one that begins a group to pass over, or a table
 -- Assumes nothing.
 use mathlib.Core.Path.{_≡_, refl, sym, ap, _∙_}
 use mathlib.Core.List.{List, [], _∷_, _++_}

@@ -1,0 +1,29 @@
+//! A whole reading as the crate can tell it: it keeps the names of fonts, not their places.
+
+use crate::cut::Record;
+
+pub type Block = [u32; 13];
+
+#[derive(Debug, Clone, PartialEq, Eq)]
+pub enum Whole {
+    Read(Document),
+    Refused(u32),
+}
+
+#[derive(Debug, Clone, Default, PartialEq, Eq)]
+pub struct Document {
+    pub tokens: Vec<Record>,
+    /// Keys, ascending, with the bytes of the names.
+    pub fonts: Vec<(u32, Vec<u8>)>,
+    pub colours: Vec<u32>,
+    pub blocks: Vec<Block>,
+    pub text: Vec<u8>,
+}
+
+pub const NO_TOKENS: u32 = 8;
+pub const FIRST_TOKEN: u32 = 9;
+pub const TABLE_LINE_BREAK: u32 = 10;
+pub const FONT_NUMBER: u32 = 11;
+pub const NUMBER_FIELD: u32 = 12;
+pub const IGNORABLE_IN_BODY: u32 = 13;
+pub const NO_STATE: u32 = 14;

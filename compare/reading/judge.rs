@@ -1,0 +1,174 @@
+//! One letter on all sides: the model against the crate, ours against the model.
+
+use crate::lent::{Call, Lent};
+use crate::outside::{agrees, Outside, Tallies};
+use crate::seen::Seen;
+use crate::{ours, report, small};
+use common::bridge;
+use common::oracle::{self, Reading};
+use common::random::Random;
+use model::{Answer, Kind, Rooms, KINDS};
+
+/// One letter in so many is also read in small rooms, so many times.
+const SMALL_ROOMS: usize = 4;
+const TIMES: usize = 4;
+/// Bytes of calls that may wait; without the bridge nothing is gained by waiting.
+const BATCH: usize = if cfg!(bridge) { bridge::BATCH } else { 0 };
+
+pub struct Judge {
+    pub letters: u64,
+    pub calls: u64,
+    pub differences: u64,
+    pub seen: Seen,
+    pub outside: Tallies,
+    /// How many differences may still be printed.
+    pub to_print: u32,
+    random: Random,
+    lent: Lent,
+    /// Calls of our side that wait to be sent together, and the bytes of their letters.
+    waiting: Vec<Call>,
+    bytes: usize,
+    /// The last letter with a difference: a letter counts once.
+    differed: u64,
+}
+
+impl Judge {
+    pub fn new(seed: u64) -> Self {
+        Judge {
+            letters: 0,
+            calls: 0,
+            differences: 0,
+            seen: Seen::new(),
+            outside: Tallies::default(),
+            to_print: 0,
+            random: Random::new(seed),
+            lent: Lent::default(),
+            waiting: Vec::new(),
+            bytes: 0,
+            differed: 0,
+        }
+    }
+
+    /// Compares a letter of any length and bytes, in large rooms and now and then in small ones.
+    /// What our side says to it may be told only with `finish`.
+    pub fn letter(&mut self, letter: &[u8]) {
+        let answers = self.judged(letter);
+        if self.random.once_in(SMALL_ROOMS) {
+            for _ in 0..TIMES {
+                let kind = *self.random.pick(&KINDS);
+                let rooms = small::tight(&mut self.random, &answers[kind as usize], letter.len());
+                self.in_small_rooms(letter, kind, &rooms);
+            }
+        }
+    }
+
+    /// The same, in rooms of every size.
+    pub fn letter_in_every_size(&mut self, letter: &[u8]) {
+        let answers = self.judged(letter);
+        for kind in KINDS {
+            for rooms in small::every_size(&answers[kind as usize], letter.len()) {
+                self.in_small_rooms(letter, kind, &rooms);
+            }
+        }
+    }
+
+    /// Makes the calls that wait.
+    pub fn finish(&mut self) {
+        ours::send(&self.waiting);
+        for call in std::mem::take(&mut self.waiting) {
+            if let Err(fault) = self.lent.made(&call) {
+                self.differ(call.number, || report::fault(&call, &fault));
+            }
+        }
+        self.bytes = 0;
+    }
+
+    /// The model's two answers in rooms that hold everything, after comparing all sides in such.
+    fn judged(&mut self, letter: &[u8]) -> [Answer; 2] {
+        self.letters += 1;
+        let ample = small::ample(letter.len());
+        let (plain, met) = model::read(letter, Kind::Plain, &ample);
+        let (paragraphs, _) = model::read(letter, Kind::Paragraphs, &ample);
+        let outside = Outside::of(&plain, &met);
+        self.seen.letter(&plain, outside.is_none());
+        let answers = [plain, paragraphs];
+        if let Err(told) = self.with_crate(letter, &answers, outside) {
+            self.differ(self.letters, || told);
+        }
+        for kind in KINDS {
+            let answer = &answers[kind as usize];
+            let rooms = small::large(&mut self.random, answer, letter.len());
+            self.call(letter, kind, &rooms, answer.clone());
+        }
+        answers
+    }
+
+    fn with_crate(
+        &mut self,
+        letter: &[u8],
+        answers: &[Answer; 2],
+        outside: Option<Outside>,
+    ) -> Result<(), String> {
+        if let Some(outside) = outside {
+            self.outside.count(outside);
+            if !outside.asked() {
+                return Ok(());
+            }
+        }
+        let text = std::str::from_utf8(letter).expect("a letter for the crate is ASCII");
+        // Without this name the two readings are one.
+        let has_par = text.contains("\\par");
+        for kind in if has_par { &KINDS[..] } else { &KINDS[..1] } {
+            let answer = &answers[*kind as usize];
+            let says = oracle::whole_readings(text, *kind == Kind::Paragraphs);
+            if let Some(outside) = outside {
+                self.outside.asked(outside, letter, answer, &says);
+                return Ok(());
+            }
+            let same = |reading: &Reading<_>| match reading {
+                Reading::Answered(whole) => agrees(letter, answer, whole),
+                Reading::Panicked(_) => false,
+            };
+            if !says.iter().all(same) {
+                return Err(report::model_against_crate(letter, *kind, answer, &says));
+            }
+        }
+        Ok(())
+    }
+
+    fn in_small_rooms(&mut self, letter: &[u8], kind: Kind, rooms: &Rooms) {
+        let (answer, _) = model::read(letter, kind, rooms);
+        self.seen.small_rooms(kind, &answer);
+        self.call(letter, kind, rooms, answer);
+    }
+
+    fn call(&mut self, letter: &[u8], kind: Kind, rooms: &Rooms, expected: Answer) {
+        self.calls += 1;
+        // The head of a request has 32 bytes.
+        let bytes = letter.len() + 32;
+        if self.bytes + bytes > BATCH {
+            self.finish();
+        }
+        self.bytes += bytes;
+        self.waiting.push(Call {
+            number: self.letters,
+            letter: letter.to_vec(),
+            kind,
+            rooms: *rooms,
+            expected,
+            junk: self.random.draw() as u32 | 0x8101_0101,
+        });
+    }
+
+    fn differ(&mut self, number: u64, told: impl FnOnce() -> String) {
+        if self.differed == number {
+            return;
+        }
+        self.differed = number;
+        self.differences += 1;
+        if self.to_print > 0 {
+            self.to_print -= 1;
+            println!("{}", told());
+        }
+    }
+}

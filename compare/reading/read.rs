@@ -1,0 +1,166 @@
+//! The comparison of whole readings, part by part.
+
+use crate::judge::Judge;
+use crate::ours;
+use common::cut::SOURCE_LIMIT;
+use common::random::Random;
+use common::{fragments, grammar, letters, mutate, oracle, reading_grammar};
+use std::time::Instant;
+
+/// Differences that are printed in full for each part.
+const PRINTED: u32 = 3;
+
+pub struct Options {
+    pub seed: u64,
+    /// Letters drawn by each grammar, and again as many damaged ones.
+    pub count: usize,
+    /// Fragments of the longest sequences of which all are tried.
+    pub depth: usize,
+}
+
+/// True if there is no difference.
+pub fn run(options: &Options) -> bool {
+    let Options { seed, count, depth } = *options;
+    println!("seed {seed}, count {count}, depth {depth}; {} is judged", ours::NAME);
+    oracle::check_names();
+    let mut judge = Judge::new(!seed);
+    oracle::quietly(|| {
+        sequences(&mut judge, depth);
+        listed(&mut judge);
+        drawn(&mut judge, seed, count);
+        judge.outside.print();
+    });
+    judge.seen.print();
+    println!("calls: {}", judge.calls);
+    println!("{} letters compared, {} differences", judge.letters, judge.differences);
+    judge.differences == 0
+}
+
+fn sequences(judge: &mut Judge, depth: usize) {
+    for alphabet in &fragments::ALPHABETS {
+        part(judge, &format!("all sequences, {}", alphabet.name), |judge| {
+            fragments::every_sequence(alphabet, depth, &mut |letter| judge.letter(letter))
+        });
+    }
+}
+
+fn listed(judge: &mut Judge) {
+    type Family = fn(&mut letters::Sink);
+    const FAMILIES: [(&str, Family); 8] = [
+        ("words with numbers", fragments::words_with_numbers),
+        ("pairs of words", fragments::pairs_of_words),
+        ("states, fonts, colours", fragments::limits),
+        ("each byte in each place", every_byte_everywhere),
+        ("bytes above 127, length", outer_limits),
+        ("the cutter's letters", letters::every_byte_everywhere),
+        ("the cutter's numbers", letters::numbers),
+        ("long letters", letters::long),
+    ];
+    part(judge, "rooms of every size", |judge| {
+        telling().for_each(|letter| judge.letter_in_every_size(letter.as_bytes()))
+    });
+    for (name, family) in FAMILIES {
+        part(judge, name, |judge| family(&mut |letter| judge.letter(letter)));
+    }
+}
+
+fn telling() -> impl Iterator<Item = &'static str> {
+    fragments::SAMPLES.iter().chain(fragments::TELLING).copied()
+}
+
+/// Each byte below 128 in each place of each telling letter, put in and put over.
+fn every_byte_everywhere(sink: &mut letters::Sink) {
+    for letter in telling().map(str::as_bytes) {
+        for (place, byte) in (0..=letter.len()).flat_map(|p| (0..128).map(move |b| (p, b))) {
+            let mut put = letter.to_vec();
+            put.insert(place, byte);
+            sink(&put);
+            if place < letter.len() {
+                put.remove(place + 1);
+                sink(&put);
+            }
+        }
+    }
+}
+
+/// Refusals 1 and 2, and the longest letters that do not get them.
+fn outer_limits(sink: &mut letters::Sink) {
+    for letter in telling() {
+        for (place, byte) in [(0, 128), (letter.len() / 2, 200), (letter.len(), 255)] {
+            let mut put = letter.as_bytes().to_vec();
+            put.insert(place, byte);
+            sink(&put);
+        }
+    }
+    for size in [SOURCE_LIMIT - 1, SOURCE_LIMIT, SOURCE_LIMIT + 1, 2 * SOURCE_LIMIT] {
+        for unit in ["a", "\\b a\\b0 a", "{a}", "\\u8212 \\'41", "{\\*a}", "\u{e9}"] {
+            sink(&letters::repeated(unit.as_bytes(), size));
+        }
+        sink(&vec![b' '; size]);
+        sink(&[b"{a}".as_slice(), &vec![b'\n'; size - 3]].concat());
+    }
+}
+
+fn drawn(judge: &mut Judge, seed: u64, count: usize) {
+    let random = |salt: u64| Random::new(seed ^ salt);
+    part(judge, "sequences at random", |judge| {
+        let mut random = random(0x50_0B);
+        (0..count).for_each(|_| judge.letter(&fragments::soup(&mut random, 24)));
+    });
+    part(judge, "by the grammar", |judge| {
+        let mut random = random(0x6_4A3A);
+        (0..count).for_each(|_| judge.letter(&letter(&mut random)));
+    });
+    part(judge, "by the grammar, damaged", |judge| {
+        let mut random = random(0xDA3A_6ED0);
+        let mut whole = Vec::new();
+        for turn in 0..count {
+            if turn % 4 == 0 {
+                whole = letter(&mut random);
+            }
+            judge.letter(&mutate::mutated(&mut random, &whole, SOURCE_LIMIT));
+        }
+    });
+    part(judge, "by the cutter's grammar", |judge| {
+        let mut random = random(0xC0_77E4);
+        for _ in 0..count / 4 {
+            let size = size(&mut random);
+            let mut letter = grammar::letter(&mut random, size);
+            letter.truncate(SOURCE_LIMIT);
+            judge.letter(&letter);
+        }
+    });
+}
+
+fn letter(random: &mut Random) -> Vec<u8> {
+    let size = size(random);
+    let mut letter = reading_grammar::letter(random, size);
+    letter.truncate(SOURCE_LIMIT);
+    letter
+}
+
+/// Mostly short: there each rule meets each other soonest.
+fn size(random: &mut Random) -> usize {
+    match random.below(10_000) {
+        0..8_600 => random.between(2, 80),
+        8_600..9_800 => random.between(80, 500),
+        9_800..9_996 => random.between(500, 4_000),
+        _ => random.between(4_000, SOURCE_LIMIT),
+    }
+}
+
+fn part(judge: &mut Judge, name: &str, work: impl FnOnce(&mut Judge)) {
+    let (letters, differences) = (judge.letters, judge.differences);
+    let successes = judge.seen.successes();
+    judge.to_print = PRINTED;
+    let start = Instant::now();
+    work(judge);
+    judge.finish();
+    println!(
+        "{name:27} {:9} letters {:9} successes {:6} differences {:6.1} s",
+        judge.letters - letters,
+        judge.seen.successes() - successes,
+        judge.differences - differences,
+        start.elapsed().as_secs_f64()
+    );
+}

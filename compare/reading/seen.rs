@@ -1,0 +1,70 @@
+//! What the letters have covered, so that a run that tested little shows.
+
+use common::cut::WORD;
+use model::{Answer, Kind};
+
+const REFUSALS: usize = 21;
+
+pub struct Seen {
+    /// Letters whose answer both builds of the crate gave, by refusal number.
+    with_crate: [u64; REFUSALS],
+    /// Letters outside the equality with the crate, where the model alone judged.
+    by_model: [u64; REFUSALS],
+    /// Calls in rooms that may not hold the answer, plain and by paragraphs.
+    small: [[u64; REFUSALS]; 2],
+    words: [u64; 50],
+    most: [usize; 5],
+}
+
+impl Seen {
+    pub fn new() -> Self {
+        Seen {
+            with_crate: [0; REFUSALS],
+            by_model: [0; REFUSALS],
+            small: [[0; REFUSALS]; 2],
+            words: [0; 50],
+            most: [0; 5],
+        }
+    }
+
+    pub fn letter(&mut self, answer: &Answer, with_crate: bool) {
+        let counts = if with_crate { &mut self.with_crate } else { &mut self.by_model };
+        counts[answer.refusal as usize] += 1;
+        for (most, count) in self.most.iter_mut().zip(answer.counts()) {
+            *most = count.max(*most);
+        }
+        for token in answer.tokens.iter().filter(|token| token[0] == WORD) {
+            self.words[token[1] as usize] += 1;
+        }
+    }
+
+    pub fn small_rooms(&mut self, kind: Kind, answer: &Answer) {
+        self.small[kind as usize][answer.refusal as usize] += 1;
+    }
+
+    pub fn successes(&self) -> u64 {
+        self.with_crate[0] + self.by_model[0]
+    }
+
+    pub fn print(&self) {
+        println!("\nBy refusal number: letters on which both builds of the crate were compared,");
+        println!("letters that the model judged alone, calls in small rooms (by the model),");
+        println!("the same for paragraph reading. A number with zeros only was not covered.");
+        let columns = ["crate", "model", "small", "paragraphs"].map(|name| format!("{name:>13}"));
+        println!(" no.{}", columns.concat());
+        for number in 0..REFUSALS {
+            let small = self.small.map(|counts| counts[number]);
+            println!(
+                "{number:4} {:12} {:12} {:12} {:12}",
+                self.with_crate[number], self.by_model[number], small[0], small[1]
+            );
+        }
+        let [tokens, fonts, colours, blocks, text] = self.most;
+        println!(
+            "at most in a letter: {tokens} tokens, {fonts} fonts, {colours} colours, \
+             {blocks} blocks, {text} text bytes"
+        );
+        let met = self.words.iter().filter(|count| **count > 0).count();
+        println!("words: {met} of {} met in letters that were read", self.words.len());
+    }
+}

@@ -1,0 +1,18 @@
+// The extractor (01, Sample letters): the letter comes by standard input, its listing goes to standard output. A read that fails
+// counts as the letter's end.
+use libc::STDIN_FILENO;
+use libc::STDOUT_FILENO;
+use show::PAGE_BYTES;
+use show::extract;
+
+// The longest letter that is taken, and a byte more, so that a longer one is seen to be longer.
+const LETTER_BYTES: usize = 8193;
+
+fn main() {
+    let mut letter = [0u8; LETTER_BYTES];
+    let n = io::read_full(STDIN_FILENO, &mut letter);
+    let mut page = [0u8; PAGE_BYTES];
+    let listed = extract(&letter[..n], &mut page);
+    let bytes = listed.bytes;
+    io::write_all(STDOUT_FILENO, &page[..bytes]);
+}

@@ -1,0 +1,69 @@
+// One listing of ours against the expected one.
+use crate::list::LENGTH_BYTES;
+use crate::list::Letter;
+use crate::say;
+use show::extract;
+ghost use mathlib.Core.Path.{_≡_};
+ghost use mathlib.Core.Bool.{true};
+ghost use Prim.Native.Nat.{_≤_};
+ghost use lib.ListN.{length};
+ghost use Rattle.letters.specs.Listed.{Whole};
+
+// Whether two runs of bytes are the same.
+fn same(a: &[u8], b: &[u8]) -> bool
+    ensures sound { λ r. ⌜ (r ≡ true → now (a .entry) ≡ now (b .entry)) ⌝ }
+    ensures complete { λ r. ⌜ (now (a .entry) ≡ now (b .entry) → r ≡ true) ⌝ }
+{
+    if a.len() != b.len() {
+        return false;
+    }
+    let mut i = 0;
+    while i < a.len() {
+        let left = a[i];
+        let right = b[i];
+        if left != right {
+            return false;
+        }
+        i += 1;
+    }
+    true
+}
+
+// One more letter that got this answer.
+fn count_in(answer: u32, answers: &mut [u32]) {
+    let at = answer as usize;
+    if at < answers.len() {
+        let before = answers[at];
+        if before < 4294967295 {
+            answers[at] = before + 1;
+        }
+    }
+}
+
+// Reads the letter at the front of `rest`: 1 if its listing is the expected one, else 0. `letters` and `agree` count those before;
+// the first letter that does not agree is said.
+pub fn read_and_judge(
+    rest: &[u8],
+    letter: Letter,
+    page: &mut [u8],
+    answers: &mut [u32],
+    letters: usize,
+    agree: usize,
+) -> usize
+    requires { ⌜ Whole (length (now rest)) letter ⌝ }
+    ensures { λ r. ⌜ r ≤ 1 ⌝ }
+{
+    let letter_end = letter.letter;
+    let from = letter.listing;
+    let end = letter.end;
+    let listed = extract(&rest[LENGTH_BYTES..letter_end], page);
+    let bytes = listed.bytes;
+    count_in(listed.number, answers);
+    if same(&rest[from..end], &page[..bytes]) {
+        return 1;
+    }
+    if letters == agree {
+        say::difference(letters, &rest[from..end], &page[..bytes]);
+    }
+    0
+}

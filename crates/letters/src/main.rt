@@ -1,0 +1,81 @@
+// Reads letters as the extractor does, and says whether their listings are the expected ones. Before that, a few letters in small
+// rooms, where the answers are those that no letter gets in the extractor's.
+//
+//   list    how the file of letters is laid out, and where its next letter stands
+//   judge   one listing of ours against the expected one
+//   small   letters in small rooms
+//   say     the lines that are written
+//
+// The letters are in data/listings.bin; data/README.md says what it holds and how it was made.
+mod judge;
+mod list;
+mod say;
+mod small;
+
+use judge::read_and_judge;
+use list::Front;
+use list::next;
+use say::End;
+use say::Tally;
+use show::PAGE_BYTES;
+
+// The longest file that is read, and a byte more.
+const FILE_ROOM: usize = 524288;
+
+// Answers 0 to 25.
+const ANSWERS: usize = 26;
+
+// Every letter of the file, up to its end or to where it is cut short.
+fn replay(file: &[u8], page: &mut [u8], answers: &mut [u32]) -> Tally {
+    let mut rest = file;
+    let mut letters: usize = 0;
+    let mut agree: usize = 0;
+    while 0 < rest.len() {
+        let found = next(rest);
+        match found {
+            Front::Letter(letter) => {
+                let end = letter.end;
+                agree += read_and_judge(rest, letter, page, answers, letters, agree);
+                letters += 1;
+                rest = &rest[end..];
+            }
+            Front::CutShort => {
+                return Tally {
+                    letters: letters,
+                    agree: agree,
+                    end: End::CutShort,
+                };
+            }
+        }
+    }
+    Tally {
+        letters: letters,
+        agree: agree,
+        end: End::Whole,
+    }
+}
+
+fn main() {
+    let file = os::open_read(b"listings.bin");
+    if file < 0 {
+        say::text(b"listings.bin cannot be opened\n");
+        return;
+    }
+    let mut bytes = [0u8; FILE_ROOM];
+    let n = io::read_full(file, &mut bytes);
+    libc::close(file);
+    if n == 0 {
+        say::text(b"listings.bin is empty or cannot be read\n");
+        return;
+    }
+    if n == FILE_ROOM {
+        say::text(b"listings.bin is longer than this program reads\n");
+        return;
+    }
+    small::all();
+    let mut page = [0u8; PAGE_BYTES];
+    let mut answers = [0u32; ANSWERS];
+    let tally = replay(&bytes[..n], &mut page, &mut answers);
+    say::answers(&answers);
+    say::last_line(tally);
+}

@@ -1,0 +1,266 @@
+// Letters in small rooms, which hold other words before: a line for each with the letter, the reading, the rooms' sizes in words
+// and for the text in bytes; the answer and the counts; the text; and whether all behind the counts is zero, which after a
+// refusal is all of every room.
+use crate::say::number;
+use crate::say::text;
+use reader::Answer;
+use show::BLOCK;
+use show::COLOUR;
+use show::FONT;
+use show::Summary;
+use show::TOKEN;
+use show::sum_up;
+use styles::Reading;
+ghost use mathlib.Core.Path.{_≡_};
+ghost use mathlib.Core.Bool.{true};
+ghost use Prim.Native.Nat.{ℕ, _<_, _≤_};
+ghost use lib.ListN.{length, getD};
+
+// No word or byte that the reader should leave.
+const JUNK: u32 = 0xa5a5_5a5a;
+
+const JUNK_BYTE: u8 = 0xa5;
+
+// The largest of these rooms.
+const TOKENS: usize = 48;
+
+const FONTS: usize = 8;
+
+const COLOURS: usize = 4;
+
+const BLOCKS: usize = 32;
+
+const TEXT: usize = 8;
+
+struct Sizes {
+    tokens: usize,
+    fonts: usize,
+    colours: usize,
+    blocks: usize,
+    text: usize,
+}
+
+// The first word behind so many records, or behind those that the room has whole.
+fn behind(room: &[u32], count: usize, width: usize) -> usize
+    ensures { λ r. ⌜ r ≤ length (now (room .entry)) ⌝ }
+{
+    let mut at = 0;
+    let mut k = 0;
+    while k < count {
+        if room.len() - at < width {
+            return at;
+        }
+        at += width;
+        k += 1;
+    }
+    at
+}
+
+// Whether every word from a place on is zero.
+fn zero_from(room: &[u32], from: usize) -> bool
+    ensures { λ r. ⌜ (r ≡ true → (k : ℕ) → from ≤ k → k < length (now (room .entry)) → getD (now (room .entry)) k 0 ≡ 0) ⌝ }
+{
+    let mut at = from;
+    while at < room.len() {
+        let word = room[at];
+        if word != 0 {
+            return false;
+        }
+        at += 1;
+    }
+    true
+}
+
+// Whether every byte from a place on is zero.
+fn zero_bytes_from(room: &[u8], from: usize) -> bool
+    ensures { λ r. ⌜ (r ≡ true → (k : ℕ) → from ≤ k → k < length (now (room .entry)) → getD (now (room .entry)) k 0 ≡ 0) ⌝ }
+{
+    let mut at = from;
+    while at < room.len() {
+        let byte = room[at];
+        if byte != 0 {
+            return false;
+        }
+        at += 1;
+    }
+    true
+}
+
+// A number behind a space.
+fn item(n: usize) {
+    text(b" ");
+    number(n as u64);
+}
+
+fn byte_item(byte: u8) {
+    item(byte as usize);
+}
+
+// The bytes of a text, as numbers.
+fn bytes(all: &[u8], count: usize) {
+    let mut i = 0;
+    while i < count {
+        if all.len() <= i {
+            return;
+        }
+        let byte = all[i];
+        byte_item(byte);
+        i += 1;
+    }
+}
+
+fn reading_of(paragraphs: bool) -> Reading {
+    if paragraphs {
+        return Reading::Paragraphs;
+    }
+    Reading::Plain
+}
+
+fn say_question(letter: &[u8], paragraphs: bool, sizes: Sizes) {
+    text(letter);
+    if paragraphs {
+        text(b" by paragraphs in");
+    } else {
+        text(b" in");
+    }
+    item(sizes.tokens);
+    item(sizes.fonts);
+    item(sizes.colours);
+    item(sizes.blocks);
+    item(sizes.text);
+}
+
+// Answer, counts and text.
+fn say_told(told: Summary, room: &[u8]) {
+    let counts = told.counts;
+    text(b": ");
+    number(told.number as u64);
+    item(counts.tokens);
+    item(counts.fonts);
+    item(counts.colours);
+    item(counts.blocks);
+    item(counts.text);
+    if 0 < counts.text {
+        text(b", text");
+        bytes(room, counts.text);
+    }
+}
+
+// Whether a room of records is zero behind so many.
+fn rest_zero(room: &[u32], count: usize, width: usize) -> bool {
+    let at = behind(room, count, width);
+    zero_from(room, at)
+}
+
+fn say_answer(
+    answer: Answer,
+    tokens: &[u32],
+    fonts: &[u32],
+    colours: &[u32],
+    blocks: &[u32],
+    room: &[u8],
+) {
+    let told = sum_up(answer);
+    let counts = told.counts;
+    say_told(told, room);
+    let token_rest = rest_zero(tokens, counts.tokens, TOKEN);
+    let font_rest = rest_zero(fonts, counts.fonts, FONT);
+    let colour_rest = rest_zero(colours, counts.colours, COLOUR);
+    let block_rest = rest_zero(blocks, counts.blocks, BLOCK);
+    let text_rest = zero_bytes_from(room, counts.text);
+    if token_rest & font_rest & colour_rest & block_rest & text_rest {
+        text(b", the rest zero\n");
+    } else {
+        text(b", the rest not zero\n");
+    }
+}
+
+fn read_and_say(
+    letter: &[u8],
+    paragraphs: bool,
+    tokens: &mut [u32],
+    fonts: &mut [u32],
+    colours: &mut [u32],
+    blocks: &mut [u32],
+    room: &mut [u8],
+) {
+    let reading = reading_of(paragraphs);
+    let answer = reader::read(letter, reading, tokens, fonts, colours, blocks, room);
+    say_answer(answer, tokens, fonts, colours, blocks, room);
+}
+
+fn one(letter: &[u8], paragraphs: bool, sizes: Sizes)
+    requires { ⌜ (sizes .tokens ≤ 48) × (sizes .fonts ≤ 8) × (sizes .colours ≤ 4) × (sizes .blocks ≤ 32) × (sizes .text ≤ 8) ⌝ }
+{
+    say_question(letter, paragraphs, sizes);
+    let t = sizes.tokens;
+    let f = sizes.fonts;
+    let c = sizes.colours;
+    let b = sizes.blocks;
+    let x = sizes.text;
+    let mut tokens = [JUNK; TOKENS];
+    let mut fonts = [JUNK; FONTS];
+    let mut colours = [JUNK; COLOURS];
+    let mut blocks = [JUNK; BLOCKS];
+    let mut room = [JUNK_BYTE; TEXT];
+    read_and_say(
+        letter,
+        paragraphs,
+        &mut tokens[..t],
+        &mut fonts[..f],
+        &mut colours[..c],
+        &mut blocks[..b],
+        &mut room[..x],
+    );
+}
+
+fn rooms(tokens: usize, fonts: usize, colours: usize, blocks: usize, text: usize) -> Sizes
+    ensures { λ r. ⌜ (r .tokens ≡ tokens) × (r .fonts ≡ fonts) × (r .colours ≡ colours) × (r .blocks ≡ blocks) × (r .text ≡ text) ⌝ }
+{
+    Sizes {
+        tokens: tokens,
+        fonts: fonts,
+        colours: colours,
+        blocks: blocks,
+        text: text,
+    }
+}
+
+// Tokens, blocks and text: just enough; no whole number of records; a token, a block, a byte too few. The block is asked for
+// before the text.
+fn one_block() {
+    one(b"{a}", false, rooms(18, 0, 0, 13, 1));
+    one(b"{a}", false, rooms(23, 2, 1, 25, 2));
+    one(b"{a}", false, rooms(17, 0, 0, 13, 1));
+    one(b"{a}", false, rooms(18, 0, 0, 12, 0));
+    one(b"{a}", false, rooms(18, 0, 0, 13, 0));
+}
+
+// The same for a second block, when one is written already.
+fn two_blocks() {
+    one(b"{a\\b b}", false, rooms(30, 0, 0, 26, 2));
+    one(b"{a\\b b}", false, rooms(30, 0, 0, 25, 2));
+    one(b"{a\\b b}", false, rooms(30, 0, 0, 26, 1));
+}
+
+// A second font, a second colour.
+fn tables() {
+    one(b"{\\fonttbl{\\f1 A;}}", false, rooms(42, 6, 0, 0, 0));
+    one(b"{\\fonttbl{\\f1 A;}}", false, rooms(42, 5, 0, 0, 0));
+    one(b"{\\colortbl\\blue1\\blue2}", false, rooms(30, 0, 2, 0, 0));
+    one(b"{\\colortbl\\blue1\\blue2}", false, rooms(30, 0, 1, 0, 0));
+}
+
+// Both readings.
+fn readings() {
+    one(b"{a\\par b}", false, rooms(30, 0, 0, 13, 2));
+    one(b"{a\\par b}", true, rooms(30, 0, 0, 13, 2));
+    one(b"{a\\par b}", true, rooms(30, 0, 0, 13, 3));
+}
+
+pub fn all() {
+    one_block();
+    two_blocks();
+    tables();
+    readings();
+}

@@ -1,0 +1,30 @@
+-- The reader's answer as six numbers.
+--     narrow-fits, -not    a count that fits 32 bits, and one that does not
+--     answer-read, -refuses    the answer, by its case
+-- Assumes nothing.
+use Prim.Native.Nat.{ℕ, _≤_, _<_}
+use mathlib.Core.Path.{_≡_}
+use borrow.Author.Tests.{lt-ltb, le-ltb}
+use Rattle.answers.specs.Answers.{whyNumber}
+use Rattle.answers.specs.declared.Refusal.{Refusal}
+use Rattle.reader.specs.declared.Answer.{Answer}
+use Rattle.reader.specs.declared.Answer.the-variants.{Read, Refuses}
+use Rattle.reader.specs.declared.Counts.{Counts}
+use Rattle.reader_c.specs.Hosts.{narrowed, answerOf}
+
+pub narrow-fits : {n : ℕ} → n < 4294967296 → n ≡ narrowed n
+unfolding narrowed
+narrow-fits {n} h = rw (lt-ltb n 4294967296 h)
+
+pub narrow-not : {n : ℕ} → 4294967296 ≤ n → 4294967295 ≡ narrowed n
+unfolding narrowed
+narrow-not {n} h = rw (le-ltb n 4294967296 h)
+
+pub answer-read : {a : Answer} {n : Counts} {t f c b x : ℕ} → a ≡ Read n
+    → t ≡ narrowed (n .tokens) → f ≡ narrowed (n .fonts) → c ≡ narrowed (n .colours) → b ≡ narrowed (n .blocks) → x ≡ narrowed (n .text)
+    → record { refusal = 0; tokens = t; fonts = f; colours = c; blocks = b; text = x } ≡ answerOf a
+answer-read e t f c b x = rw (e, t, f, c, b, x)
+
+pub answer-refuses : {a : Answer} {r : Refusal} {k : ℕ} → a ≡ Refuses r → k ≡ whyNumber (r .why)
+    → record { refusal = k; tokens = 0; fonts = 0; colours = 0; blocks = 0; text = 0 } ≡ answerOf a
+answer-refuses e h = rw (e, h)

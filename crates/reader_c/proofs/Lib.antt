@@ -1,0 +1,2 @@
+-- Hosts: an answer as a host gets it, by its case.
+mod Hosts

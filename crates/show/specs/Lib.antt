@@ -1,0 +1,3 @@
+-- Pages: bytes put on a page. Listings: what an answer's listing says, as text.
+pub mod Pages
+pub mod Listings
