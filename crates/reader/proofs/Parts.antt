@@ -58,6 +58,10 @@ starts-first (Shown.unknown p bs num) ts = refl
 pub start-first : (src : List ℕ) (n : ℕ) (ws : List ℕ) {i : Item} {r : Outcome} → (n ≡ 0 → ⊥) → i ≡ itemAt ws → ((s : List ℕ) → r ≡ firstOf (shownOf s i)) → Starts (begun (shownAll src n ws)) r
 start-first src n ws z e f = rw (shown-some src n ws (omega arith), f src, e) (starts-first (shownOf src (itemAt ws)) _)
 
+-- a room that is cleared from its start
+pub cleared : (room : List ℕ) {room′ : List ℕ} → room′ ≡ take 0 room ++ replicate (length room - 0) 0 → room′ ≡ replicate (length room) 0
+cleared room e = let q : length room - 0 ≡ length room = omega arith in e ∙ rw q
+
 -- a room whose front is written, and the rest cleared
 pub filled-front : (total k : ℕ) (ws room room′ : List ℕ) → room′ ≡ take k room ++ replicate (length room - k) 0 → take k room ≡ ws → length ws ≡ k → length room ≡ total
     → room′ ≡ filled total ws

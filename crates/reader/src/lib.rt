@@ -20,8 +20,6 @@ use pages::BLOCK_WORDS;
 use pages::Laid;
 use pages::Page;
 use pages::finish;
-use rooms::clear;
-use rooms::clear_bytes;
 use rooms::clear_bytes_from;
 use rooms::clear_from;
 use styles::Reading;
@@ -152,11 +150,11 @@ fn refuse(
     ensures block_room { λ _. ⌜ now (blocks .exit) ≡ replicate (length (now (blocks .entry))) 0 ⌝ }
     ensures text_room { λ _. ⌜ now (text .exit) ≡ replicate (length (now (text .entry))) 0 ⌝ }
 {
-    clear(tokens);
-    clear(fonts);
-    clear(colours);
-    clear(blocks);
-    clear_bytes(text);
+    clear_from(tokens, 0);
+    clear_from(fonts, 0);
+    clear_from(colours, 0);
+    clear_from(blocks, 0);
+    clear_bytes_from(text, 0);
     Answer::Refuses(refusal)
 }
 
