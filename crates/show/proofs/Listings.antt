@@ -7,6 +7,7 @@
 --     lines-start, -more, -short, -end  the records that are left of a room
 --     text-part, -all                   a text that goes on, and one that does not
 --     listing-refused, -read            the whole, by the answer's number
+--     extract-long, -read               the extractor, by the letter's length
 -- Assumes nothing.
 use Prim.Native.Nat.{ℕ, zero, suc, _+_, _-_, _≤_, _<_}
 use mathlib.Core.Path.{_≡_, refl, sym, ap, _∙_}
@@ -17,13 +18,17 @@ use borrow.Author.Tests.{ltb-true, ltb-false, lt-ltb, le-ltb, eq-eqb, ne-eqb}
 use lib.Dec.{ltb, eqb}
 use lib.ListN.{length, take, drop, getD, length-drop, drop-of-length-le}
 use lib.Seq.{drop-cons, take-all}
-use Rattle.answers.specs.Answers.{whyNumber}
+use Rattle.answers.specs.declared.Why.the-variants.{SourceTooLong}
+use Rattle.answers.specs.Answers.{refusal, whyNumber}
+use Rattle.styles.specs.declared.Reading.the-variants.{Plain}
+use Rattle.reader.specs.Reading.{sizes, readAnswer, fontRoom, colourRoom, blockRoom, textRoom}
+use Rattle.show.specs.Pages.{Put}
 use Rattle.answers.specs.declared.Refusal.{Refusal}
 use Rattle.reader.specs.declared.Answer.{Answer}
 use Rattle.reader.specs.declared.Answer.the-variants.{Read, Refuses}
 use Rattle.reader.specs.declared.Counts.{Counts}
 use Rattle.show.specs.declared.Summary.{Summary}
-use Rattle.show.specs.Listings.{decimal, signed, mark, line, lines, summary, item, headLine, textLine, roomLines, listing}
+use Rattle.show.specs.Listings.{decimal, signed, mark, line, lines, summary, item, headLine, textLine, roomLines, listing, extractorRooms, extractedAnswer, extracted}
 
 pub summary-read : {a : Answer} {n : Counts} → a ≡ Read n → record { number = 0; counts = n } ≡ summary a
 summary-read e = rw e
@@ -114,3 +119,30 @@ module _ (s : Summary) (fonts colours blocks text : List ℕ) where
       ≡ listing s fonts colours blocks text
   unfolding listing roomLines
   listing-read h = rw (eq-eqb (s .number) 0 h)
+
+-- the extractor: a letter that is too long, and one that is read
+module _ (letter : List ℕ) {a : Answer} {k : ℕ} {page page′ : List ℕ} {r : ℕ} where
+  pub extract-long : 8192 < length letter → {w : Refusal} → w ≡ refusal SourceTooLong → a ≡ Refuses w → (fs cs bs tx : List ℕ)
+      → k ≡ summary a .number → Put page 0 (listing (summary a) fs cs bs tx) page′ r
+      → (k ≡ summary (extractedAnswer letter) .number) × Put page 0 (extracted letter) page′ r
+  unfolding extractedAnswer extracted listing
+  extract-long h {w} f e fs cs bs tx n p =
+      let t : ltb 8192 (length letter) ≡ true = lt-ltb 8192 (length letter) h in
+      let x : a ≡ Refuses (refusal SourceTooLong) = e ∙ ap Refuses f in
+      (rw t (rw x at n), rw t (rw x at p))
+
+  pub extract-read : (tk fs cs bs tx : List ℕ) → length letter ≤ 8192 → length tk ≡ 6144 → length fs ≡ 768 → length cs ≡ 256 → length bs ≡ 1664 → length tx ≡ 8192
+      → {fs′ cs′ bs′ tx′ : List ℕ} → a ≡ readAnswer Plain letter (sizes tk fs cs bs tx) → fs′ ≡ fontRoom Plain letter (sizes tk fs cs bs tx)
+      → cs′ ≡ colourRoom Plain letter (sizes tk fs cs bs tx) → bs′ ≡ blockRoom Plain letter (sizes tk fs cs bs tx) → tx′ ≡ textRoom Plain letter (sizes tk fs cs bs tx)
+      → k ≡ summary a .number → Put page 0 (listing (summary a) fs′ cs′ bs′ tx′) page′ r
+      → (k ≡ summary (extractedAnswer letter) .number) × Put page 0 (extracted letter) page′ r
+  unfolding extractedAnswer extracted
+  extract-read tk fs cs bs tx h lt lf lc lb lx e f c b x n p =
+      let t : ltb 8192 (length letter) ≡ false = le-ltb 8192 (length letter) h in
+      let z : sizes tk fs cs bs tx ≡ extractorRooms = rw (lt, lf, lc, lb, lx) in
+      let e′ : a ≡ readAnswer Plain letter extractorRooms = e ∙ ap (readAnswer Plain letter) z in
+      let f′ = f ∙ ap (fontRoom Plain letter) z in
+      let c′ = c ∙ ap (colourRoom Plain letter) z in
+      let b′ = b ∙ ap (blockRoom Plain letter) z in
+      let x′ = x ∙ ap (textRoom Plain letter) z in
+      (rw t (rw e′ at n), rw t (rw (e′, f′, c′, b′, x′) at p))

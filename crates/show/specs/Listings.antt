@@ -6,7 +6,10 @@ use mathlib.Core.List.{List, [], _∷_, _++_}
 use lib.Dec.{ltb, eqb}
 use lib.ListN.{length, take, drop}
 use Rattle.io.specs.Digits.{digits}
-use Rattle.answers.specs.Answers.{whyNumber}
+use Rattle.answers.specs.declared.Why.the-variants.{SourceTooLong}
+use Rattle.answers.specs.Answers.{refusal, whyNumber}
+use Rattle.styles.specs.declared.Reading.the-variants.{Plain}
+use Rattle.reader.specs.Reading.{Sizes, readAnswer, fontRoom, colourRoom, blockRoom, textRoom}
 use Rattle.reader.specs.declared.Answer.{Answer}
 use Rattle.reader.specs.declared.Answer.the-variants.{Read, Refuses}
 use Rattle.reader.specs.declared.Counts.{Counts}
@@ -62,3 +65,17 @@ roomLines n fonts colours blocks text = lines 3 (n .fonts) fonts ++ (lines 1 (n 
 
 unfoldable pub listing : Summary → List ℕ → List ℕ → List ℕ → List ℕ → List ℕ
 listing s fonts colours blocks text = headLine s ++ cond (eqb (s .number) 0) (roomLines (s .counts) fonts colours blocks text) []
+
+-- "8,192 bytes, 1,024 tokens, 128 blocks, 256 fonts and colours, 8,192 text bytes": the rooms' words
+abbrev pub extractorRooms : Sizes
+extractorRooms = record { tokens = 6144; fonts = 768; colours = 256; blocks = 1664; text = 8192 }
+
+-- "longer input gets 1"
+unfoldable pub extractedAnswer : List ℕ → Answer
+extractedAnswer letter = cond (ltb 8192 (length letter)) (Refuses (refusal SourceTooLong)) (readAnswer Plain letter extractorRooms)
+
+-- what the extractor prints of a letter
+unfoldable pub extracted : List ℕ → List ℕ
+extracted letter =
+    let z = extractorRooms in
+    listing (summary (extractedAnswer letter)) (fontRoom Plain letter z) (colourRoom Plain letter z) (blockRoom Plain letter z) (textRoom Plain letter z)

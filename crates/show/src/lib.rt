@@ -22,7 +22,7 @@ ghost use mathlib.Core.Path.{_≡_};
 ghost use Prim.Native.Nat.{_≤_};
 ghost use lib.ListN.{length};
 ghost use Rattle.show.specs.Pages.{Put};
-ghost use Rattle.show.specs.Listings.{summary, headLine, textLine, listing};
+ghost use Rattle.show.specs.Listings.{summary, headLine, textLine, listing, extractedAnswer, extracted};
 
 // The words of a record.
 pub const TOKEN: usize = 6;
@@ -144,7 +144,8 @@ pub fn list(
 
 // A letter in the extractor's rooms, read plain. A longer letter than it takes gets refusal 1.
 pub fn extract(letter: &[u8], page: &mut [u8]) -> Listed
-    ensures { λ r. ⌜ r .bytes ≤ length (now (page .entry)) ⌝ }
+    ensures number { λ r. ⌜ r .number ≡ summary (extractedAnswer (now (letter .entry))) .number ⌝ }
+    ensures content { λ r. ⌜ Put (now (page .entry)) 0 (extracted (now (letter .entry))) (now (page .exit)) (r .bytes) ⌝ }
 {
     let mut tokens = [0u32; TOKEN_WORDS];
     let mut fonts = [0u32; FONT_WORDS];

@@ -32,7 +32,7 @@ array-share-prefix-page : tie.Need-array-share-prefix-page
 array-share-prefix-page c = search needs
 
 slice-aggregate-write-all : tie.Need-slice-aggregate-write-all
-slice-aggregate-write-all c = simp (length-take) (omega (arith, c .before .before .extract .kept .1 .0, c .before .before .extract .ensures))
+slice-aggregate-write-all c = simp (length-take) (omega (arith, c .before .before .extract .kept .1 .0, c .before .before .extract .ensures .1 .within))
 
 write-all-requires : tie.Need-write-all-requires
 write-all-requires c κs = search needs

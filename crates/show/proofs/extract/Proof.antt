@@ -1,7 +1,9 @@
--- `extract` is safe: what is listed lies within the page.
-use native.Mathlib.Omega.{arith}
+-- `extract` meets its contract: a letter that is too long, or the reader's answer in the extractor's rooms.
+use mathlib.Core.Path.{refl}
+use Prim.Native.Nat.{ℕ}
+use lib.ListN.{replicate, length-replicate}
+use Rattle.show.proofs.Listings.{extract-long, extract-read}
 use borrow.Author.Needs.{needs}
-use lib.ListN.{length-replicate}
 use Rattle.show.proofs.extract.Statement.{statement}
 use Rattle.show.proofs.extract.Tie as tie
 use Rattle.show.proofs.extract.Reads as reads
@@ -32,7 +34,7 @@ same-length : tie.Need-same-length
 same-length c = search needs
 
 returns : tie.Need-returns
-returns c = search needs
+returns c = extract-long _ (c .before .before .before .before .before .before .before .before .before .if1 .taken) (c .before .before .before .before .before .before .before .before .of .ensures) refl _ _ _ _ (c .before .before .list .ensures .0) (c .before .before .list .ensures .1)
 
 slice-aggregate-read : tie.Need-slice-aggregate-read
 slice-aggregate-read c = search needs
@@ -71,7 +73,7 @@ same-length-2 : tie.Need-same-length-2
 same-length-2 c = search needs
 
 returns-2 : tie.Need-returns-2
-returns-2 c = search needs
+returns-2 c = extract-read _ (replicate 6144 0) (replicate 768 0) (replicate 256 0) (replicate 1664 0) (replicate 8192 0) (c .before .before .before .before .before .before .before .before .before .before .before .before .before .before .before .before .before .before .before .if1 .left) (length-replicate {A = ℕ} 6144 0) (length-replicate {A = ℕ} 768 0) (length-replicate {A = ℕ} 256 0) (length-replicate {A = ℕ} 1664 0) (length-replicate {A = ℕ} 8192 0) (c .before .before .before .before .before .before .before .before .before .before .before .before .before .read .ensures .0) (c .before .before .before .before .before .before .before .before .before .before .before .before .before .read .ensures .1 .1 .0) (c .before .before .before .before .before .before .before .before .before .before .before .before .before .read .ensures .1 .1 .1 .0) (c .before .before .before .before .before .before .before .before .before .before .before .before .before .read .ensures .1 .1 .1 .1 .0) (c .before .before .before .before .before .before .before .before .before .before .before .before .before .read .ensures .1 .1 .1 .1 .1) (c .before .before .list2 .ensures .0) (c .before .before .list2 .ensures .1)
 
 pub extract-spec : {M : Type 1} → statement M
 extract-spec =

@@ -39,7 +39,7 @@ slice-reshare-prefix-same : tie.Need-slice-reshare-prefix-same
 slice-reshare-prefix-same c = search needs
 
 slice-aggregate-same : tie.Need-slice-aggregate-same
-slice-aggregate-same c = simp length-take (omega (arith, c .before .before .before .before .before .before .before .before .extract .ensures, c .before .before .before .before .before .before .before .before .extract .kept .1 .0))
+slice-aggregate-same c = simp length-take (omega (arith, c .before .before .before .before .before .before .before .before .extract .ensures .1 .within, c .before .before .before .before .before .before .before .before .extract .kept .1 .0))
 
 same-requires : tie.Need-same-requires
 same-requires c κs = search needs
@@ -66,7 +66,7 @@ slice-reshare-prefix-difference : tie.Need-slice-reshare-prefix-difference
 slice-reshare-prefix-difference c = search needs
 
 slice-aggregate-difference : tie.Need-slice-aggregate-difference
-slice-aggregate-difference c = simp length-take (omega (arith, c .before .before .before .before .before .before .before .before .before .before .before .before .before .extract .ensures, c .before .before .before .before .before .before .before .before .before .before .before .before .before .extract .kept .1 .0))
+slice-aggregate-difference c = simp length-take (omega (arith, c .before .before .before .before .before .before .before .before .before .before .before .before .before .extract .ensures .1 .within, c .before .before .before .before .before .before .before .before .before .before .before .before .before .extract .kept .1 .0))
 
 difference-requires : tie.Need-difference-requires
 difference-requires c κs = search needs
