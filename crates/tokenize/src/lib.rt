@@ -253,7 +253,15 @@ pub fn tokenize(s: &[u8], place: usize, names: &Table, room: &mut [u32], n: usiz
         if s.len() == 1 {
             return Outcome::Done(m);
         }
-        return tokenize(&s[1..], place + 1, names, room, m);
+        let rest = tokenize(&s[1..], place + 1, names, room, m);
+        match rest {
+            Outcome::Refused(refusal) => {
+                return Outcome::Refused(refusal);
+            }
+            Outcome::Done(k) => {
+                return Outcome::Done(k);
+            }
+        }
     }
     if b == b'\\' {
         return escaped(&s[1..], place, names, room, n);

@@ -1,7 +1,7 @@
 -- `tokenize` meets its contract: each branch is the rule of the first byte. The measure is the slice's length.
 use borrow.Author.Needs.{needs}
 use native.Mathlib.Omega.{arith}
-use mathlib.Core.Path.{refl}
+use mathlib.Core.Path.{refl, sym}
 use lib.ListN.{length, length-take, length-drop}
 use Rattle.rooms.proofs.Rooms.{wrote-none, wrote-then, wrote-as}
 use Rattle.tokens.specs.Tokens.{shownLayout}
@@ -186,6 +186,20 @@ tokenize-tokenize-requires t c κs =
     let b = mark-next _ (c .before .before .before .before .before .mark .ensures) in
     (simp (length-take, length-drop) (omega (arith, c .before .before .before .before .before .before .before .before .before .before .before .before .before .pre .0)), (simp (length-take, length-drop) (omega (arith, c .before .before .before .before .before .before .before .before .before .before .before .before .before .pre .1 .0)), omega (arith, c .before .before .before .before .before .before .before .before .before .before .before .before .before .pre .1 .1), c .before .before .before .before .before .before .before .before .before .before .before .before .before .pre .1 .2))
 
+tokenize-enum-known-rest : (t : ℕ) → tokenize-lts.Need-enum-known-rest (
+  is-mark-reads.Asked,
+  is-mark-reads.Learnt,
+  mark-reads.Asked,
+  mark-reads.Learnt,
+  tokenize-below t,
+  tokenize.Post,
+  escaped-reads.Asked,
+  escaped-reads.Learnt,
+  plain-reads.Asked,
+  plain-reads.Learnt,
+) (tokenize-at t) tokenize.Post
+tokenize-enum-known-rest t c = search needs
+
 tokenize-same-length-2 : (t : ℕ) → tokenize-lts.Need-same-length-2 (
   is-mark-reads.Asked,
   is-mark-reads.Learnt,
@@ -212,7 +226,49 @@ tokenize-returns-3 : (t : ℕ) → tokenize-lts.Need-returns-3 (
   plain-reads.Asked,
   plain-reads.Learnt,
 ) (tokenize-at t) tokenize.Post
-tokenize-returns-3 t c = wrote-then shownLayout _ (tokens-mark _ _ (c .before .before .before .before .before .before .before .before .before .before .before .before .before .if1 .left) _ (c .before .before .before .before .before .before .before .before .before .before .before .is-mark .ensures) (c .before .before .before .before .before .before .before .before .before .before .if2 .taken)) (c .before .before .before .before .before .before .before .before .mark .ensures) refl (c .before .before .tokenize .ensures)
+tokenize-returns-3 t c = wrote-then shownLayout _ (tokens-mark _ _ (c .before .before .before .before .before .before .before .before .before .before .before .before .before .before .before .before .if1 .left) _ (c .before .before .before .before .before .before .before .before .before .before .before .before .before .before .is-mark .ensures) (c .before .before .before .before .before .before .before .before .before .before .before .before .before .if2 .taken)) (c .before .before .before .before .before .before .before .before .before .before .before .mark .ensures) refl (rw (sym (c .before .rest .given .1)) (c .before .before .before .before .before .tokenize .ensures))
+
+tokenize-enum-known-rest-2 : (t : ℕ) → tokenize-lts.Need-enum-known-rest-2 (
+  is-mark-reads.Asked,
+  is-mark-reads.Learnt,
+  mark-reads.Asked,
+  mark-reads.Learnt,
+  tokenize-below t,
+  tokenize.Post,
+  escaped-reads.Asked,
+  escaped-reads.Learnt,
+  plain-reads.Asked,
+  plain-reads.Learnt,
+) (tokenize-at t) tokenize.Post
+tokenize-enum-known-rest-2 t c = search needs
+
+tokenize-same-length-3 : (t : ℕ) → tokenize-lts.Need-same-length-3 (
+  is-mark-reads.Asked,
+  is-mark-reads.Learnt,
+  mark-reads.Asked,
+  mark-reads.Learnt,
+  tokenize-below t,
+  tokenize.Post,
+  escaped-reads.Asked,
+  escaped-reads.Learnt,
+  plain-reads.Asked,
+  plain-reads.Learnt,
+) (tokenize-at t) tokenize.Post
+tokenize-same-length-3 t c = search needs
+
+tokenize-returns-4 : (t : ℕ) → tokenize-lts.Need-returns-4 (
+  is-mark-reads.Asked,
+  is-mark-reads.Learnt,
+  mark-reads.Asked,
+  mark-reads.Learnt,
+  tokenize-below t,
+  tokenize.Post,
+  escaped-reads.Asked,
+  escaped-reads.Learnt,
+  plain-reads.Asked,
+  plain-reads.Learnt,
+) (tokenize-at t) tokenize.Post
+tokenize-returns-4 t c = wrote-then shownLayout _ (tokens-mark _ _ (c .before .before .before .before .before .before .before .before .before .before .before .before .before .before .before .before .if1 .left) _ (c .before .before .before .before .before .before .before .before .before .before .before .before .before .before .is-mark .ensures) (c .before .before .before .before .before .before .before .before .before .before .before .before .before .if2 .taken)) (c .before .before .before .before .before .before .before .before .before .before .before .mark .ensures) refl (rw (sym (c .before .rest2 .given .1)) (c .before .before .before .before .before .tokenize .ensures))
 
 tokenize-sub-escaped : (t : ℕ) → tokenize-lts.Need-sub-escaped (
   is-mark-reads.Asked,
@@ -270,48 +326,6 @@ tokenize-escaped-requires : (t : ℕ) → tokenize-lts.Need-escaped-requires (
 ) (tokenize-at t) tokenize.Post
 tokenize-escaped-requires t c κs = (simp (length-take, length-drop) (omega (arith, c .before .before .before .before .before .before .before .before .before .pre .1 .0)), c .before .before .before .before .before .before .before .before .before .pre .1 .1, c .before .before .before .before .before .before .before .before .before .pre .1 .2)
 
-tokenize-same-length-3 : (t : ℕ) → tokenize-lts.Need-same-length-3 (
-  is-mark-reads.Asked,
-  is-mark-reads.Learnt,
-  mark-reads.Asked,
-  mark-reads.Learnt,
-  tokenize-below t,
-  tokenize.Post,
-  escaped-reads.Asked,
-  escaped-reads.Learnt,
-  plain-reads.Asked,
-  plain-reads.Learnt,
-) (tokenize-at t) tokenize.Post
-tokenize-same-length-3 t c = search needs
-
-tokenize-returns-4 : (t : ℕ) → tokenize-lts.Need-returns-4 (
-  is-mark-reads.Asked,
-  is-mark-reads.Learnt,
-  mark-reads.Asked,
-  mark-reads.Learnt,
-  tokenize-below t,
-  tokenize.Post,
-  escaped-reads.Asked,
-  escaped-reads.Learnt,
-  plain-reads.Asked,
-  plain-reads.Learnt,
-) (tokenize-at t) tokenize.Post
-tokenize-returns-4 t c = wrote-as shownLayout (tokens-escaped _ _ (c .before .before .before .before .before .before .before .before .before .if1 .left) _ (c .before .before .before .before .before .before .before .is-mark .ensures) (c .before .before .before .before .before .before .if2 .left) (c .before .before .before .before .before .if4 .taken)) (c .before .before .escaped .ensures)
-
-tokenize-plain-requires : (t : ℕ) → tokenize-lts.Need-plain-requires (
-  is-mark-reads.Asked,
-  is-mark-reads.Learnt,
-  mark-reads.Asked,
-  mark-reads.Learnt,
-  tokenize-below t,
-  tokenize.Post,
-  escaped-reads.Asked,
-  escaped-reads.Learnt,
-  plain-reads.Asked,
-  plain-reads.Learnt,
-) (tokenize-at t) tokenize.Post
-tokenize-plain-requires t c κs = search needs
-
 tokenize-same-length-4 : (t : ℕ) → tokenize-lts.Need-same-length-4 (
   is-mark-reads.Asked,
   is-mark-reads.Learnt,
@@ -338,7 +352,49 @@ tokenize-returns-5 : (t : ℕ) → tokenize-lts.Need-returns-5 (
   plain-reads.Asked,
   plain-reads.Learnt,
 ) (tokenize-at t) tokenize.Post
-tokenize-returns-5 t c = wrote-as shownLayout (tokens-plain _ _ (c .before .before .before .before .before .before .before .before .if1 .left) _ (c .before .before .before .before .before .before .is-mark .ensures) (c .before .before .before .before .before .if2 .left) (c .before .before .before .before .if4 .left)) (c .before .before .plain .ensures)
+tokenize-returns-5 t c = wrote-as shownLayout (tokens-escaped _ _ (c .before .before .before .before .before .before .before .before .before .if1 .left) _ (c .before .before .before .before .before .before .before .is-mark .ensures) (c .before .before .before .before .before .before .if2 .left) (c .before .before .before .before .before .if4 .taken)) (c .before .before .escaped .ensures)
+
+tokenize-plain-requires : (t : ℕ) → tokenize-lts.Need-plain-requires (
+  is-mark-reads.Asked,
+  is-mark-reads.Learnt,
+  mark-reads.Asked,
+  mark-reads.Learnt,
+  tokenize-below t,
+  tokenize.Post,
+  escaped-reads.Asked,
+  escaped-reads.Learnt,
+  plain-reads.Asked,
+  plain-reads.Learnt,
+) (tokenize-at t) tokenize.Post
+tokenize-plain-requires t c κs = search needs
+
+tokenize-same-length-5 : (t : ℕ) → tokenize-lts.Need-same-length-5 (
+  is-mark-reads.Asked,
+  is-mark-reads.Learnt,
+  mark-reads.Asked,
+  mark-reads.Learnt,
+  tokenize-below t,
+  tokenize.Post,
+  escaped-reads.Asked,
+  escaped-reads.Learnt,
+  plain-reads.Asked,
+  plain-reads.Learnt,
+) (tokenize-at t) tokenize.Post
+tokenize-same-length-5 t c = search needs
+
+tokenize-returns-6 : (t : ℕ) → tokenize-lts.Need-returns-6 (
+  is-mark-reads.Asked,
+  is-mark-reads.Learnt,
+  mark-reads.Asked,
+  mark-reads.Learnt,
+  tokenize-below t,
+  tokenize.Post,
+  escaped-reads.Asked,
+  escaped-reads.Learnt,
+  plain-reads.Asked,
+  plain-reads.Learnt,
+) (tokenize-at t) tokenize.Post
+tokenize-returns-6 t c = wrote-as shownLayout (tokens-plain _ _ (c .before .before .before .before .before .before .before .before .if1 .left) _ (c .before .before .before .before .before .before .is-mark .ensures) (c .before .before .before .before .before .if2 .left) (c .before .before .before .before .if4 .left)) (c .before .before .plain .ensures)
 
 pub +tokenize-spec : {M : Type 1} → statement M
 +tokenize-spec = close μ-tokenize λ t. tokenize-lts.spec (
@@ -366,14 +422,18 @@ pub +tokenize-spec : {M : Type 1} → statement M
     (tokenize-part-tokenize-end t)
     (tokenize-add-tokenize t)
     (tokenize-tokenize-requires t)
+    (tokenize-enum-known-rest t)
     (tokenize-same-length-2 t)
     (tokenize-returns-3 t)
+    (tokenize-enum-known-rest-2 t)
+    (tokenize-same-length-3 t)
+    (tokenize-returns-4 t)
     (tokenize-sub-escaped t)
     (tokenize-part-escaped-start t)
     (tokenize-part-escaped-end t)
     (tokenize-escaped-requires t)
-    (tokenize-same-length-3 t)
-    (tokenize-returns-4 t)
-    (tokenize-plain-requires t)
     (tokenize-same-length-4 t)
     (tokenize-returns-5 t)
+    (tokenize-plain-requires t)
+    (tokenize-same-length-5 t)
+    (tokenize-returns-6 t)
