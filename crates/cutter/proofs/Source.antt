@@ -67,12 +67,6 @@ module _ (src : List ℕ) where
           let t : take (length src - a) (drop a src) ≡ drop a src = take-all (length src - a) (drop a src) (simp length-drop (omega arith)) in
           rw (le-ltb 65536 (length src) h, ← q, g, y, t, ← x)
 
--- cleared from the first word on
-pub cleared : (room room′ : List ℕ) → room′ ≡ take 0 room ++ replicate (length room - 0) 0 → room′ ≡ replicate (length room) 0
-cleared room room′ e =
-    let n : length room - 0 ≡ length room = omega arith in
-    e ∙ rw n
-
 -- what `whole` wrote, settled
 module _ (src : List ℕ) {room room′ : List ℕ} {r : Outcome} (w : Wrote tokenLayout 0 room (tokenStream src) r room′) where
   length-wrote : length room′ ≡ length room

@@ -24,7 +24,8 @@ use Rattle.styles.specs.declared.Reading.{Reading}
 use Rattle.pages.specs.declared.Page.{Page}
 use Rattle.pages.specs.declared.Laid.{Laid}
 use Rattle.pages.specs.declared.Laid.the-variants.{On, Full}
-use Rattle.rooms.specs.Rooms.{capacity}
+use Rattle.rooms.specs.Rooms.{capacity, filled}
+use Rattle.rooms.proofs.Clearing.{filled-front}
 use Rattle.pages.specs.Pages.{Piece, blocks, textOf, records, textCapacity}
 use Rattle.pages.specs.Laying.{Laying, on, off, told, blank, blockCount, lastPut, layAll, Ready}
 use Rattle.pages.proofs.Blocks.{length-records}
@@ -39,7 +40,7 @@ use Rattle.header.specs.declared.Header.the-variants.{Read as Headed, Refused a
 use Rattle.header.specs.Header.{Tables, ReadHeader}
 use Rattle.reader.specs.declared.Answer.{Answer}
 use Rattle.reader.specs.declared.Answer.the-variants.{Read, Refuses}
-use Rattle.reader.specs.Reading.{Letter, begun, ended, placed, bodied, headed, filled}
+use Rattle.reader.specs.Reading.{Letter, begun, ended, placed, bodied, headed}
 use Rattle.reader.specs.Parts.{Starts, firstOf, BodyInto, LetterInto}
 
 -- the first token
@@ -57,15 +58,6 @@ starts-first (Shown.unknown p bs num) ts = refl
 
 pub start-first : (src : List ℕ) (n : ℕ) (ws : List ℕ) {i : Item} {r : Outcome} → (n ≡ 0 → ⊥) → i ≡ itemAt ws → ((s : List ℕ) → r ≡ firstOf (shownOf s i)) → Starts (begun (shownAll src n ws)) r
 start-first src n ws z e f = rw (shown-some src n ws (omega arith), f src, e) (starts-first (shownOf src (itemAt ws)) _)
-
--- a room that is cleared from its start
-pub cleared : (room : List ℕ) {room′ : List ℕ} → room′ ≡ take 0 room ++ replicate (length room - 0) 0 → room′ ≡ replicate (length room) 0
-cleared room e = let q : length room - 0 ≡ length room = omega arith in e ∙ rw q
-
--- a room whose front is written, and the rest cleared
-pub filled-front : (total k : ℕ) (ws room room′ : List ℕ) → room′ ≡ take k room ++ replicate (length room - k) 0 → take k room ≡ ws → length ws ≡ k → length room ≡ total
-    → room′ ≡ filled total ws
-filled-front total k ws room room′ e f l h = e ∙ ap (λ (xs : List ℕ). xs ++ replicate (length room - k) 0) f ∙ rw (h, ← l)
 
 -- the body
 module _ (rd : Reading) (ts : List Shown) (b t : List ℕ) (n f c : ℕ) where

@@ -19,7 +19,7 @@ use Rattle.answers.specs.declared.Outcome.{Outcome}
 use Rattle.answers.specs.declared.Outcome.the-variants.{Done, Refused}
 use Rattle.answers.specs.Answers.{refusal}
 use Rattle.rooms.specs.Streams.{Stream, end, stop, _▸_, count, items, answer}
-use Rattle.rooms.specs.Rooms.{encode, capacity, settled, content}
+use Rattle.rooms.specs.Rooms.{encode, capacity, filled, settled, content}
 use Rattle.rooms.proofs.Streams.{Each, answer-count, done-refused}
 use Rattle.tokens.specs.declared.Property.{Property}
 use Rattle.tokens.specs.declared.Property.the-variants.{None, Value}
@@ -32,7 +32,7 @@ use Rattle.cutter.proofs.Counts.{count-stream}
 use Rattle.items.specs.declared.Item.{Item}
 use Rattle.items.specs.declared.Item.the-variants.{Unknown, Word}
 use Rattle.items.specs.Items.{propertyOf, wordItem, itemOf, itemAt, part, shownOf, shownAll}
-use Rattle.reader.specs.Reading.{shownBy, filled}
+use Rattle.reader.specs.Reading.{shownBy}
 
 number-back : (num : Property) → propertyOf (hasOf num) (valueOf num) ≡ num
 number-back None = refl

@@ -24,7 +24,7 @@ use Rattle.styles.specs.declared.Reading.{Reading}
 use Rattle.reader.specs.declared.Counts.{Counts}
 use Rattle.reader.specs.declared.Answer.{Answer}
 use Rattle.reader.specs.declared.Answer.the-variants.{Read, Refuses}
-use Rattle.reader.specs.Reading.{shownBy, begun, Sizes, Letter, headed, walked, cut, letterOf, answered, readAnswer, filled, holding, tokenRoom, fontRoom, colourRoom, blockRoom, textRoom}
+use Rattle.reader.specs.Reading.{shownBy, begun, Sizes, Letter, headed, walked, cut, letterOf, answered, readAnswer, holding, tokenRoom, fontRoom, colourRoom, blockRoom, textRoom}
 use Rattle.reader.specs.Parts.{Starts, LetterInto}
 use Rattle.reader.proofs.Tokens.{cut-counts, cut-room, cut-shown, length-items}
 

@@ -7,13 +7,14 @@ use Rattle.answers.specs.declared.Outcome.{Outcome}
 use Rattle.answers.specs.declared.Outcome.the-variants.{Done, Refused}
 use Rattle.answers.specs.declared.Why.the-variants.{FirstToken}
 use Rattle.answers.specs.Answers.{refusal, Found, found, refused}
+use Rattle.rooms.specs.Rooms.{filled}
 use Rattle.tokens.specs.Tokens.{Shown}
 use Rattle.tokens.specs.Tokens
 use Rattle.fonts.specs.Fonts.{tableWords}
 use Rattle.pages.specs.Pages.{Piece, blocks, textOf, records}
 use Rattle.reader.specs.declared.Answer.{Answer}
 use Rattle.reader.specs.declared.Answer.the-variants.{Read, Refuses}
-use Rattle.reader.specs.Reading.{Letter, filled}
+use Rattle.reader.specs.Reading.{Letter}
 
 -- the look at the first token: nothing, or a refusal
 abbrev pub Starts : Found (List Shown) → Outcome → Type 0

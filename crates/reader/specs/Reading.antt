@@ -1,7 +1,7 @@
 -- 01, Answer numbers: a letter read whole: the one answer, and the one content of the five lent rooms. Assumes nothing: these
 -- are definitions.
-use Prim.Native.Nat.{ℕ, _-_}
-use mathlib.Core.List.{List, [], _∷_, _++_}
+use Prim.Native.Nat.{ℕ}
+use mathlib.Core.List.{List, [], _∷_}
 use lib.ListN.{length, replicate}
 use Rattle.answers.specs.declared.Refusal.{Refusal}
 use Rattle.answers.specs.declared.Why.the-variants.{NoTokens, FirstToken}
@@ -9,7 +9,7 @@ use Rattle.answers.specs.declared.Outcome.{Outcome}
 use Rattle.answers.specs.declared.Outcome.the-variants.{Done, Refused}
 use Rattle.answers.specs.Answers.{refusal, whyNumber, Found, found, refused}
 use Rattle.rooms.specs.Streams.{Stream, items, answer}
-use Rattle.rooms.specs.Rooms.{encode, tableLimit, capacity}
+use Rattle.rooms.specs.Rooms.{encode, tableLimit, capacity, filled}
 use Rattle.tokens.specs.Tokens.{Shown, Token, tokenLayout}
 use Rattle.tokens.specs.Tokens
 use Rattle.cutter.specs.Cutting.{tokenStream, cutAnswer}
@@ -106,9 +106,6 @@ unfoldable pub readAnswer : Reading → List ℕ → Sizes → Answer
 readAnswer rd src z = answered src (letterOf rd src z)
 
 -- "room beyond them is zero. Any refusal .. zeroes all lent rooms."
-abbrev pub filled : ℕ → List ℕ → List ℕ
-filled total ws = ws ++ replicate (total - length ws) 0
-
 abbrev pub holding : ℕ → (Letter → List ℕ) → Found Letter → List ℕ
 holding total words (found l) = filled total (words l)
 holding total words (refused r) = replicate total 0

@@ -1,6 +1,6 @@
 -- `refuse` meets its contract: each room is cleared.
 use mathlib.Core.Path.{refl}
-use Rattle.reader.proofs.Parts.{cleared}
+use Rattle.rooms.proofs.Clearing.{cleared}
 use borrow.Author.Needs.{needs}
 use Rattle.reader.proofs.refuse.Statement.{statement}
 use Rattle.reader.proofs.refuse.Tie as tie

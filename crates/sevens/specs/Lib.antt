@@ -1,0 +1,2 @@
+-- Sevens: a stored number as seven-bit groups. Assumes nothing.
+pub mod Sevens
