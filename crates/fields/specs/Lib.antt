@@ -1,0 +1,2 @@
+-- Fields: the rules of a stored block's fields. Assumes nothing.
+pub mod Fields
