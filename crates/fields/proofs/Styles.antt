@@ -2,7 +2,7 @@
 --     follows-as           as the code tests it
 --     style-there          a style's numbers say the style
 --     style-back           numbers of 32 bits are those of the style that they say
---     numbers-small        a style's numbers have 32 bits, if its words do
+--     numbers-small, style-small   a style's numbers have 32 bits if its words do, and the other way
 -- Assumes nothing.
 use mathlib.Core.Path.{_≡_, refl, sym, ap}
 use mathlib.Core.List.{List, [], _∷_, _++_}
@@ -15,7 +15,7 @@ use Rattle.styles.specs.declared.Style.{Style}
 use Rattle.styles.specs.Styles.{sameStyle, styleWords}
 use Rattle.pages.specs.Pages.{starts}
 use Rattle.fields.specs.Fields.{folded, unfolded, styleNumbers, styleFrom, lastOf}
-use Rattle.fields.proofs.Folds.{unfold-fold, fold-unfold, folded-small}
+use Rattle.fields.proofs.Folds.{unfold-fold, fold-unfold, folded-small, unfolded-small}
 
 pub follows-as : (begun : Bool) (before s : Style) {x : Bool} → x ≡ sameStyle before s → not (begun && x) ≡ starts (lastOf begun before) s
 follows-as true before s e = rw e
@@ -59,3 +59,17 @@ numbers-small s w (suc (suc (suc (suc (suc (suc (suc (suc zero)))))))) = w 8
 numbers-small s w (suc (suc (suc (suc (suc (suc (suc (suc (suc zero))))))))) = folded-small (s .multiplier) (w 9)
 numbers-small s w (suc (suc (suc (suc (suc (suc (suc (suc (suc (suc zero)))))))))) = folded-small (s .tab) (w 10)
 numbers-small s w (suc (suc (suc (suc (suc (suc (suc (suc (suc (suc (suc i))))))))))) = omega arith
+
+pub style-small : (ns : List ℕ) → Words ns → Words (styleWords (styleFrom ns))
+style-small ns w zero = w 0
+style-small ns w (suc zero) = w 1
+style-small ns w (suc (suc zero)) = w 2
+style-small ns w (suc (suc (suc zero))) = w 3
+style-small ns w (suc (suc (suc (suc zero)))) = w 4
+style-small ns w (suc (suc (suc (suc (suc zero))))) = unfolded-small (getD ns 5 0) (w 5)
+style-small ns w (suc (suc (suc (suc (suc (suc zero)))))) = unfolded-small (getD ns 6 0) (w 6)
+style-small ns w (suc (suc (suc (suc (suc (suc (suc zero))))))) = w 7
+style-small ns w (suc (suc (suc (suc (suc (suc (suc (suc zero)))))))) = w 8
+style-small ns w (suc (suc (suc (suc (suc (suc (suc (suc (suc zero))))))))) = unfolded-small (getD ns 9 0) (w 9)
+style-small ns w (suc (suc (suc (suc (suc (suc (suc (suc (suc (suc zero)))))))))) = unfolded-small (getD ns 10 0) (w 10)
+style-small ns w (suc (suc (suc (suc (suc (suc (suc (suc (suc (suc (suc i))))))))))) = omega arith

@@ -4,14 +4,17 @@
 --     meets-.., settle         where a block is open: rooms that hold what came before hold the next blocks behind it
 --     begins                   the same from two rooms on
 --     lay-refuses, lay-joins   by how the laying ends
+--     Filled, joined-filled    rooms that are finished and cleared behind what they hold
+--     blocks-small, count-words   a page's blocks fit their room
 -- Assumes nothing.
 use mathlib.Core.Path.{_≡_, refl, sym, ap, _∙_}
 use mathlib.Core.List.{List, [], _++_, append-nil, append-assoc}
 use mathlib.Core.Bool.{Bool, true, false}
 use Prim.Native.Nat.{ℕ, suc, _+_, _-_, _*_, _<_, _≤_}
+use native.Mathlib.Nat.{div-mul-le-self, mul-le-mul-right, le-trans}
 use native.Mathlib.Omega.{arith}
 use borrow.Author.Tests.{lt-ltb, le-ltb, ltb-true, ltb-false, eq-eqb, ne-eqb, eqb-true, eqb-false}
-use lib.ListN.{length, take, drop, length-append}
+use lib.ListN.{length, take, drop, replicate, length-append}
 use lib.Seq.{sets, sets-eq, length-sets, length-take-le, take-at}
 use lib.Dec.{ltb, eqb}
 use Rattle.answers.specs.declared.Refusal.{Refusal}
@@ -19,16 +22,17 @@ use Rattle.answers.specs.declared.Outcome.the-variants.{Done, Refused}
 use Rattle.answers.specs.declared.Why.the-variants.{BlockRoom, TextRoom}
 use Rattle.answers.specs.Answers.{refusal}
 use Rattle.rooms.specs.Streams.{Stream, end, stop, _▸_, count, items, answer}
-use Rattle.rooms.specs.Rooms.{capacity, put}
+use Rattle.rooms.specs.Rooms.{capacity, put, filled}
 use Rattle.rooms.proofs.Rooms.{put-in, length-put}
+use Rattle.rooms.proofs.Clearing.{filled-front}
 use Rattle.styles.specs.declared.Style.{Style}
 use Rattle.styles.specs.Styles.{sameStyle}
 use Rattle.pages.specs.declared.Page.{Page}
 use Rattle.pages.specs.Pages.{Piece, blockWords, blockRecord, records, textCapacity, textOf, blocks, blocksFrom, none, last, roomy}
-use Rattle.pages.specs.Laying.{Laying, on, off, blank, lastPut, blockCount, startOf, addOf, layAll}
+use Rattle.pages.specs.Laying.{Laying, on, off, blank, lastPut, blockCount, startOf, addOf, layAll, Ready}
 use Rattle.pages.proofs.Writing.{cap-le, start-same, start-new, start-full, append-full, append-more}
-use Rattle.pages.proofs.Blocks.{sameStyle-eq, length-record}
-use Rattle.pages.proofs.Laying.{lay-off}
+use Rattle.pages.proofs.Blocks.{sameStyle-eq, length-record, length-records}
+use Rattle.pages.proofs.Laying.{lay-off, length-last, ready-count}
 
 -- words behind what stands before them
 sets-take : (l : List ℕ) (i : ℕ) (vs : List ℕ) → i + length vs ≤ length l → take (i + length vs) (sets l i vs) ≡ take i l ++ vs
@@ -458,3 +462,34 @@ lay-joins s b t {p} {b′} {t′} e = joined (rw e at (begins b t s))
           fits = g .fits;
           room = g .room;
         }
+
+-- rooms that are finished and cleared behind what they hold
+pub record Filled (q : Stream Piece) (b t : List ℕ) (n m : ℕ) (b′ t′ : List ℕ) : Type 0 where
+  pub counted : n ≡ length (blocks (items q))
+  pub text : m ≡ length (textOf (items q))
+  pub words : b′ ≡ filled (length b) (records 0 (blocks (items q)))
+  pub bytes : t′ ≡ filled (length t) (textOf (items q))
+
+pub joined-filled : {q : Stream Piece} {b t : List ℕ} {p : Page} {b₁ t₁ : List ℕ} → Joined q b t p b₁ t₁ → {n : ℕ} {b₂ b₃ t₂ : List ℕ} → b₂ ≡ lastPut p b₁ → n ≡ blockCount p
+    → b₃ ≡ take (n * 13) b₂ ++ replicate (length b₂ - n * 13) 0 → t₂ ≡ take (p .text) t₁ ++ replicate (length t₁ - p .text) 0 → Filled q b t n (p .text) b₃ t₂
+joined-filled {q} {b} {t} {p} {b₁} {t₁} j {n} {b₂} {b₃} {t₂} g e u v =
+    let bl : List Piece = blocks (items q) in
+    let k : n ≡ length bl = e ∙ j .counted in
+    let w : take (n * 13) b₂ ≡ records 0 bl = rw (e, g) (j .words) in
+    let lr : length (records 0 bl) ≡ n * 13 = length-records bl 0 ∙ rw k in
+    let lb : length b₂ ≡ length b = ap length g ∙ length-last p b₁ ∙ j .wide in
+    record {
+      counted = k;
+      text = j .text;
+      words = filled-front (length b) (n * 13) (records 0 bl) b₂ b₃ u w lr lb;
+      bytes = filled-front (length t) (p .text) (textOf (items q)) t₁ t₂ v (j .bytes) (sym (j .text)) (j .long);
+    }
+
+-- a page's blocks fit their room, and so do their words
+pub blocks-small : {p : Page} (w v : ℕ) → Ready p w v → w < 18446744073709551616 → p .blocks ≤ 4611686018427387904
+blocks-small {p} w v h k = let a = ready-count p w v h in let b = div-mul-le-self w 13 in omega arith
+
+pub count-words : {p : Page} (w v : ℕ) {cnt : ℕ} → Ready p w v → cnt ≡ blockCount p → cnt * 13 ≤ w
+count-words {p} w v {cnt} h e =
+    let a : cnt ≤ capacity 13 w = rw e (h .page .blocks) in
+    le-trans (mul-le-mul-right 13 a) (div-mul-le-self w 13)

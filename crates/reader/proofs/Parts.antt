@@ -6,7 +6,6 @@
 use mathlib.Core.Path.{_≡_, refl, sym, ap, _∙_}
 use mathlib.Core.List.{List, [], _∷_, _++_}
 use Prim.Native.Nat.{ℕ, _+_, _-_, _*_, _≤_, _<_}
-use native.Mathlib.Nat.{div-mul-le-self, mul-le-mul-right, le-trans}
 use native.Mathlib.Omega.{arith}
 use lib.ListN.{length, take, replicate, length-take}
 use Rattle.answers.specs.declared.Refusal.{Refusal}
@@ -27,10 +26,8 @@ use Rattle.pages.specs.declared.Laid.the-variants.{On, Full}
 use Rattle.rooms.specs.Rooms.{capacity, filled}
 use Rattle.rooms.proofs.Clearing.{filled-front}
 use Rattle.pages.specs.Pages.{Piece, blocks, textOf, records, textCapacity}
-use Rattle.pages.specs.Laying.{Laying, on, off, told, blank, blockCount, lastPut, layAll, Ready}
-use Rattle.pages.proofs.Blocks.{length-records}
-use Rattle.pages.proofs.Laying.{length-last, ready-count}
-use Rattle.pages.proofs.Settling.{lay-refuses, lay-joins, Joined}
+use Rattle.pages.specs.Laying.{Laying, on, off, told, blank, blockCount, lastPut, layAll}
+use Rattle.pages.proofs.Settling.{lay-refuses, lay-joins, Joined, Filled, joined-filled}
 use Rattle.walk.specs.Walk.{walk}
 use Rattle.body.specs.Body.{body}
 use Rattle.fonts.specs.Fonts.{tableWords, InFront}
@@ -83,16 +80,13 @@ module _ (rd : Reading) (ts : List Shown) (b t : List ℕ) (n f c : ℕ) where
           → t₂ ≡ take (p .text) t₁ ++ replicate (length t₁ - p .text) 0
           → BodyInto (answer 0 stream) (items stream) n f c (Read (record { tokens = n; fonts = f; colours = c; blocks = cnt; text = p .text })) b₃ t₂ (length b) (length t)
       body-laid {cnt} {b₂} {b₃} {t₂} g q u v =
-          let bl : List Piece = blocks (items stream) in
-          let k : cnt ≡ length bl = q ∙ joined .counted in
-          let w : take (cnt * 13) b₂ ≡ records 0 bl = rw (q, g) (joined .words) in
-          let lr : length (records 0 bl) ≡ cnt * 13 = length-records bl 0 ∙ rw k in
-          let lb : length b₂ ≡ length b = ap length g ∙ length-last p b₁ ∙ joined .wide in
+          let i : Filled stream b t cnt (p .text) b₃ t₂ = joined-filled joined g q u v in
+          let n′ : ℕ = length (blocks (items stream)) in
           rw (joined .done) (
-            ap (λ (m : ℕ). Read (record { tokens = n; fonts = f; colours = c; blocks = m; text = p .text })) k
-                ∙ ap (λ (m : ℕ). Read (record { tokens = n; fonts = f; colours = c; blocks = length bl; text = m })) (joined .text),
-            filled-front (length b) (cnt * 13) (records 0 bl) b₂ b₃ u w lr lb,
-            filled-front (length t) (p .text) (textOf (items stream)) t₁ t₂ v (joined .bytes) (sym (joined .text)) (joined .long),
+            ap (λ (m : ℕ). Read (record { tokens = n; fonts = f; colours = c; blocks = m; text = p .text })) (i .counted)
+                ∙ ap (λ (m : ℕ). Read (record { tokens = n; fonts = f; colours = c; blocks = n′; text = m })) (i .text),
+            i .words,
+            i .bytes,
           )
 
 -- header and body
@@ -145,12 +139,3 @@ module _ (rd : Reading) (zf zc zb zt : ℕ) (ts : List Shown) (n : ℕ) where
       body-ends s (answer 0 st) st a fs′ cs′ bs tx
       (filled-front zf (f * 3) (tableWords (s .fonts)) fs fs′ u front lw lf)
       (filled-front zc c (s .colours) cs cs′ v (rw m (h .2)) (sym m) lc) w
-
--- a page's blocks fit their room, and so do their words
-pub blocks-small : {p : Page} (w v : ℕ) → Ready p w v → w < 18446744073709551616 → p .blocks ≤ 4611686018427387904
-blocks-small {p} w v h k = let a = ready-count p w v h in let b = div-mul-le-self w 13 in omega arith
-
-pub count-words : {p : Page} (w v : ℕ) {cnt : ℕ} → Ready p w v → cnt ≡ blockCount p → cnt * 13 ≤ w
-count-words {p} w v {cnt} h e =
-    let a : cnt ≤ capacity 13 w = rw e (h .page .blocks) in
-    le-trans (mul-le-mul-right 13 a) (div-mul-le-self w 13)

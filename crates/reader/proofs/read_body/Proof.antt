@@ -4,7 +4,8 @@ use lib.ListN.{length}
 use Prim.Native.Nat.{_*_, _≤_}
 use Rattle.runs.proofs.Texts.{still-on}
 use Rattle.pages.proofs.Laying.{ready-finish}
-use Rattle.reader.proofs.Parts.{body-full, body-laid, blocks-small, count-words}
+use Rattle.pages.proofs.Settling.{blocks-small, count-words}
+use Rattle.reader.proofs.Parts.{body-full, body-laid}
 use borrow.Author.Needs.{needs}
 use Rattle.reader.proofs.read_body.Statement.{statement}
 use Rattle.reader.proofs.read_body.Tie as tie

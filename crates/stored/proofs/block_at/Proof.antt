@@ -1,0 +1,75 @@
+-- `block_at` meets its contract: the numbers, and then the rules.
+use borrow.Author.Needs.{needs}
+use native.Mathlib.Omega.{arith}
+use mathlib.Core.Path.{refl}
+use Rattle.fields.specs.Fields.{lastOf}
+use Rattle.stored.proofs.Branches.{block-refused, block-within, block-entry}
+use Rattle.stored.proofs.block_at.Statement.{statement}
+use Rattle.stored.proofs.block_at.Tie as tie
+use Rattle.stored.proofs.block_at.Reads as reads
+use Rattle.stored.proofs.block_at.Lts as lts
+use Rattle.stored.proofs.numbers_at.Reads as numbers-at-reads
+use Rattle.stored.proofs.ruled.Reads as ruled-reads
+use Rattle.stored.proofs.style_of.Reads as style-of-reads
+use Rattle.stored.proofs.wide.Reads as wide-reads
+
+slice-aggregate-numbers-at : tie.Need-slice-aggregate-numbers-at
+slice-aggregate-numbers-at c = search needs
+
+numbers-at-requires : tie.Need-numbers-at-requires
+numbers-at-requires c κs = search needs
+
+enum-known-numbers : tie.Need-enum-known-numbers
+enum-known-numbers c = search needs
+
+enum-known-numbers-2 : tie.Need-enum-known-numbers-2
+enum-known-numbers-2 c = search needs
+
+slice-aggregate-style-of : tie.Need-slice-aggregate-style-of
+slice-aggregate-style-of c = search needs
+
+style-of-requires : tie.Need-style-of-requires
+style-of-requires c κs = search needs
+
+array-read-wide : tie.Need-array-read-wide
+array-read-wide c = search needs
+
+wide-requires : tie.Need-wide-requires
+wide-requires c κs = search needs
+
+sub-ruled : tie.Need-sub-ruled
+sub-ruled c = let w = block-within (lastOf (c .before .before .before .before .before .before .before .before .before .before .args .begun) (c .before .before .before .before .before .before .before .before .before .before .args .before)) (c .before .before .before .before .before .before .before .before .before .before .args .s .now) _ (c .before .before .before .before .before .before .before .numbers-at .result) refl (c .before .before .before .before .before .before .before .numbers-at .ensures) (c .before .before .before .before .numbers2 .given .1) in omega arith
+
+part-ruled-start : tie.Need-part-ruled-start
+part-ruled-start c = let w = block-within (lastOf (c .before .before .before .before .before .before .before .before .before .before .args .begun) (c .before .before .before .before .before .before .before .before .before .before .args .before)) (c .before .before .before .before .before .before .before .before .before .before .args .s .now) _ (c .before .before .before .before .before .before .before .numbers-at .result) refl (c .before .before .before .before .before .before .before .numbers-at .ensures) (c .before .before .before .before .numbers2 .given .1) in omega arith
+
+part-ruled-end : tie.Need-part-ruled-end
+part-ruled-end c = search needs
+
+ruled-requires : tie.Need-ruled-requires
+ruled-requires c κs = search needs
+
+returns : tie.Need-returns
+returns c = block-refused (lastOf (c .before .before .before .before .before .before .before .args .begun) (c .before .before .before .before .before .before .before .args .before)) (c .before .before .before .before .before .before .before .args .s .now) _ (c .before .before .before .before .numbers-at .result) refl (c .before .before .before .before .numbers-at .ensures) (c .before .numbers .given .1)
+
+returns-2 : tie.Need-returns-2
+returns-2 c = block-entry (lastOf (c .before .before .before .before .before .before .before .before .before .before .before .before .args .begun) (c .before .before .before .before .before .before .before .before .before .before .before .before .args .before)) (c .before .before .before .before .before .before .before .before .before .before .before .before .args .s .now) _ (c .before .before .before .before .before .before .before .before .before .numbers-at .result) refl (c .before .before .before .before .before .before .before .before .before .numbers-at .ensures) (c .before .before .before .before .before .before .numbers2 .given .1) (c .before .before .before .style-of .ensures) (c .before .before .wide .ensures) (c .ruled .ensures)
+
+pub block-at-spec : {M : Type 1} → statement M
+block-at-spec =
+    tie.close
+    (tie.spec
+    slice-aggregate-numbers-at
+    numbers-at-requires
+    enum-known-numbers
+    enum-known-numbers-2
+    slice-aggregate-style-of
+    style-of-requires
+    array-read-wide
+    wide-requires
+    sub-ruled
+    part-ruled-start
+    part-ruled-end
+    ruled-requires
+    returns
+    returns-2)

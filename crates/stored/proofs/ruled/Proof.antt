@@ -1,0 +1,63 @@
+-- `ruled` meets its contract: the rules in their order.
+use borrow.Author.Needs.{needs}
+use native.Mathlib.Omega.{arith}
+use lib.ListN.{length-take}
+use Rattle.fields.specs.Fields.{lastOf}
+use Rattle.stored.proofs.Branches.{ruled-field, ruled-short, ruled-is, ruled-bytes}
+use Rattle.stored.proofs.ruled.Statement.{statement}
+use Rattle.stored.proofs.ruled.Tie as tie
+use Rattle.stored.proofs.ruled.Reads as reads
+use Rattle.stored.proofs.ruled.Lts as lts
+use Rattle.answers.proofs.Refusal.of.Reads as of-reads
+use Rattle.fields.proofs.follows.Reads as follows-reads
+use Rattle.fields.proofs.in_range.Reads as in-range-reads
+use Rattle.wellformed.proofs.is_utf8.Reads as is-utf8-reads
+
+in-range-requires : tie.Need-in-range-requires
+in-range-requires c κs = search needs
+
+follows-requires : tie.Need-follows-requires
+follows-requires c κs = search needs
+
+of-requires : tie.Need-of-requires
+of-requires c κs = search needs
+
+returns : tie.Need-returns
+returns c = ruled-field (lastOf (c .before .before .before .before .before .args .begun) (c .before .before .before .before .before .args .before)) (c .before .before .before .before .before .args .s) (c .before .before .before .before .before .args .n) (c .before .before .before .before .before .args .m) (c .before .before .before .before .before .args .t .now) (c .before .before .before .in-range .ensures) (c .before .before .follows .ensures) (c .before .if1 .taken) (c .of .ensures)
+
+of-requires-2 : tie.Need-of-requires-2
+of-requires-2 c κs = search needs
+
+returns-2 : tie.Need-returns-2
+returns-2 c = ruled-short (lastOf (c .before .before .before .before .before .before .args .begun) (c .before .before .before .before .before .before .args .before)) (c .before .before .before .before .before .before .args .s) (c .before .before .before .before .before .before .args .n) (c .before .before .before .before .before .before .args .m) (c .before .before .before .before .before .before .args .t .now) (c .before .before .before .before .in-range .ensures) (c .before .before .before .follows .ensures) (c .before .before .if1 .left) (c .before .if2 .taken) (c .of2 .ensures)
+
+slice-aggregate-is-utf8 : tie.Need-slice-aggregate-is-utf8
+slice-aggregate-is-utf8 c = omega (arith, length-take (c .before .before .before .before .before .before .args .n) (c .before .before .before .before .before .before .args .t .now))
+
+is-utf8-requires : tie.Need-is-utf8-requires
+is-utf8-requires c κs = search needs
+
+returns-3 : tie.Need-returns-3
+returns-3 c = ruled-is (lastOf (c .before .before .before .before .before .before .before .before .args .begun) (c .before .before .before .before .before .before .before .before .args .before)) (c .before .before .before .before .before .before .before .before .args .s) (c .before .before .before .before .before .before .before .before .args .n) (c .before .before .before .before .before .before .before .before .args .m) (c .before .before .before .before .before .before .before .before .args .t .now) (c .before .before .before .before .before .before .in-range .ensures) (c .before .before .before .before .before .follows .ensures) (c .before .before .before .before .if1 .left) (c .before .before .before .if2 .left) (c .before .is-utf8 .ensures) (c .if3 .taken)
+
+of-requires-3 : tie.Need-of-requires-3
+of-requires-3 c κs = search needs
+
+returns-4 : tie.Need-returns-4
+returns-4 c = ruled-bytes (lastOf (c .before .before .before .before .before .before .before .before .before .args .begun) (c .before .before .before .before .before .before .before .before .before .args .before)) (c .before .before .before .before .before .before .before .before .before .args .s) (c .before .before .before .before .before .before .before .before .before .args .n) (c .before .before .before .before .before .before .before .before .before .args .m) (c .before .before .before .before .before .before .before .before .before .args .t .now) (c .before .before .before .before .before .before .before .in-range .ensures) (c .before .before .before .before .before .before .follows .ensures) (c .before .before .before .before .before .if1 .left) (c .before .before .before .before .if2 .left) (c .before .before .is-utf8 .ensures) (c .before .if3 .left) (c .of3 .ensures)
+
+pub ruled-spec : {M : Type 1} → statement M
+ruled-spec =
+    tie.close
+    (tie.spec
+    in-range-requires
+    follows-requires
+    of-requires
+    returns
+    of-requires-2
+    returns-2
+    slice-aggregate-is-utf8
+    is-utf8-requires
+    returns-3
+    of-requires-3
+    returns-4)
