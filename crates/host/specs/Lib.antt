@@ -1,0 +1,2 @@
+-- Hosts: answers as a host gets them.
+pub mod Hosts

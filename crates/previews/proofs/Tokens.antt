@@ -1,0 +1,208 @@
+-- What the tokens of a letter show: text that is not empty and has no byte above 127, and numbers of 32 bits.
+--     tokens-some, stream-some    no text of a slice's tokens is empty, nor of a source's
+--     low-part                    bytes that stand in a source without a byte above 127 have none either
+--     shown-fine                  what the tokens of a source show
+-- Assumes nothing.
+use mathlib.Core.Path.{_≡_, refl, sym, ap, _∙_}
+use mathlib.Core.List.{List, [], _∷_}
+use mathlib.Core.Bool.{Bool, true, false, cond, _||_}
+use Prim.Native.Nat.{ℕ, _+_, _<_}
+use native.Mathlib.Omega.{arith}
+use lib.ListN.{length, take, drop, take-append-drop}
+use lib.Dec.{eqb, ltb}
+use Rattle.answers.specs.declared.Why.the-variants.{SourceTooLong, NotAscii}
+use Rattle.answers.specs.Answers.{refusal}
+use Rattle.bytes.specs.declared.Class.the-variants.{White, WordEnd, InWord, Space, Numeral}
+use Rattle.bytes.specs.Bytes.{isLetter, isHigh, inClass, lead, body, any}
+use Rattle.bytes.proofs.Runs.{or-left, or-right, any-append}
+use Rattle.numbers.specs.declared.Number.{Number}
+use Rattle.numbers.specs.declared.Number.the-variants.{Is, Bad}
+use Rattle.numbers.specs.Numbers.{hexPair, decimal}
+use Rattle.names.specs.Names.{wordNumber}
+use Rattle.rooms.specs.Streams.{Stream, end, stop, _▸_, items}
+use Rattle.rooms.proofs.Streams.{Each, Each-then, Each-each, Each-either}
+use Rattle.slices.specs.Slices.{slices}
+use Rattle.tokens.specs.declared.Property.{Property}
+use Rattle.tokens.specs.declared.Property.the-variants.{None, Value}
+use Rattle.tokens.specs.Tokens.{Shown, Token, valueOf}
+use Rattle.tokens.specs.Tokens
+use Rattle.tokenize.specs.Tokenize.{isMark, isEscape, mark, plain, hexValue, hexEscape, lineBreakAnd, shownWord, numbered}
+use Rattle.tokenize.specs.Tokenize.{named, bareLength, wordTail, word, other, escaped, tokens}
+use Rattle.tokenize.proofs.Places.{At, Stands}
+use Rattle.cutter.specs.Cutting.{locate, located, last, allSlices, trimStart, trimmed, tokenStream}
+use Rattle.cutter.proofs.Places.{Placed, stream-places}
+use Rattle.reader.specs.Reading.{shownBy}
+
+-- each of a list has a property
+abbrev pub All : {A : Type 0} → (A → Type 0) → List A → Type 0
+All P [] = Unit {0}
+All P (x ∷ xs) = P x × All P xs
+
+-- ---- no text is empty
+
+abbrev Some : Shown → Type 0
+Some (Shown.text p bs) = 0 < length bs
+Some Shown.opening = Unit {0}
+Some Shown.closing = Unit {0}
+Some Shown.lineBreak = Unit {0}
+Some Shown.ignorable = Unit {0}
+Some (Shown.word w num) = Unit {0}
+Some (Shown.unknown p bs num) = Unit {0}
+
+mark-some : (b : ℕ) → Each Some (mark b)
+unfolding mark
+mark-some b = Each-either Some (eqb b 123) _ _ (tt, tt) (Each-either Some (eqb b 125) _ _ (tt, tt) tt)
+
+-- where there is no byte, all is white space
+plain-some : (p : ℕ) (s : List ℕ) → Each Some (plain p s)
+unfolding plain lead
+plain-some p [] = tt
+plain-some p (b ∷ s) = Each-either Some (eqb (lead (inClass White) (b ∷ s)) (length (b ∷ s))) _ _ tt (omega arith, tt)
+
+hex-some : (p : ℕ) (s : List ℕ) → Each Some (hexEscape p s)
+unfolding hexEscape hexValue
+hex-some p [] = tt
+hex-some p (a ∷ []) = tt
+hex-some p (a ∷ b ∷ s) = go (hexPair a b)
+  where
+    go : (n : Number) → Each Some (hexValue n (plain (p + 4) s))
+    go (Is v) = (tt, plain-some (p + 4) s)
+    go Bad = tt
+
+shown-some : (p : ℕ) (name : List ℕ) (num : Property) → Some (shownWord p name num)
+unfolding shownWord
+shown-some p name num = go (ltb (wordNumber name) 49)
+  where
+    go : (t : Bool) → Some (cond t (Shown.word (wordNumber name) num) (Shown.unknown p (92 ∷ name) num))
+    go true = tt
+    go false = tt
+
+numbered-some : (p : ℕ) (name : List ℕ) (n : Number) → Each Some (numbered p name n)
+unfolding numbered
+numbered-some p name (Is v) = (shown-some p name (Value v), tt)
+numbered-some p name Bad = tt
+
+named-some : (p : ℕ) (w : List ℕ) → Each Some (named p w)
+unfolding named
+named-some p w =
+    let k = body (inClass Numeral) w in
+    Each-either Some (eqb k (length w)) _ _ (shown-some p w None, tt) (numbered-some p (take k w) (decimal (drop k w)))
+
+tail-some : (p : ℕ) (s : List ℕ) → Each Some (wordTail p s)
+unfolding wordTail
+tail-some p [] = tt
+tail-some p (b ∷ s) =
+    Each-either Some (ltb (lead (inClass WordEnd) (b ∷ s)) (length (b ∷ s))) _ _ (plain-some p (b ∷ s)) (omega arith, tt)
+
+word-some : (p : ℕ) (s : List ℕ) → Each Some (word p s)
+unfolding word
+word-some p s =
+    let k = lead (inClass InWord) s in
+    Each-then Some _ _ (named-some p (take (bareLength (take k s)) s)) (tail-some (p + 1 + (k + 1)) (drop (k + 1) s))
+
+other-some : (p : ℕ) (s : List ℕ) → Each Some (other p s)
+unfolding other
+other-some p s = Each-either Some (ltb (lead (inClass Space) s) (length s)) _ _ tt (omega arith, tt)
+
+escaped-some : (p : ℕ) (s : List ℕ) → Each Some (escaped p s)
+unfolding escaped lineBreakAnd
+escaped-some p [] = other-some p []
+escaped-some p (b ∷ s) =
+    Each-either Some (isLetter b) _ _ (word-some p (b ∷ s))
+    (Each-either Some (isEscape b) _ _ (omega arith, tt)
+    (Each-either Some (eqb b 39) _ _ (hex-some p s)
+    (Each-either Some (eqb b 10) _ _ (tt, plain-some (p + 2) s)
+    (Each-either Some (eqb b 42) _ _ (tt, tt) (other-some p (b ∷ s))))))
+
+tokens-some : (p : ℕ) (s : List ℕ) → Each Some (tokens p s)
+unfolding tokens
+tokens-some p [] = tt
+tokens-some p (b ∷ s) =
+    Each-either Some (isMark b) _ _ (Each-then Some (mark b) (tokens (p + 1) s) (mark-some b) (tokens-some (p + 1) s))
+    (Each-either Some (eqb b 92) _ _ (escaped-some p s) (plain-some p (b ∷ s)))
+
+-- the same of located tokens
+abbrev SomeIn : Token → Type 0
+SomeIn t = Some (t .shows)
+
+located-some : (p : ℕ) (s : List ℕ) → Each SomeIn (located p s)
+unfolding located
+located-some p s = Each-each SomeIn (locate p (length s)) (tokens p s) (tokens-some p s)
+
+last-some : (p : ℕ) (s : List ℕ) → Each SomeIn (last p s)
+unfolding last
+last-some p [] = tt
+last-some p (b ∷ []) = Each-either SomeIn (eqb b 125) _ _ (tt, tt) tt
+last-some p (b ∷ c ∷ s) = tt
+
+all-some : (p : ℕ) (ss : List (List ℕ)) → Each SomeIn (allSlices p ss)
+unfolding allSlices
+all-some p [] = tt
+all-some p (s ∷ []) = last-some p s
+all-some p (s ∷ t ∷ ss) =
+    Each-then SomeIn (located p s) (allSlices (p + length s) (t ∷ ss)) (located-some p s) (all-some (p + length s) (t ∷ ss))
+
+stream-some : (src : List ℕ) → Each SomeIn (tokenStream src)
+unfolding tokenStream
+stream-some src =
+    Each-either SomeIn (ltb 65536 (length src)) _ _ tt
+    (Each-either SomeIn (any isHigh src) _ _ tt (all-some (trimStart src) (slices (trimmed src))))
+
+-- ---- no byte above 127
+
+low-parts : (n : ℕ) (s : List ℕ) → any isHigh s ≡ false → any isHigh (take n s) || any isHigh (drop n s) ≡ false
+low-parts n s h = sym (any-append isHigh (take n s) (drop n s)) ∙ ap (any isHigh) (take-append-drop n s) ∙ h
+
+low-take : (n : ℕ) (s : List ℕ) → any isHigh s ≡ false → any isHigh (take n s) ≡ false
+low-take n s h = or-left (any isHigh (take n s)) (any isHigh (drop n s)) (low-parts n s h)
+
+low-drop : (n : ℕ) (s : List ℕ) → any isHigh s ≡ false → any isHigh (drop n s) ≡ false
+low-drop n s h = or-right (any isHigh (take n s)) (any isHigh (drop n s)) (low-parts n s h)
+
+low-part : {src : List ℕ} {p q : ℕ} {bs : List ℕ} → any isHigh src ≡ false → At src p q bs → any isHigh bs ≡ false
+low-part {src} {p} {q} {bs} h a =
+    sym (ap (any isHigh) (a .same)) ∙ low-take (length bs) (drop (a .from) src) (low-drop (a .from) src h)
+
+-- ---- both
+
+-- what a token may show: text that is not empty and has no byte above 127, a number of 32 bits
+abbrev pub Fine : Shown → Type 0
+Fine (Shown.text p bs) = (0 < length bs) × (any isHigh bs ≡ false)
+Fine Shown.opening = Unit {0}
+Fine Shown.closing = Unit {0}
+Fine Shown.lineBreak = Unit {0}
+Fine Shown.ignorable = Unit {0}
+Fine (Shown.word w num) = valueOf num < 4294967296
+Fine (Shown.unknown p bs num) = Unit {0}
+
+fine-one : (src : List ℕ) → any isHigh src ≡ false → (t : Shown) → Stands src 0 t → Some t → Fine t
+fine-one src h (Shown.text p bs) a s = (s, low-part h a)
+fine-one src h Shown.opening a s = tt
+fine-one src h Shown.closing a s = tt
+fine-one src h Shown.lineBreak a s = tt
+fine-one src h Shown.ignorable a s = tt
+fine-one src h (Shown.word w num) a s = a .1
+fine-one src h (Shown.unknown p bs num) a s = tt
+
+fine-all : (src : List ℕ) → any isHigh src ≡ false → (s : Stream Token) → Each (Placed src) s → Each SomeIn s
+    → All Fine (shownBy (items s))
+unfolding items shownBy
+fine-all src h end a b = tt
+fine-all src h (stop r) a b = tt
+fine-all src h (t ▸ s) a b = (fine-one src h (t .shows) (a .0 .0) (b .0), fine-all src h s (a .1) (b .1))
+
+-- a source with a byte above 127 has no tokens
+none-high : (src : List ℕ) → any isHigh src ≡ true → shownBy (items (tokenStream src)) ≡ []
+unfolding tokenStream items shownBy
+none-high src h = rw h (go (ltb 65536 (length src)))
+  where
+    go : (t : Bool) → shownBy (items (cond t (stop (refusal SourceTooLong)) (stop (refusal NotAscii)))) ≡ []
+    go true = refl
+    go false = refl
+
+pub shown-fine : (src : List ℕ) → All Fine (shownBy (items (tokenStream src)))
+shown-fine src = go (any isHigh src) refl
+  where
+    go : (t : Bool) → any isHigh src ≡ t → All Fine (shownBy (items (tokenStream src)))
+    go true h = rw (none-high src h) tt
+    go false h = fine-all src h (tokenStream src) (stream-places src) (stream-some src)

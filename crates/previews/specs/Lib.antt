@@ -1,0 +1,1 @@
+-- No definitions: the theorem is about those of `reader` and `storing`.

@@ -1,2 +1,0 @@
--- Hosts: the reader's answer as a host gets it.
-pub mod Hosts

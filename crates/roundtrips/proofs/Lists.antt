@@ -1,0 +1,161 @@
+-- A whole list without rooms, there and back.
+--     good-first, good-rest     blocks that may stand one after the other, one by one
+--     blocks-written, list-written   what blocks are as bytes, read
+--     Read, blocks-read, list-read   what was read is its bytes
+-- Assumes nothing.
+use mathlib.Core.Path.{_≡_, refl, sym, ap, _∙_}
+use mathlib.Core.List.{List, [], _∷_, _++_, append-assoc}
+use mathlib.Core.Bool.{Bool, true, false, _&&_}
+use Prim.Native.Nat.{ℕ, zero, suc, _+_, _≤_, _<_}
+use native.Mathlib.Omega.{arith}
+use borrow.Author.Tests.{ltb-true, lt-ltb}
+use lib.ListN.{length, take, drop, length-append, take-append-drop}
+use lib.Seq.{drop-append-seam, take-append-seam, drop-drop}
+use lib.Dec.{ltb}
+use Rattle.answers.specs.declared.Outcome.the-variants.{Done, Refused}
+use Rattle.rooms.specs.Streams.{Stream, end, stop, _▸_, items, answer}
+use Rattle.rooms.proofs.Streams.{done-refused}
+use Rattle.bytes.proofs.Runs.{and-left, and-right}
+use Rattle.sevens.specs.declared.Numeral.{Numeral}
+use Rattle.sevens.specs.declared.Numeral.the-variants.{Is as Numbered, Bad as BadNumber, Short}
+use Rattle.sevens.specs.Sevens.{numberOf, written}
+use Rattle.sevens.proofs.Sevens.{read-written, written-read}
+use Rattle.wellformed.specs.WellFormed.{isUtf8}
+use Rattle.styles.specs.declared.Style.{Style}
+use Rattle.pages.specs.Pages.{Piece, piece, Last, none, last, starts}
+use Rattle.fields.specs.Fields.{inRange}
+use Rattle.stored.specs.declared.Entry.{Entry}
+use Rattle.stored.specs.declared.Entry.the-variants.{Is, Bad}
+use Rattle.stored.specs.Blocks.{entry}
+use Rattle.stored.specs.Stored.{over, entered, blocksFrom, counted, stored}
+use Rattle.storing.specs.Lists.{numbersBytes, blockNumbers, blockBytes, blocksBytes, listBytes}
+use Rattle.storing.specs.Good.{Good}
+use Rattle.roundtrips.specs.Trips.{Bytes, Small, all}
+use Rattle.roundtrips.proofs.Numbers.{bytes-drop}
+use Rattle.roundtrips.proofs.Blocks.{Fit, entry-written, Back, entry-read}
+
+module _ (l : Last) (x : Piece) (xs : List Piece) where
+  module _ (g : Good l (x ∷ xs) ≡ true) where
+    rest₁ : ltb 0 (length (x .bytes)) && (starts l (x .style) && (isUtf8 (x .bytes) && Good (last (x .style)) xs)) ≡ true
+    unfolding Good
+    rest₁ = and-right (inRange (x .style)) _ g
+
+    rest₂ : starts l (x .style) && (isUtf8 (x .bytes) && Good (last (x .style)) xs) ≡ true
+    rest₂ = and-right (ltb 0 (length (x .bytes))) _ rest₁
+
+    rest₃ : isUtf8 (x .bytes) && Good (last (x .style)) xs ≡ true
+    rest₃ = and-right (starts l (x .style)) _ rest₂
+
+    pub good-rest : Good (last (x .style)) xs ≡ true
+    good-rest = and-right (isUtf8 (x .bytes)) _ rest₃
+
+    pub good-starts : starts l (x .style) ≡ true
+    good-starts = and-left (starts l (x .style)) _ rest₂
+
+    pub good-fit : Small (x ∷ xs) → Fit l x
+    unfolding Good
+    good-fit (w, h, more) = record {
+      range = and-left (inRange (x .style)) _ g;
+      some = ltb-true 0 (length (x .bytes)) (and-left (ltb 0 (length (x .bytes))) _ rest₁);
+      differs = good-starts;
+      utf8 = and-left (isUtf8 (x .bytes)) _ rest₃;
+      words = w;
+      short = h;
+    }
+
+  pub good-more : Fit l x → Good (last (x .style)) xs ≡ true → Good l (x ∷ xs) ≡ true
+  unfolding Good
+  good-more f g = rw (f .range, lt-ltb 0 (length (x .bytes)) (f .some), f .differs, f .utf8) g
+
+-- ---- written, then read
+
+module _ (x : Piece) (t : List ℕ) where
+  m : ℕ
+  m = length (numbersBytes (blockNumbers x))
+
+  behind-numbers : drop m (blockBytes x ++ t) ≡ x .bytes ++ t
+  unfolding m blockBytes
+  behind-numbers = ap (drop m) (append-assoc (numbersBytes (blockNumbers x)) (x .bytes) t) ∙ drop-append-seam (numbersBytes (blockNumbers x)) (x .bytes ++ t)
+
+  pub entered-written : (l : Last) (more : Last → List ℕ → Stream Piece) → Fit l x
+      → entered (entry l (blockBytes x ++ t)) (blockBytes x ++ t) more ≡ x ▸ more (last (x .style)) t
+  unfolding m
+  entered-written l more f =
+      let a : take (length (x .bytes)) (x .bytes ++ t) ≡ x .bytes = take-append-seam (x .bytes) t in
+      let b : drop (m + length (x .bytes)) (blockBytes x ++ t) ≡ t =
+      sym (drop-drop (length (x .bytes)) m (blockBytes x ++ t)) ∙ rw behind-numbers (drop-append-seam (x .bytes) t) in
+      rw (entry-written l x t f, b, behind-numbers, a) refl
+
+pub blocks-written : (xs : List Piece) (l : Last) → Good l xs ≡ true → Small xs → blocksFrom (length xs) l (blocksBytes xs) ≡ all xs
+unfolding blocksFrom blocksBytes all
+blocks-written [] l g s = refl
+blocks-written (x ∷ xs) l g s =
+    entered-written x (blocksBytes xs) l (blocksFrom (length xs)) (good-fit l x xs g s)
+    ∙ ap (λ (z : Stream Piece). x ▸ z) (blocks-written xs (last (x .style)) (good-rest l x xs g) (s .2))
+
+pub list-written : (xs : List Piece) → Good none xs ≡ true → Small xs → length xs < 4294967296 → stored (listBytes xs) ≡ all xs
+unfolding stored listBytes
+list-written xs g s h =
+    rw (read-written (length xs) (blocksBytes xs) h, drop-append-seam (written (length xs)) (blocksBytes xs)) (blocks-written xs none g s)
+
+-- ---- read, then written
+
+pub record Read (k : ℕ) (l : Last) (s : List ℕ) (q : Stream Piece) : Type 0 where
+  pub whole : q ≡ all (items q)
+  pub bytes : s ≡ blocksBytes (items q)
+  pub good : Good l (items q) ≡ true
+  pub small : Small (items q)
+  pub counted : length (items q) ≡ k
+
+read-over : (l : Last) (s : List ℕ) (j : ℕ) {r : ℕ} → answer j (over s) ≡ Done r → Read 0 l s (over s)
+unfolding answer items all blocksBytes Good
+read-over l [] j e = record { whole = refl; bytes = refl; good = refl; small = omega arith; counted = refl }
+read-over l (b ∷ s) j e = absurd (done-refused (sym e))
+
+read-more : (k : ℕ) (l : Last) (s : List ℕ) (st : Style) (m n : ℕ) (q : Stream Piece) → Back l s st m n → Read k (last st) (drop (m + n) s) q
+    → Read (suc k) l s (piece st (take n (drop m s)) ▸ q)
+unfolding items all blocksBytes
+read-more k l s st m n q b r = record {
+  whole = ap (λ (z : Stream Piece). piece st (take n (drop m s)) ▸ z) (r .whole);
+  bytes = sym (take-append-drop (m + n) s) ∙ rw (b .bytes, ← r .bytes);
+  good = good-more l (piece st (take n (drop m s))) (items q) (b .fit) (r .good);
+  small = (b .fit .words, b .fit .short, r .small);
+  counted = ap suc (r .counted);
+}
+
+pub blocks-read : (k : ℕ) (l : Last) (s : List ℕ) → Bytes s → (j : ℕ) {r : ℕ} → answer j (blocksFrom k l s) ≡ Done r → Read k l s (blocksFrom k l s)
+unfolding blocksFrom answer
+blocks-read zero l s b j e = read-over l s j e
+blocks-read (suc k) l s b j {r} e = go (entry l s) refl e (λ l′ m d. blocks-read k l′ (drop m s) (bytes-drop s m b) (j + 1) d)
+  where
+    go : (x : Entry) → entry l s ≡ x → answer j (entered x s (blocksFrom k)) ≡ Done r
+        → ((l′ : Last) (m : ℕ) → answer (j + 1) (blocksFrom k l′ (drop m s)) ≡ Done r → Read k l′ (drop m s) (blocksFrom k l′ (drop m s)))
+        → Read (suc k) l s (entered x s (blocksFrom k))
+    go (Is st m n) d f more = read-more k l s st m n (blocksFrom k (last st) (drop (m + n) s)) (entry-read l s b d) (more (last st) (m + n) f)
+    go (Bad q) d f more = absurd (done-refused (sym f))
+
+-- the blocks of a list that is accepted
+pub record Accepted (s : List ℕ) (q : Stream Piece) : Type 0 where
+  pub whole : q ≡ all (items q)
+  pub bytes : s ≡ listBytes (items q)
+  pub good : Good none (items q) ≡ true
+  pub small : Small (items q)
+  pub few : length (items q) < 4294967296
+
+pub list-read : (s : List ℕ) → Bytes s → (j : ℕ) {r : ℕ} → answer j (stored s) ≡ Done r → Accepted s (stored s)
+unfolding stored answer listBytes
+list-read s b j {r} e = go (numberOf s) refl e
+  where
+    go : (x : Numeral) → numberOf s ≡ x → answer j (counted x s) ≡ Done r → Accepted s (counted x s)
+    go (Numbered n m) d f =
+        let w = written-read s b d in
+        let i = blocks-read n none (drop m s) (bytes-drop s m b) j f in
+        record {
+          whole = i .whole;
+          bytes = sym (take-append-drop m s) ∙ rw (w .0, ← i .bytes, i .counted);
+          good = i .good;
+          small = i .small;
+          few = rw (i .counted) (w .1);
+        }
+    go BadNumber d f = absurd (done-refused (sym f))
+    go Short d f = absurd (done-refused (sym f))

@@ -1,0 +1,216 @@
+-- The round trips of the stored form (01, Stored form):
+--     written-reads   what the writer writes, the reader reads back as the same blocks and text, given room
+--     read-writes     what the reader accepts, the writer writes back as the same bytes, given room
+--     one-form        so two lists that read as the same blocks and text are the same bytes
+-- All are about the definitions that the contracts of `stored::read_list` and `storing::write_list` cite. Assumes nothing.
+use mathlib.Core.Path.{_≡_, refl, sym, ap, subst, _∙_}
+use mathlib.Core.List.{List, _++_}
+use mathlib.Core.Bool.{Bool, true, false, cond}
+use Prim.Native.Nat.{ℕ, _+_, _*_, _/_, _≤_, _<_}
+use native.Mathlib.Omega.{arith}
+use borrow.Author.Tests.{ltb-true}
+use lib.ListN.{length, take}
+use lib.Dec.{leb, ltb}
+use Rattle.answers.specs.declared.Refusal.{Refusal}
+use Rattle.answers.specs.declared.Outcome.{Outcome}
+use Rattle.answers.specs.declared.Outcome.the-variants.{Done, Refused}
+use Rattle.answers.specs.declared.Why.the-variants.{OutputRoom}
+use Rattle.answers.specs.Answers.{refusal}
+use Rattle.rooms.specs.Streams.{Stream, items, answer}
+use Rattle.rooms.specs.Rooms.{capacity, filled, settled, content}
+use Rattle.rooms.proofs.Streams.{done-refused}
+use Rattle.sevens.specs.Sevens.{byteLayout, streamed}
+use Rattle.sevens.proofs.Streamed.{answer-streamed, encode-streamed}
+use Rattle.pages.specs.Pages.{Piece, none, blocks, textOf, records, roomy, textCapacity}
+use Rattle.pages.proofs.Blocks.{length-records}
+use Rattle.stored.specs.declared.Counts.{Counts}
+use Rattle.stored.specs.declared.Answer.{Answer}
+use Rattle.stored.specs.declared.Answer.the-variants.{Read, Refuses}
+use Rattle.stored.specs.Stored.{stored, placed, countsOf, answered, storedAnswer, storedBlocks, storedText}
+use Rattle.storing.specs.Lists.{listBytes}
+use Rattle.storing.specs.Good.{Good}
+use Rattle.storing.specs.Storing.{listStream, writeAnswer, writeRoom}
+use Rattle.storing.proofs.Writing.{stream-ends, write-good}
+use Rattle.roundtrips.specs.Trips.{Bytes, Words, Small, all}
+use Rattle.roundtrips.proofs.Lists.{list-written, Accepted, list-read}
+use Rattle.roundtrips.proofs.Ample.{items-all, roomy-all, roomy-whole, roomy-text, blocks-apart, small-records, take-filled, Reads, stored-reads}
+
+-- ---- what the writer writes
+
+-- a room that holds all was large enough
+settled-done : (full : Refusal) (total : ℕ) (o : Outcome) {n : ℕ} → settled byteLayout full total o ≡ Done n → o ≡ Done n
+unfolding settled
+settled-done full total (Done m) {n} e = go (leb m (capacity 1 total)) e
+  where
+    go : (t : Bool) → cond t (Done m) (Refused full) ≡ Done n → Done m ≡ Done n
+    go true d = d
+    go false d = absurd (done-refused (sym d))
+settled-done full total (Refused r) e = absurd (done-refused (sym e))
+
+-- the blocks that were written
+record Wrote (total : ℕ) (ws tx : List ℕ) (n : ℕ) : Type 0 where
+  xs : List Piece
+  good : Good none xs ≡ true
+  words : ws ≡ records 0 xs
+  text : tx ≡ textOf xs
+  few : length xs < 4294967296
+  front : take n (writeRoom total ws tx) ≡ listBytes xs
+
+room-is : (total : ℕ) (ws tx bytes : List ℕ) {n : ℕ} → writeAnswer total ws tx ≡ Done n → listStream ws tx ≡ streamed bytes → writeRoom total ws tx ≡ filled total bytes
+unfolding writeRoom content
+room-is total ws tx bytes {n} e s =
+    ap (λ (o : Outcome). content byteLayout total o (listStream ws tx)) e
+    ∙ ap (content byteLayout total (Done n)) s
+    ∙ ap (filled total) (encode-streamed bytes)
+
+wrote : (total : ℕ) (ws tx : List ℕ) {n : ℕ} → writeAnswer total ws tx ≡ Done n → Wrote total ws tx n
+unfolding writeAnswer
+wrote total ws tx {n} e =
+    let a : answer 0 (listStream ws tx) ≡ Done n = settled-done (refusal OutputRoom) total (answer 0 (listStream ws tx)) e in
+    let w = stream-ends ws tx a in
+    let bytes : List ℕ = listBytes (w .0) in
+    let s : listStream ws tx ≡ streamed bytes = w .5 in
+    let d : Done (0 + length bytes) ≡ Done n = sym (answer-streamed bytes 0) ∙ ap (answer 0) (sym s) ∙ a in
+    let l : length bytes ≡ n = (let z : 0 + length bytes ≡ n = cc in omega (arith, z)) in
+    record {
+      xs = w .0;
+      good = w .1;
+      words = w .2;
+      text = w .3;
+      few = w .4;
+      front = ap (take n) (room-is total ws tx bytes e s) ∙ take-filled total bytes n l;
+    }
+
+-- room for all: b words and t bytes
+pub record Room (ws tx : List ℕ) (b t : ℕ) : Type 0 where
+  pub blocks : length ws ≤ b
+  pub text : length tx ≤ t
+  pub counts : length tx ≤ 2147483647
+
+-- the list s reads as these words and this text
+pub record ReadsAs (s ws tx : List ℕ) (b t : ℕ) : Type 0 where
+  pub answer : storedAnswer b t s ≡ Read (record { blocks = length ws / 13; text = length tx })
+  pub blocks : storedBlocks b t s ≡ filled b ws
+  pub text : storedText b t s ≡ filled t tx
+
+capacity-text : (n t : ℕ) → n ≤ t → n ≤ 2147483647 → n ≤ textCapacity t
+capacity-text n t h k = go (ltb t 2147483647)
+  where
+    go : (y : Bool) → n ≤ cond y t 2147483647
+    go true = h
+    go false = k
+
+module _ (xs : List Piece) (good : Good none xs ≡ true) (small : Small xs) (few : length xs < 4294967296) (b t : ℕ) (room : Room (records 0 xs) (textOf xs) b t) where
+  l : length (records 0 xs) ≡ length xs * 13
+  l = length-records xs 0
+
+  all-placed : placed b t (listBytes xs) ≡ all xs
+  unfolding placed
+  all-placed =
+      ap (roomy (capacity 13 b) (textCapacity t) none) (list-written xs good small few)
+      ∙ roomy-all xs (capacity 13 b) (textCapacity t) none good (omega (arith, l, room .blocks)) (capacity-text (length (textOf xs)) t (room .text) (room .counts))
+
+  reads-back : ReadsAs (listBytes xs) (records 0 xs) (textOf xs) b t
+  reads-back =
+      let r = stored-reads (listBytes xs) xs b t all-placed good in
+      let z : length xs ≡ length (records 0 xs) / 13 = omega (arith, l) in
+      record {
+        answer = r .answer ∙ ap (λ (k : ℕ). Read (record { blocks = k; text = length (textOf xs) })) z;
+        blocks = r .blocks;
+        text = r .text;
+      }
+
+pub written-reads : (total : ℕ) (ws tx : List ℕ) {n : ℕ} → Words ws → writeAnswer total ws tx ≡ Done n → (b t : ℕ) → Room ws tx b t
+    → ReadsAs (take n (writeRoom total ws tx)) ws tx b t
+written-reads total ws tx {n} small e b t room =
+    let w = wrote total ws tx e in
+    let sm : Small (w .xs) = small-records (w .xs) 0 (subst Words (w .words) small) in
+    let ro : Room (records 0 (w .xs)) (textOf (w .xs)) b t = subst (λ (v : List ℕ). Room v (textOf (w .xs)) b t) (w .words) (subst (λ (v : List ℕ). Room ws v b t) (w .text) room) in
+    let r : ReadsAs (listBytes (w .xs)) (records 0 (w .xs)) (textOf (w .xs)) b t = reads-back (w .xs) (w .good) sm (w .few) b t ro in
+    subst (λ (v : List ℕ). ReadsAs v ws tx b t) (sym (w .front))
+    (subst (λ (v : List ℕ). ReadsAs (listBytes (w .xs)) v tx b t) (sym (w .words)) (subst (λ (v : List ℕ). ReadsAs (listBytes (w .xs)) (records 0 (w .xs)) v b t) (sym (w .text)) r))
+
+-- ---- what the reader accepts
+
+-- an answer that is no refusal
+read-done : (ps : List Piece) (o : Outcome) {c : Counts} → answered ps o ≡ Read c → (n : ℕ) × (o ≡ Done n)
+read-done ps (Done n) e = (n, refl)
+read-done ps (Refused r) e = let z : _≡_ {A = ℕ} 0 1 = cc in absurd (omega arith)
+
+module _ (s : List ℕ) (b t : ℕ) (bytes : Bytes s) {c : Counts} (e : storedAnswer b t s ≡ Read c) where
+  q : Stream Piece
+  q = placed b t s
+
+  done : (n : ℕ) × (answer 0 q ≡ Done n)
+  unfolding storedAnswer q
+  done = read-done (items q) (answer 0 q) e
+
+  -- every block found room
+  whole : q ≡ stored s
+  unfolding placed q
+  whole = roomy-whole (stored s) (capacity 13 b) (textCapacity t) none 0 (done .1)
+
+  accepted : Accepted s (stored s)
+  accepted = list-read s bytes 0 (ap (answer 0) (sym whole) ∙ done .1)
+
+  -- the blocks of the list
+  xs : List Piece
+  xs = items (stored s)
+
+  small-text : length (textOf xs) ≤ textCapacity t
+  unfolding placed q xs
+  small-text = subst (λ (z : Stream Piece). length (textOf (items z)) ≤ textCapacity t) whole (roomy-text (stored s) (capacity 13 b) (textCapacity t) none 0 (done .1))
+
+  reads : Reads s xs b t
+  unfolding xs q
+  reads = stored-reads s (items (stored s)) b t (whole ∙ accepted .whole) (accepted .good)
+
+  counts : (c .blocks ≡ length xs) × (c .text ≡ length (textOf xs))
+  counts = let z : Read c ≡ Read (record { blocks = length xs; text = length (textOf xs) }) = sym e ∙ reads .answer in (cc, cc)
+
+  -- the blocks and the text that the rooms hold
+  words : take (c .blocks * 13) (storedBlocks b t s) ≡ records 0 xs
+  words = ap (take (c .blocks * 13)) (reads .blocks) ∙ take-filled b (records 0 xs) (c .blocks * 13) (length-records xs 0 ∙ ap (λ (n : ℕ). n * 13) (sym (counts .0)))
+
+  texts : take (c .text) (storedText b t s) ≡ textOf xs
+  texts = ap (take (c .text)) (reads .text) ∙ take-filled t (textOf xs) (c .text) (sym (counts .1))
+
+  small-32 : length (textOf xs) < 4294967296
+  small-32 = go (ltb t 2147483647) refl small-text
+    where
+      go : (y : Bool) → ltb t 2147483647 ≡ y → length (textOf xs) ≤ cond y t 2147483647 → length (textOf xs) < 4294967296
+      go true i h = let k = ltb-true t 2147483647 i in omega (arith, h, k)
+      go false i h = omega (arith, h)
+
+  -- the list is written back as it was
+  pub record Writes (total : ℕ) : Type 0 where
+    pub answer : writeAnswer total (take (c .blocks * 13) (storedBlocks b t s)) (take (c .text) (storedText b t s)) ≡ Done (length s)
+    pub room : writeRoom total (take (c .blocks * 13) (storedBlocks b t s)) (take (c .text) (storedText b t s)) ≡ filled total s
+
+  pub read-writes : (total : ℕ) → length s ≤ total → Writes total
+  unfolding xs
+  read-writes total h =
+      let k : length (listBytes xs) ≤ total = subst (λ (z : List ℕ). length z ≤ total) (accepted .bytes) h in
+      let w = write-good xs total (accepted .good) small-32 k in
+      record {
+        answer = rw (words, texts) (w .0 ∙ ap (λ (z : List ℕ). Done (length z)) (sym (accepted .bytes)));
+        room = rw (words, texts) (w .1 ∙ ap (filled total) (sym (accepted .bytes)));
+      }
+
+-- "one meaning has one stored form"
+pub one-form : (s s′ : List ℕ) (b t b′ t′ : ℕ) → Bytes s → Bytes s′ → {c : Counts} → storedAnswer b t s ≡ Read c → storedAnswer b′ t′ s′ ≡ Read c
+    → take (c .blocks * 13) (storedBlocks b t s) ≡ take (c .blocks * 13) (storedBlocks b′ t′ s′) → take (c .text) (storedText b t s) ≡ take (c .text) (storedText b′ t′ s′)
+    → s ≡ s′
+one-form s s′ b t b′ t′ by by′ {c} e e′ p r =
+    let total : ℕ = length s + length s′ in
+    let x = read-writes s b t by e total (omega arith) in
+    let y = read-writes s′ b′ t′ by′ e′ total (omega arith) in
+    let ws : List ℕ = take (c .blocks * 13) (storedBlocks b t s) in
+    let tx : List ℕ = take (c .text) (storedText b t s) in
+    let a : writeAnswer total ws tx ≡ Done (length s′) = subst (λ (v : List ℕ). writeAnswer total v tx ≡ Done (length s′)) (sym p)
+    (subst (λ (v : List ℕ). writeAnswer total (take (c .blocks * 13) (storedBlocks b′ t′ s′)) v ≡ Done (length s′)) (sym r) (y .answer)) in
+    let f : writeRoom total ws tx ≡ filled total s′ = subst (λ (v : List ℕ). writeRoom total v tx ≡ filled total s′) (sym p)
+    (subst (λ (v : List ℕ). writeRoom total (take (c .blocks * 13) (storedBlocks b′ t′ s′)) v ≡ filled total s′) (sym r) (y .room)) in
+    let d : Done (length s) ≡ Done (length s′) = sym (x .answer) ∙ a in
+    let l : length s ≡ length s′ = cc in
+    sym (take-filled total s (length s) refl) ∙ ap (take (length s)) (sym (x .room) ∙ f) ∙ take-filled total s′ (length s) (sym l)
