@@ -28,7 +28,7 @@ use Rattle.stored.specs.declared.Answer.the-variants.{Read}
 use Rattle.stored.specs.Stored.{placed, storedAnswer, storedBlocks, storedText}
 use Rattle.storing.specs.Good.{Good}
 use Rattle.roundtrips.specs.Trips.{Words, Small, all}
-use Rattle.roundtrips.proofs.Lists.{good-rest, good-starts}
+use Rattle.storing.proofs.Writing.{good-one}
 
 pub items-all : (xs : List Piece) → items (all xs) ≡ xs
 unfolding items all
@@ -46,8 +46,8 @@ unfolding roomy all textOf
 roomy-all [] b t l g h k = refl
 roomy-all (x ∷ xs) b t l g h k =
     let n = length-append (x .bytes) (textOf xs) in
-    rw (good-starts l x xs g, ne-eqb b 0 (λ z. omega arith), le-ltb t (length (x .bytes)) (omega (arith, n, k)))
-    (ap (λ (z : Stream Piece). x ▸ z) (roomy-all xs (b - 1) (t - length (x .bytes)) (last (x .style)) (good-rest l x xs g) (omega arith) (omega (arith, n, k))))
+    rw (good-one l x xs g .change, ne-eqb b 0 (λ z. omega arith), le-ltb t (length (x .bytes)) (omega (arith, n, k)))
+    (ap (λ (z : Stream Piece). x ▸ z) (roomy-all xs (b - 1) (t - length (x .bytes)) (last (x .style)) (good-one l x xs g .rest) (omega arith) (omega (arith, n, k))))
 
 -- what found room is a front of what was asked, and all of it where all was read
 pub roomy-whole : (s : Stream Piece) (b t : ℕ) (l : Last) (j : ℕ) {r : ℕ} → answer j (roomy b t l s) ≡ Done r → (roomy b t l s ≡ s)
@@ -76,13 +76,13 @@ apart : (xs : List Piece) (st : Style) (bs : List ℕ) → Good (last st) xs ≡
 unfolding blocksFrom
 apart [] st bs g = refl
 apart (x ∷ xs) st bs g =
-    rw (not-true (sameStyle st (x .style)) (good-starts (last st) x xs g))
-    (ap (λ (l : List Piece). piece st bs ∷ l) (apart xs (x .style) (x .bytes) (good-rest (last st) x xs g)))
+    rw (not-true (sameStyle st (x .style)) (good-one (last st) x xs g .change))
+    (ap (λ (l : List Piece). piece st bs ∷ l) (apart xs (x .style) (x .bytes) (good-one (last st) x xs g .rest)))
 
 pub blocks-apart : (xs : List Piece) → Good none xs ≡ true → blocks xs ≡ xs
 unfolding blocks
 blocks-apart [] g = refl
-blocks-apart (x ∷ xs) g = apart xs (x .style) (x .bytes) (good-rest none x xs g)
+blocks-apart (x ∷ xs) g = apart xs (x .style) (x .bytes) (good-one none x xs g .rest)
 
 -- the text that found room
 pub roomy-text : (s : Stream Piece) (b t : ℕ) (l : Last) (j : ℕ) {r : ℕ} → answer j (roomy b t l s) ≡ Done r → length (textOf (items (roomy b t l s))) ≤ t

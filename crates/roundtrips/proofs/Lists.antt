@@ -1,71 +1,42 @@
 -- A whole list without rooms, there and back.
---     good-first, good-rest     blocks that may stand one after the other, one by one
+--     good-fit, good-more       blocks that may stand one after the other, one by one
 --     blocks-written, list-written   what blocks are as bytes, read
 --     Read, blocks-read, list-read   what was read is its bytes
 -- Assumes nothing.
 use mathlib.Core.Path.{_≡_, refl, sym, ap, _∙_}
 use mathlib.Core.List.{List, [], _∷_, _++_, append-assoc}
-use mathlib.Core.Bool.{Bool, true, false, _&&_}
+use mathlib.Core.Bool.{true}
 use Prim.Native.Nat.{ℕ, zero, suc, _+_, _≤_, _<_}
 use native.Mathlib.Omega.{arith}
-use borrow.Author.Tests.{ltb-true, lt-ltb}
 use lib.ListN.{length, take, drop, length-append, take-append-drop}
 use lib.Seq.{drop-append-seam, take-append-seam, drop-drop}
-use lib.Dec.{ltb}
 use Rattle.answers.specs.declared.Outcome.the-variants.{Done, Refused}
 use Rattle.rooms.specs.Streams.{Stream, end, stop, _▸_, items, answer}
 use Rattle.rooms.proofs.Streams.{done-refused}
-use Rattle.bytes.proofs.Runs.{and-left, and-right}
 use Rattle.sevens.specs.declared.Numeral.{Numeral}
 use Rattle.sevens.specs.declared.Numeral.the-variants.{Is as Numbered, Bad as BadNumber, Short}
 use Rattle.sevens.specs.Sevens.{numberOf, written}
 use Rattle.sevens.proofs.Sevens.{read-written, written-read}
-use Rattle.wellformed.specs.WellFormed.{isUtf8}
 use Rattle.styles.specs.declared.Style.{Style}
-use Rattle.pages.specs.Pages.{Piece, piece, Last, none, last, starts}
-use Rattle.fields.specs.Fields.{inRange}
+use Rattle.pages.specs.Pages.{Piece, piece, Last, none, last}
 use Rattle.stored.specs.declared.Entry.{Entry}
 use Rattle.stored.specs.declared.Entry.the-variants.{Is, Bad}
 use Rattle.stored.specs.Blocks.{entry}
 use Rattle.stored.specs.Stored.{over, entered, blocksFrom, counted, stored}
 use Rattle.storing.specs.Lists.{numbersBytes, blockNumbers, blockBytes, blocksBytes, listBytes}
 use Rattle.storing.specs.Good.{Good}
+use Rattle.storing.proofs.Writing.{good-one, one-good}
 use Rattle.roundtrips.specs.Trips.{Bytes, Small, all}
 use Rattle.roundtrips.proofs.Numbers.{bytes-drop}
 use Rattle.roundtrips.proofs.Blocks.{Fit, entry-written, Back, entry-read}
 
-module _ (l : Last) (x : Piece) (xs : List Piece) where
-  module _ (g : Good l (x ∷ xs) ≡ true) where
-    rest₁ : ltb 0 (length (x .bytes)) && (starts l (x .style) && (isUtf8 (x .bytes) && Good (last (x .style)) xs)) ≡ true
-    unfolding Good
-    rest₁ = and-right (inRange (x .style)) _ g
+pub good-fit : (l : Last) (x : Piece) (xs : List Piece) → Good l (x ∷ xs) ≡ true → Small (x ∷ xs) → Fit l x
+good-fit l x xs g (w, h, more) =
+    let o = good-one l x xs g in
+    record { range = o .range; some = o .some; differs = o .change; utf8 = o .whole; words = w; short = h }
 
-    rest₂ : starts l (x .style) && (isUtf8 (x .bytes) && Good (last (x .style)) xs) ≡ true
-    rest₂ = and-right (ltb 0 (length (x .bytes))) _ rest₁
-
-    rest₃ : isUtf8 (x .bytes) && Good (last (x .style)) xs ≡ true
-    rest₃ = and-right (starts l (x .style)) _ rest₂
-
-    pub good-rest : Good (last (x .style)) xs ≡ true
-    good-rest = and-right (isUtf8 (x .bytes)) _ rest₃
-
-    pub good-starts : starts l (x .style) ≡ true
-    good-starts = and-left (starts l (x .style)) _ rest₂
-
-    pub good-fit : Small (x ∷ xs) → Fit l x
-    unfolding Good
-    good-fit (w, h, more) = record {
-      range = and-left (inRange (x .style)) _ g;
-      some = ltb-true 0 (length (x .bytes)) (and-left (ltb 0 (length (x .bytes))) _ rest₁);
-      differs = good-starts;
-      utf8 = and-left (isUtf8 (x .bytes)) _ rest₃;
-      words = w;
-      short = h;
-    }
-
-  pub good-more : Fit l x → Good (last (x .style)) xs ≡ true → Good l (x ∷ xs) ≡ true
-  unfolding Good
-  good-more f g = rw (f .range, lt-ltb 0 (length (x .bytes)) (f .some), f .differs, f .utf8) g
+good-more : (l : Last) (x : Piece) (xs : List Piece) → Fit l x → Good (last (x .style)) xs ≡ true → Good l (x ∷ xs) ≡ true
+good-more l x xs f g = one-good l x xs (record { range = f .range; some = f .some; change = f .differs; whole = f .utf8; rest = g })
 
 -- ---- written, then read
 
@@ -91,7 +62,7 @@ unfolding blocksFrom blocksBytes all
 blocks-written [] l g s = refl
 blocks-written (x ∷ xs) l g s =
     entered-written x (blocksBytes xs) l (blocksFrom (length xs)) (good-fit l x xs g s)
-    ∙ ap (λ (z : Stream Piece). x ▸ z) (blocks-written xs (last (x .style)) (good-rest l x xs g) (s .2))
+    ∙ ap (λ (z : Stream Piece). x ▸ z) (blocks-written xs (last (x .style)) (good-one l x xs g .rest) (s .2))
 
 pub list-written : (xs : List Piece) → Good none xs ≡ true → Small xs → length xs < 4294967296 → stored (listBytes xs) ≡ all xs
 unfolding stored listBytes

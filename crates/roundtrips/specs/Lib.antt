@@ -1,2 +1,2 @@
--- Bytes: what every stored list is made of. All: a list of blocks as a stream that ends. Assumes nothing.
+-- Trips: what the round trips speak of. Assumes nothing.
 pub mod Trips

@@ -5,7 +5,7 @@
 --     length-numbers, -block  how many bytes numbers and a block have
 --     block-wrote             numbers, and then a text
 -- Assumes nothing.
-use mathlib.Core.Path.{_≡_, refl, sym, ap, _∙_}
+use mathlib.Core.Path.{_≡_, refl, ap, _∙_}
 use mathlib.Core.List.{List, [], _∷_, _++_}
 use Prim.Native.Nat.{ℕ, suc, _+_, _*_, _≤_, _<_}
 use native.Mathlib.Numerals.{add-one}
@@ -14,7 +14,7 @@ use lib.ListN.{length, getD, drop, length-append, drop-of-length-le}
 use lib.Seq.{drop-cons}
 use Rattle.answers.specs.declared.Outcome.{Outcome}
 use Rattle.answers.specs.declared.Outcome.the-variants.{Done}
-use Rattle.rooms.specs.Streams.{Stream, end, _▸_, andThen}
+use Rattle.rooms.specs.Streams.{Stream, end, andThen}
 use Rattle.rooms.specs.Rooms.{Wrote, put}
 use Rattle.rooms.proofs.Rooms.{wrote-none, wrote-then, wrote-more, length-put, length-putAll}
 use Rattle.sevens.specs.Sevens.{written, byteLayout, streamed}

@@ -1,20 +1,19 @@
 -- The loop over the records: who writes the blocks of the records left has written all. A block has at most 60 bytes of numbers
 -- and at least one of text, so that the next place is at most 61 times the place in the text, and five more.
 -- Assumes nothing.
-use mathlib.Core.Path.{_≡_, refl, sym, ap, _∙_}
+use mathlib.Core.Path.{_≡_, refl, sym, _∙_}
 use mathlib.Core.List.{List}
-use mathlib.Core.Bool.{Bool, true, false, not, cond}
-use Prim.Native.Nat.{ℕ, zero, suc, _+_, _-_, _*_, _/_, _≤_, _<_}
+use mathlib.Core.Bool.{Bool, true, false, not}
+use Prim.Native.Nat.{ℕ, suc, _+_, _-_, _*_, _/_, _≤_, _<_}
 use native.Mathlib.Omega.{arith}
 use borrow.Author.Tests.{not-true, not-false, eq-eqb, ne-eqb}
-use lib.ListN.{length, getD, take, drop, length-take, length-drop}
+use lib.ListN.{length, take, drop, length-take, length-drop}
 use lib.Seq.{take-all}
 use Rattle.answers.specs.declared.Refusal.{Refusal}
 use Rattle.answers.specs.declared.Why.the-variants.{StoredField}
-use Rattle.answers.specs.declared.Outcome.{Outcome}
 use Rattle.answers.specs.declared.Outcome.the-variants.{Done, Refused}
 use Rattle.answers.specs.Answers.{refusal}
-use Rattle.rooms.specs.Streams.{Stream, end, stop, _▸_, andThen}
+use Rattle.rooms.specs.Streams.{Stream, end, stop, andThen}
 use Rattle.rooms.specs.Rooms.{Wrote}
 use Rattle.rooms.proofs.Rooms.{wrote-none, wrote-stop, wrote-then}
 use Rattle.sevens.specs.Sevens.{byteLayout, streamed}
@@ -23,7 +22,7 @@ use Rattle.styles.specs.declared.Style.{Style}
 use Rattle.fields.specs.Fields.{lastOf}
 use Rattle.pages.specs.Pages.{Piece, piece, Last, none, last}
 use Rattle.storing.specs.Lists.{blockBytes}
-use Rattle.storing.specs.Storing.{styleAt, placeAt, lengthAt, fits, piecesFrom, bytesOf}
+use Rattle.storing.specs.Storing.{styleAt, lengthAt, fits, piecesFrom, bytesOf}
 use Rattle.storing.proofs.Putting.{Ahead, wrote-length, length-block}
 use Rattle.storing.proofs.Fitting.{Fit, fits-fit}
 

@@ -1,7 +1,6 @@
 -- What is written, and of which blocks: the writer's half of the round trips.
 --     GoodOne, good-one, one-good    what each good block keeps
 --     good-count                     good blocks are at most as many as their text has bytes
---     length-records                 thirteen words to a block
 --     stream-good                    good blocks are written as the list that they are
 --     stream-ends                    only good blocks are written, and as that list
 --     write-good                     so are the answer and the room
@@ -9,28 +8,26 @@
 use mathlib.Core.Path.{_≡_, refl, sym, ap, _∙_}
 use mathlib.Core.List.{List, [], _∷_, _++_}
 use mathlib.Core.Bool.{Bool, true, false, cond, _&&_}
-use Prim.Native.Nat.{ℕ, zero, suc, _+_, _-_, _*_, _/_, _%_, _≤_, _<_}
+use Prim.Native.Nat.{ℕ, zero, suc, _+_, _*_, _/_, _%_, _≤_, _<_}
 use native.Mathlib.Omega.{arith}
 use borrow.Author.Tests.{ltb-true, lt-ltb, eqb-true, eq-eqb}
 use lib.ListN.{length, getD, take, drop, length-append, length-take, length-drop, take-append-drop}
 use lib.Seq.{take-at, drop-at, drop-drop, drop-cons, drop-length}
 use lib.Dec.{ltb, eqb}
-use Rattle.answers.specs.declared.Refusal.{Refusal}
 use Rattle.answers.specs.declared.Why.the-variants.{StoredField, OutputRoom}
-use Rattle.answers.specs.declared.Outcome.{Outcome}
-use Rattle.answers.specs.declared.Outcome.the-variants.{Done, Refused}
+use Rattle.answers.specs.declared.Outcome.the-variants.{Done}
 use Rattle.answers.specs.Answers.{refusal}
 use Rattle.bytes.proofs.Runs.{and-left, and-right}
-use Rattle.rooms.specs.Streams.{Stream, end, stop, _▸_, andThen, answer}
+use Rattle.rooms.specs.Streams.{Stream, end, stop, andThen, answer}
 use Rattle.rooms.specs.Rooms.{filled, settled, content}
 use Rattle.rooms.proofs.Streams.{answer-then, done-refused}
 use Rattle.rooms.proofs.Rooms.{settled-fits}
 use Rattle.sevens.specs.Sevens.{written, byteLayout, streamed}
 use Rattle.sevens.proofs.Streamed.{answer-streamed, streamed-append, encode-streamed}
 use Rattle.wellformed.specs.WellFormed.{isUtf8}
-use Rattle.styles.specs.declared.Style.{Style}
 use Rattle.fields.specs.Fields.{inRange}
 use Rattle.pages.specs.Pages.{Piece, piece, Last, none, last, starts, textOf, blockRecord, records}
+use Rattle.pages.proofs.Blocks.{length-records}
 use Rattle.storing.specs.Lists.{blockBytes, blocksBytes, listBytes}
 use Rattle.storing.specs.Storing.{styleAt, placeAt, lengthAt, fits, piecesFrom, pieces, bytesOf}
 use Rattle.storing.specs.Storing.{listStream, writeAnswer, writeRoom}
@@ -78,11 +75,6 @@ good-count [] l h = omega arith
 good-count (x ∷ xs) l h =
     let g = good-one l x xs h in
     omega (arith, g .some, length-append (x .bytes) (textOf xs), good-count xs (last (x .style)) (g .rest))
-
-pub length-records : (xs : List Piece) (p : ℕ) → length (records p xs) ≡ length xs * 13
-unfolding records blockRecord
-length-records [] p = refl
-length-records (x ∷ xs) p = omega (arith, length-records xs (p + length (x .bytes)))
 
 -- ---- records one after the other
 

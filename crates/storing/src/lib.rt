@@ -39,7 +39,8 @@ fn wide(x: u32) -> usize
 // Numbers one after the other from place n of a room on. The next place.
 fn put_numbers(words: &[u32], room: &mut [u8], n: usize) -> usize
     requires { ⌜ (length (now words) ≤ 12) × (n ≤ 4611686018427387904) ⌝ }
-    ensures { λ r. ⌜ Wrote byteLayout n (now (room .entry)) (streamed (numbersBytes (now (words .entry)))) (Outcome.Done r) (now (room .exit)) ⌝ }
+    ensures { λ r. ⌜ Wrote byteLayout n (now (room .entry)) (streamed (numbersBytes (now (words .entry)))) (Outcome.Done r)
+        (now (room .exit)) ⌝ }
 {
     let mut at = n;
     let mut i: usize = 0;
@@ -54,7 +55,8 @@ fn put_numbers(words: &[u32], room: &mut [u8], n: usize) -> usize
 // Bytes from place n of a room on. The next place.
 fn put_bytes(bytes: &[u8], room: &mut [u8], n: usize) -> usize
     requires { ⌜ n ≤ 4611686018427387904 ⌝ }
-    ensures { λ r. ⌜ Wrote byteLayout n (now (room .entry)) (streamed (now (bytes .entry))) (Outcome.Done r) (now (room .exit)) ⌝ }
+    ensures { λ r. ⌜ Wrote byteLayout n (now (room .entry)) (streamed (now (bytes .entry))) (Outcome.Done r)
+        (now (room .exit)) ⌝ }
 {
     let mut at = n;
     let mut i: usize = 0;
@@ -90,7 +92,8 @@ fn style_at(words: &[u32]) -> Style
 // A block from place n of a room on: its numbers, then its text. The next place.
 fn put_block(s: Style, text: &[u8], room: &mut [u8], n: usize) -> usize
     requires { ⌜ (length (now text) < 4294967296) × (n ≤ 1152921504606846976) ⌝ }
-    ensures { λ r. ⌜ Wrote byteLayout n (now (room .entry)) (streamed (blockBytes (piece s (now (text .entry))))) (Outcome.Done r) (now (room .exit)) ⌝ }
+    ensures { λ r. ⌜ Wrote byteLayout n (now (room .entry)) (streamed (blockBytes (piece s (now (text .entry)))))
+        (Outcome.Done r) (now (room .exit)) ⌝ }
 {
     let before = fold(s.before);
     let after = fold(s.after);
@@ -146,7 +149,9 @@ fn fits(begun: bool, before: Style, p: usize, words: &[u32], text: &[u8]) -> boo
 // The blocks of all records. The next place, if their text is the whole text.
 fn put_blocks(blocks: &[u32], text: &[u8], room: &mut [u8], n: usize) -> Outcome
     requires { ⌜ n ≤ 5 ⌝ }
-    ensures { λ r. ⌜ Wrote byteLayout n (now (room .entry)) (bytesOf (piecesFrom (length (now (blocks .entry)) / 13) none 0 (now (blocks .entry)) (now (text .entry)))) r (now (room .exit)) ⌝ }
+    ensures { λ r. ⌜ Wrote byteLayout n (now (room .entry))
+        (bytesOf (piecesFrom (length (now (blocks .entry)) / 13) none 0 (now (blocks .entry)) (now (text .entry))))
+        r (now (room .exit)) ⌝ }
 {
     let mut words = blocks;
     let mut begun = false;
@@ -179,7 +184,7 @@ fn refuse(refusal: Refusal, room: &mut [u8]) -> Outcome
     Outcome::Refused(refusal)
 }
 
-// Writes blocks and their text as a stored list. Every byte of the room is written once or set to zero once.
+// Writes blocks and their text as a stored list.
 pub fn write_list(blocks: &[u32], text: &[u8], room: &mut [u8]) -> Outcome
     ensures answer { λ r. ⌜ r ≡ writeAnswer (length (now (room .entry))) (now (blocks .entry)) (now (text .entry)) ⌝ }
     ensures content { λ _. ⌜ now (room .exit) ≡ writeRoom (length (now (room .entry))) (now (blocks .entry)) (now (text .entry)) ⌝ }

@@ -57,7 +57,8 @@ returns-3 c =
     let start = at-style-at .before .before .before in
     no-change (start .args .begun) (start .args .before) _ _ _
     (at-style-at .style-at .ensures) (at-in-range .in-range .ensures)
-    (at-if1 .if1 .left) (at-wide2 .wide2 .ensures) (λ e. omega (arith, at-if2 .if2 .left)) (at-follows .follows .ensures) (c .if3 .taken)
+    (at-if1 .if1 .left) (at-wide2 .wide2 .ensures) (λ e. omega (arith, at-if2 .if2 .left))
+    (at-follows .follows .ensures) (c .if3 .taken)
 
 returns-4 : tie.Need-returns-4
 returns-4 c =
@@ -72,8 +73,8 @@ returns-4 c =
     let start = at-style-at .before .before .before in
     no-place (start .args .begun) (start .args .before) _ _ _
     (at-style-at .style-at .ensures) (at-in-range .in-range .ensures)
-    (at-if1 .if1 .left) (at-wide2 .wide2 .ensures) (λ e. omega (arith, at-if2 .if2 .left)) (at-follows .follows .ensures)
-    (at-if3 .if3 .left) (at-wide .wide .ensures) (λ e. omega (arith, c .if4 .taken))
+    (at-if1 .if1 .left) (at-wide2 .wide2 .ensures) (λ e. omega (arith, at-if2 .if2 .left))
+    (at-follows .follows .ensures) (at-if3 .if3 .left) (at-wide .wide .ensures) (λ e. omega (arith, c .if4 .taken))
 
 sub-if5 : tie.Need-sub-if5
 sub-if5 c = search needs
@@ -92,8 +93,9 @@ returns-5 c =
     let start = at-style-at .before .before .before in
     no-rest (start .args .begun) (start .args .before) _ _ _
     (at-style-at .style-at .ensures) (at-in-range .in-range .ensures)
-    (at-if1 .if1 .left) (at-wide2 .wide2 .ensures) (λ e. omega (arith, at-if2 .if2 .left)) (at-follows .follows .ensures)
-    (at-if3 .if3 .left) (at-wide .wide .ensures) (omega (arith, at-if4 .if4 .left)) (omega (arith, c .if5 .taken))
+    (at-if1 .if1 .left) (at-wide2 .wide2 .ensures) (λ e. omega (arith, at-if2 .if2 .left))
+    (at-follows .follows .ensures) (at-if3 .if3 .left) (at-wide .wide .ensures)
+    (omega (arith, at-if4 .if4 .left)) (omega (arith, c .if5 .taken))
 
 add-end : tie.Need-add-end
 add-end c = search needs
@@ -125,8 +127,9 @@ returns-6 c =
     let start = at-style-at .before .before .before in
     text-decides (start .args .begun) (start .args .before) _ _ _
     (at-style-at .style-at .ensures) (at-in-range .in-range .ensures)
-    (at-if1 .if1 .left) (at-wide2 .wide2 .ensures) (λ e. omega (arith, at-if2 .if2 .left)) (at-follows .follows .ensures)
-    (at-if3 .if3 .left) (at-wide .wide .ensures) (omega (arith, at-if4 .if4 .left)) (omega (arith, at-if5 .if5 .left)) (c .is-utf8 .ensures)
+    (at-if1 .if1 .left) (at-wide2 .wide2 .ensures) (λ e. omega (arith, at-if2 .if2 .left))
+    (at-follows .follows .ensures) (at-if3 .if3 .left) (at-wide .wide .ensures) (omega (arith, at-if4 .if4 .left))
+    (omega (arith, at-if5 .if5 .left)) (c .is-utf8 .ensures)
 
 pub fits-spec : {M : Type 1} → statement M
 fits-spec =

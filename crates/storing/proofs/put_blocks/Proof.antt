@@ -1,7 +1,6 @@
 -- `put_blocks` meets its contract. The invariant: who writes the blocks of the records left has written all; the words left are
 -- the measure.
 use borrow.Author.Needs.{needs}
-use mathlib.Core.Path.{_∙_}
 use native.Mathlib.Omega.{arith}
 use lib.ListN.{length, length-take, length-drop}
 use Rattle.storing.proofs.Rows.{Rows, rows-start, rows-stop, rows-over, rows-done, rows-more, row-fit}
@@ -98,8 +97,10 @@ put-block-requires c κs =
     let at-loop-test = at-fits2 .before in
     let at-loop = at-loop-test .before in
     let f = row-fit (at-loop .loop .inv) (at-loop-test .loop-test .taken) (at-fits2 .fits2 .ensures) (at-if1 .if1 .left) in
-    let w = at-shared-slice-known3 .shared-slice-known3 .given in
-    (simp (length-take, length-drop) (omega (arith, at-wide .wide .ensures, w 12)), omega (arith, f .here, at-loop .loop .inv .place, w 11))
+    let w = at-shared-slice-known3 .shared-slice-known3 .given in (
+      simp (length-take, length-drop) (omega (arith, at-wide .wide .ensures, w 12)),
+      omega (arith, f .here, at-loop .loop .inv .place, w 11),
+    )
 
 sub-words : tie.Need-sub-words Inv-loop μ-loop
 sub-words c = search needs

@@ -1,5 +1,6 @@
 -- `write_list` meets its contract: a refusal before anything is written, one by the blocks, a list that fits, or one too long.
 use mathlib.Core.Path.{refl}
+use native.Mathlib.Omega.{arith}
 use Rattle.storing.proofs.Putting.{wrote-length}
 use Rattle.storing.proofs.Settling.{pieces-part, pieces-many, answer-stop, list-wrote, number-place}
 use Rattle.storing.proofs.Settling.{refuse-answer, refuse-room, answer-refused}
@@ -23,9 +24,11 @@ returns c =
     let at-of = at-refuse .before .before in
     let at-if1 = at-of .before in
     let start = at-if1 .before .before .before .before in
-    let a = answer-stop _ _ (pieces-part _ (start .args .text .now) (at-if1 .if1 .taken)) in (
-      refuse-answer _ _ _ a (at-refuse .refuse .ensures .0) (at-of .of .ensures),
-      refuse-room _ _ _ a refl (at-refuse .refuse .ensures .1),
+    let ws = start .args .blocks .now in
+    let tx = start .args .text .now in
+    let a = answer-stop ws tx (pieces-part ws tx (λ e. omega (arith, e, at-if1 .if1 .taken))) in (
+      refuse-answer ws tx _ a (at-refuse .refuse .ensures .0) (at-of .of .ensures),
+      refuse-room ws tx _ a refl (at-refuse .refuse .ensures .1),
     )
 
 of-requires-2 : tie.Need-of-requires-2
@@ -44,9 +47,11 @@ returns-2 c =
     let at-if2 = at-of2 .before in
     let at-if1 = at-if2 .before in
     let start = at-if1 .before .before .before .before in
-    let a = answer-stop _ _ (pieces-many _ (start .args .text .now) (at-if1 .if1 .left) (at-if2 .if2 .taken)) in (
-      refuse-answer _ _ _ a (at-refuse2 .refuse2 .ensures .0) (at-of2 .of2 .ensures),
-      refuse-room _ _ _ a refl (at-refuse2 .refuse2 .ensures .1),
+    let ws = start .args .blocks .now in
+    let tx = start .args .text .now in
+    let a = answer-stop ws tx (pieces-many ws tx (omega (arith, at-if1 .if1 .left)) (omega (arith, at-if2 .if2 .taken))) in (
+      refuse-answer ws tx _ a (at-refuse2 .refuse2 .ensures .0) (at-of2 .of2 .ensures),
+      refuse-room ws tx _ a refl (at-refuse2 .refuse2 .ensures .1),
     )
 
 cast-number : tie.Need-cast-number
@@ -84,11 +89,14 @@ returns-3 c =
     let at-put-number = at-put-blocks .before .before .before .before in
     let at-if2 = at-put-number .before .before in
     let at-if1 = at-if2 .before in
-    let w = list-wrote _ _ (at-if1 .if1 .left) (at-if2 .if2 .left) (at-put-number .put-number .ensures)
-    (at-put-blocks .put-blocks .ensures) in
+    let start = at-if1 .before .before .before .before in
+    let ws = start .args .blocks .now in
+    let tx = start .args .text .now in
+    let w = list-wrote ws tx (omega (arith, at-if1 .if1 .left)) (omega (arith, at-if2 .if2 .left))
+    (at-put-number .put-number .ensures) (at-put-blocks .put-blocks .ensures) in
     let e = at-outcome2 .outcome2 .given .1 in (
-      settle-fits _ _ w e (at-if3 .if3 .taken),
-      room-fits _ _ w e (at-if3 .if3 .taken) (at-clear-bytes-from .clear-bytes-from .ensures),
+      settle-fits ws tx w e (omega (arith, at-if3 .if3 .taken)),
+      room-fits ws tx w e (omega (arith, at-if3 .if3 .taken)) (at-clear-bytes-from .clear-bytes-from .ensures),
     )
 
 of-requires-3 : tie.Need-of-requires-3
@@ -108,11 +116,14 @@ returns-4 c =
     let at-put-number = at-put-blocks .before .before .before .before in
     let at-if2 = at-put-number .before .before in
     let at-if1 = at-if2 .before in
-    let w = list-wrote _ _ (at-if1 .if1 .left) (at-if2 .if2 .left) (at-put-number .put-number .ensures)
-    (at-put-blocks .put-blocks .ensures) in
-    let a = answer-refused _ _ w (at-outcome .outcome .given .1) in (
-      refuse-answer _ _ _ a (at-refuse3 .refuse3 .ensures .0) refl,
-      refuse-room _ _ _ a (wrote-length w) (at-refuse3 .refuse3 .ensures .1),
+    let start = at-if1 .before .before .before .before in
+    let ws = start .args .blocks .now in
+    let tx = start .args .text .now in
+    let w = list-wrote ws tx (omega (arith, at-if1 .if1 .left)) (omega (arith, at-if2 .if2 .left))
+    (at-put-number .put-number .ensures) (at-put-blocks .put-blocks .ensures) in
+    let a = answer-refused ws tx w (at-outcome .outcome .given .1) in (
+      refuse-answer ws tx _ a (at-refuse3 .refuse3 .ensures .0) refl,
+      refuse-room ws tx _ a (wrote-length w) (at-refuse3 .refuse3 .ensures .1),
     )
 
 same-length-5 : tie.Need-same-length-5
@@ -128,11 +139,15 @@ returns-5 c =
     let at-put-number = at-put-blocks .before .before .before .before in
     let at-if2 = at-put-number .before .before in
     let at-if1 = at-if2 .before in
-    let w = list-wrote _ _ (at-if1 .if1 .left) (at-if2 .if2 .left) (at-put-number .put-number .ensures)
-    (at-put-blocks .put-blocks .ensures) in
+    let start = at-if1 .before .before .before .before in
+    let ws = start .args .blocks .now in
+    let tx = start .args .text .now in
+    let w = list-wrote ws tx (omega (arith, at-if1 .if1 .left)) (omega (arith, at-if2 .if2 .left))
+    (at-put-number .put-number .ensures) (at-put-blocks .put-blocks .ensures) in
     let e = at-outcome2 .outcome2 .given .1 in (
-      over-answer _ _ w e (at-if3 .if3 .left) (at-refuse4 .refuse4 .ensures .0) (at-of3 .of3 .ensures),
-      over-room _ _ w e (at-if3 .if3 .left) (at-refuse4 .refuse4 .ensures .1),
+      over-answer ws tx w e (omega (arith, at-if3 .if3 .left))
+          (at-refuse4 .refuse4 .ensures .0) (at-of3 .of3 .ensures),
+      over-room ws tx w e (omega (arith, at-if3 .if3 .left)) (at-refuse4 .refuse4 .ensures .1),
     )
 
 pub write-list-spec : {M : Type 1} → statement M
