@@ -3,15 +3,20 @@
  *
  * A request on standard input: eight u32 (function, source length, the sizes of five rooms in
  * elements, a junk byte), then the source. The answer on standard output: a u32 that is 1 if nothing
- * outside a room was written, the six u32 of a reading (a cutter's two, then zeros), then all
- * elements of the rooms. Rooms are filled with junk and stand between guards, the source between
- * bytes that would change the answer if they were read. All is little endian. */
+ * outside a room was written, the six u32 of a reading (those that another function has, then
+ * zeros), then all elements of the rooms. Rooms are filled with junk and stand between guards, the
+ * source between bytes that would change the answer if they were read. All is little endian.
+ *
+ * Stored forms: the source of a check and of a reading is a list, that of a writing its blocks and
+ * then its text; a writing's first size counts the words of the blocks, and is no room's. Blocks
+ * are read into the fourth room and text into the fifth; a list is written into the fifth. The
+ * answer is the refusal and two counts, each as its low and its high half. */
 
 typedef unsigned char u8;
 typedef unsigned int u32;
 typedef unsigned long usize;
 
-enum { CUT, PLAIN, PARAGRAPHS };
+enum { CUT, PLAIN, PARAGRAPHS, STORED_CHECK, STORED_READ, STORED_WRITE };
 enum { GUARD = 64, GUARD_BYTE = 0x6B, SPACE = 256 << 20, AHEAD = 1 << 16, BEHIND = 1 << 16 };
 
 struct answer {
@@ -23,6 +28,18 @@ struct cut_answer {
     u32 refusal, tokens;
 };
 struct cut_answer elduvarn_cut(const u8 *, usize, u32 *, usize);
+#elif defined STORED
+struct stored_answer {
+    u32 refusal;
+    usize blocks, text;
+};
+struct write_answer {
+    u32 refusal;
+    usize bytes;
+};
+u32 elduvarn_stored_check(const u8 *, usize);
+struct stored_answer elduvarn_stored_read(const u8 *, usize, u32 *, usize, u8 *, usize);
+struct write_answer elduvarn_stored_write(const u32 *, usize, const u8 *, usize, u8 *, usize);
 #else
 struct answer elduvarn_read_plain(const u8 *, usize, u32 *, usize, u32 *, usize, u32 *, usize,
                                   u32 *, usize, u8 *, usize);
@@ -167,22 +184,69 @@ static u32 guards_hold(const u8 *place, usize bytes)
     return 1;
 }
 
-static struct answer answered(u32 function, const u8 *source, u8 **room, const u32 *sizes)
+/* What a call is given: a source, and blocks where it is a writing's text. */
+struct given {
+    u8 *source;
+    usize length;
+    u32 *blocks;
+    usize words;
+};
+
+static struct given given_by(u32 *head)
+{
+    struct given given = {0, head[1], 0, 0};
+    if (head[0] == STORED_WRITE) {
+        given.words = head[2];
+        given.length -= 4 * given.words;
+        given.blocks = (u32 *)lend(4 * given.words);
+        take((u8 *)given.blocks, 4 * given.words);
+        head[2] = 0;
+    }
+    given.source = lend(given.length);
+    memset(given.source - GUARD, '\\', GUARD);
+    memset(given.source + given.length, '}', GUARD);
+    take(given.source, given.length);
+    return given;
+}
+
+#ifdef STORED
+static struct answer counted(u32 refusal, usize one, usize two)
+{
+    struct answer answer = {{refusal, one, one >> 32, two, two >> 32, 0}};
+    return answer;
+}
+
+static struct answer answered(u32 function, struct given g, u8 **room, const u32 *sizes)
+{
+    if (function == STORED_CHECK)
+        return counted(elduvarn_stored_check(g.source, g.length), 0, 0);
+    if (function == STORED_READ) {
+        struct stored_answer read = elduvarn_stored_read(g.source, g.length, (u32 *)room[3],
+                                                         sizes[5], room[4], sizes[6]);
+        return counted(read.refusal, read.blocks, read.text);
+    }
+    struct write_answer written =
+        elduvarn_stored_write(g.blocks, g.words, g.source, g.length, room[4], sizes[6]);
+    return counted(written.refusal, written.bytes, 0);
+}
+#else
+static struct answer answered(u32 function, struct given g, u8 **room, const u32 *sizes)
 {
     u32 *words[4];
     (void)function;
     for (int i = 0; i < 4; i++)
         words[i] = (u32 *)room[i];
 #ifdef CUTTER
-    struct cut_answer cut = elduvarn_cut(source, sizes[1], words[0], sizes[2]);
+    struct cut_answer cut = elduvarn_cut(g.source, g.length, words[0], sizes[2]);
     struct answer answer = {{cut.refusal, cut.tokens, 0, 0, 0, 0}};
     return answer;
 #else
     return (function == PLAIN ? elduvarn_read_plain : elduvarn_read_paragraphs)(
-        source, sizes[1], words[0], sizes[2], words[1], sizes[3], words[2], sizes[4], words[3],
+        g.source, g.length, words[0], sizes[2], words[1], sizes[3], words[2], sizes[4], words[3],
         sizes[5], room[4], sizes[6]);
 #endif
 }
+#endif
 
 static void serve(void)
 {
@@ -191,16 +255,13 @@ static void serve(void)
     usize bytes[5];
     take((u8 *)head, sizeof head);
     used = 0;
-    u8 *source = lend(head[1]);
-    memset(source - GUARD, '\\', GUARD);
-    memset(source + head[1], '}', GUARD);
-    take(source, head[1]);
+    struct given given = given_by(head);
     for (int i = 0; i < 5; i++) {
         bytes[i] = (usize)head[2 + i] * (i < 4 ? 4 : 1);
         room[i] = lend(bytes[i]);
         memset(room[i], head[7], bytes[i]);
     }
-    struct answer answer = answered(head[0], source, room, head);
+    struct answer answer = answered(head[0], given, room, head);
     u32 hold = 1;
     for (int i = 0; i < 5; i++)
         hold &= guards_hold(room[i], bytes[i]);

@@ -7,6 +7,9 @@ use std::process::{ChildStdin, ChildStdout, Command, Stdio};
 pub const CUT: u32 = 0;
 pub const PLAIN: u32 = 1;
 pub const PARAGRAPHS: u32 = 2;
+pub const STORED_CHECK: u32 = 3;
+pub const STORED_READ: u32 = 4;
+pub const STORED_WRITE: u32 = 5;
 
 /// Bytes of requests that may be sent before their answers are received: they fit the pipe, so that
 /// neither end waits for the other. A single request may be larger.
@@ -27,7 +30,8 @@ struct Server {
     answers: BufReader<ChildStdout>,
 }
 
-/// Adds a request to others: rooms of such sizes in elements, filled with a junk byte.
+/// Adds a request to others: rooms of such sizes in elements, filled with a junk byte. A writing's
+/// first size counts the words at the start of its source that are its blocks, and is no room's.
 pub fn request(onto: &mut Vec<u8>, function: u32, source: &[u8], sizes: [usize; 5], junk: u8) {
     let [a, b, c, d, e] = sizes.map(|size| size as u32);
     for number in [function, source.len() as u32, a, b, c, d, e, u32::from(junk)] {

@@ -1,0 +1,156 @@
+//! The comparison of stored forms, part by part.
+
+use crate::call::Records;
+use crate::judge::Judge;
+use crate::{damage, drawn, lists, ours};
+use codec::{BLOCK_WORDS, MOST_TEXT};
+use common::random::Random;
+use std::time::Instant;
+
+/// Differences that are printed in full for each part.
+const PRINTED: u32 = 3;
+
+pub struct Options {
+    pub seed: u64,
+    /// Records at random, as many lists of such, and as many again of both that are damaged.
+    pub count: usize,
+    /// Bytes of the longest strings of which all are tried.
+    pub depth: usize,
+}
+
+/// True if there is no difference.
+pub fn run(options: &Options) -> bool {
+    let Options { seed, count, depth } = *options;
+    println!("seed {seed}, count {count}, depth {depth}; {} is judged", ours::NAME);
+    let mut judge = Judge::new(!seed);
+    listed(&mut judge, depth);
+    at_random(&mut judge, seed, count);
+    beyond_most_text(&mut judge);
+    judge.seen.print();
+    println!("calls: {}", judge.calls);
+    println!("{} lists and records compared, {} differences", judge.tried, judge.differences);
+    judge.differences == 0
+}
+
+fn listed(judge: &mut Judge, depth: usize) {
+    part(judge, "known answers", |judge| {
+        lists::known().iter().for_each(|(list, refusal)| judge.known(list, *refusal));
+        for (asked, refusal) in &lists::known_in_rooms() {
+            judge.known_in_rooms(asked, *refusal);
+        }
+        lists::telling().iter().for_each(|records| judge.good_records(records));
+    });
+    part(judge, "rooms of every size", |judge| {
+        for records in lists::telling() {
+            judge.list_in_every_size(&records.list());
+            judge.records_in_every_size(&records);
+        }
+    });
+    part(judge, "all short lists and ends", |judge| {
+        lists::every_end(depth, &mut |list| judge.list(list));
+    });
+    part(judge, "all short texts", |judge| lists::texts(depth, &mut |list| judge.list(list)));
+    part(judge, "numbers well and badly put", |judge| {
+        lists::numbers(&mut |list| judge.list(list));
+    });
+    part(judge, "each byte in each place", |judge| {
+        lists::every_byte_everywhere(&mut |list| judge.list(list));
+    });
+    part(judge, "each word of each record", every_word);
+}
+
+/// Each word of the telling records made each of `WORDS`, and the words ended before it.
+fn every_word(judge: &mut Judge) {
+    for good in lists::telling() {
+        for place in 0..good.blocks.len() {
+            let mut records = good.clone();
+            for word in lists::WORDS {
+                records.blocks[place] = word;
+                judge.records(&records);
+            }
+            records.blocks.truncate(place);
+            judge.records(&records);
+        }
+        for end in 0..good.text.len() {
+            judge.records(&Records { text: good.text[..end].to_vec(), ..good.clone() });
+        }
+    }
+}
+
+fn at_random(judge: &mut Judge, seed: u64, count: usize) {
+    let random = |salt: u64| Random::new(seed ^ salt);
+    part(judge, "records at random", |judge| {
+        let mut random = random(0x04EC_04D5);
+        (0..count / 2).for_each(|_| judge.good_records(&drawn::records(&mut random)));
+    });
+    part(judge, "lists at random", |judge| {
+        let mut random = random(0x11_5753);
+        (0..count / 2).for_each(|_| judge.list(&drawn::records(&mut random).list()));
+    });
+    part(judge, "lists, damaged", |judge| {
+        let mut random = random(0xDA3A_6ED0);
+        let mut whole = Vec::new();
+        for turn in 0..count {
+            if turn % 8 == 0 {
+                whole = drawn::records(&mut random).list();
+            }
+            judge.list(&damage::list(&mut random, &whole));
+        }
+    });
+    part(judge, "records, damaged", |judge| {
+        let mut random = random(0xDA3A_6ED1);
+        let mut whole = Records::default();
+        for turn in 0..count {
+            if turn % 8 == 0 {
+                whole = drawn::records(&mut random);
+            }
+            judge.records(&damage::records(&mut random, &whole));
+        }
+    });
+}
+
+/// Refusal 20 of a check. The lists are made of zeros, which are text too and take no memory; they
+/// are too large for the bridge.
+fn beyond_most_text(judge: &mut Judge) {
+    let name = "text of 2,147,483,647 bytes";
+    if cfg!(bridge) {
+        println!("{name:27} not tried under an emulator");
+        return;
+    }
+    part(judge, name, |judge| {
+        for (last, behind) in [(1, 0), (2, 0), (1, 1), (2, 1)] {
+            judge.huge(&list_of_zeros(last, behind));
+        }
+    });
+}
+
+/// A list of two blocks, the first one byte short of the most text; some bytes behind them.
+fn list_of_zeros(last: u32, behind: usize) -> Vec<u8> {
+    let first = MOST_TEXT as u32 - 1;
+    let mut style = vec![0; BLOCK_WORDS - 2];
+    let head = [vec![2], style.clone(), lists::number(u64::from(first))].concat();
+    style[0] = 1;
+    let next = [style, lists::number(u64::from(last))].concat();
+    let place = head.len() + first as usize;
+    let mut list = vec![0; place + next.len() + last as usize + behind];
+    list[..head.len()].copy_from_slice(&head);
+    list[place..][..next.len()].copy_from_slice(&next);
+    list
+}
+
+fn part(judge: &mut Judge, name: &str, work: impl FnOnce(&mut Judge)) {
+    let (tried, differences) = (judge.tried, judge.differences);
+    let (calls, successes) = (judge.calls, judge.seen.successes());
+    judge.to_print = PRINTED;
+    let start = Instant::now();
+    work(judge);
+    judge.finish();
+    println!(
+        "{name:27} {:9} tried {:9} calls {:9} successes {:6} differences {:6.1} s",
+        judge.tried - tried,
+        judge.calls - calls,
+        judge.seen.successes() - successes,
+        judge.differences - differences,
+        start.elapsed().as_secs_f64()
+    );
+}

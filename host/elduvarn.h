@@ -1,0 +1,159 @@
+/* Elduvarn for hosts in C and C++: RTF letters are cut and read, lists of blocks are stored.
+ *
+ * Link one archive, `rt staticlib host` writes it: target/staticlib/libhost.a, for x86-64. Of the C
+ * library it calls memcpy and memset alone.
+ *
+ * Every slice is a pointer and then a length, counted in elements: bytes of a uint8_t, words of a
+ * uint32_t. No pointer may be null, that of an empty slice neither; each is aligned for its
+ * elements; a room overlaps no other slice of its call. That is all a host has to keep to: lengths
+ * and contents are free. No memory is allocated, nothing is kept behind a call.
+ *
+ * A room is lent to be written. It holds whole records only: of 20 words for tokens, 18 count. On
+ * success the records and bytes that the counts tell stand at its start, and all behind them is
+ * zero. On a refusal all counts are 0 and all rooms are zero. What was in a room is never read. */
+
+#ifndef ELDUVARN_H
+#define ELDUVARN_H
+
+#include <stddef.h>
+#include <stdint.h>
+
+#ifdef __cplusplus
+extern "C" {
+#endif
+
+/* Why a letter or a list is refused: docs/REFUSALS.md, by number and name. */
+enum elduvarn_refusal {
+    ELDUVARN_SUCCESS = 0,
+    /* by the cutter and the reader */
+    ELDUVARN_SOURCE_TOO_LONG = 1,    /* over 65,536 bytes */
+    ELDUVARN_NOT_ASCII = 2,          /* a byte above 127 */
+    ELDUVARN_HEX_SHORT = 3,          /* \' with fewer than two bytes left in its slice */
+    ELDUVARN_HEX_BAD = 4,            /* those two bytes are no number */
+    ELDUVARN_NUMBER_BAD = 5,         /* a word's number is no 32-bit signed decimal */
+    ELDUVARN_LAST_SLICE = 6,         /* the last slice is not } alone */
+    ELDUVARN_TOKEN_ROOM = 7,         /* more tokens than the room holds */
+    /* by the reader */
+    ELDUVARN_NO_TOKENS = 8,          /* the source is blank */
+    ELDUVARN_FIRST_TOKEN = 9,        /* the first token is no opening bracket */
+    ELDUVARN_TABLE_LINE_BREAK = 10,  /* line breaks between a bracket and its table's word */
+    ELDUVARN_FONT_NUMBER = 11,       /* \f without a number in a font table */
+    ELDUVARN_NUMBER_FIELD = 12,      /* a number does not fit its field */
+    ELDUVARN_IGNORABLE_IN_BODY = 13, /* \* in the body */
+    ELDUVARN_NO_STATE = 14,          /* a bracket closed, a word or text with no state left */
+    ELDUVARN_LINE_SPACING = 15,      /* \sl-2147483648 */
+    ELDUVARN_TOO_DEEP = 16,          /* an opening bracket with 64 states held */
+    ELDUVARN_FONT_ROOM = 17,         /* a font beyond 256 or the room */
+    ELDUVARN_COLOUR_ROOM = 18,       /* a colour beyond 256 or the room */
+    /* by the reader and by elduvarn_stored_read */
+    ELDUVARN_BLOCK_ROOM = 19,        /* a block beyond the room */
+    ELDUVARN_TEXT_ROOM = 20,         /* text beyond the room, or beyond 2,147,483,647 bytes */
+    /* by the stored form */
+    ELDUVARN_STORED_NUMBER = 21,     /* a sixth group, not shortest, or above 4,294,967,295 */
+    ELDUVARN_STORED_SHORT = 22,      /* the list ends early */
+    ELDUVARN_STORED_LONG = 23,       /* the list has bytes left over */
+    ELDUVARN_STORED_FIELD = 24,      /* a field or a block breaks a rule */
+    ELDUVARN_OUTPUT_ROOM = 25        /* the list does not fit its room */
+};
+
+/* Words of a record.
+ *
+ * Token: kind (0 text, 1 open, 2 close, 3 line break, 4 ignorable, 5 word), word number, 1 if a
+ * number is present, that number modulo 2^32, source place, length.
+ * Font: key, source place and length of the name. Colour: red * 65536 + green * 256 + blue.
+ * Block, each word a signed one modulo 2^32: colour, font, size, flags (1 bold, 2 italic,
+ * 4 underline, 8 super, 16 sub, 32 small capitals, 64 strike), alignment (0 left, 1 right,
+ * 2 centre, 3 justified), before, after, line kind (0 automatic, 1 value), line value, multiplier,
+ * tab, text place, text length. */
+enum {
+    ELDUVARN_TOKEN_WORDS = 6,
+    ELDUVARN_FONT_WORDS = 3,
+    ELDUVARN_COLOUR_WORDS = 1,
+    ELDUVARN_BLOCK_WORDS = 13
+};
+
+/* No longer source is read, and no more fonts or colours. */
+enum { ELDUVARN_MOST_SOURCE = 65536, ELDUVARN_MOST_FONTS = 256, ELDUVARN_MOST_COLOURS = 256 };
+
+struct elduvarn_cut_answer {
+    uint32_t refusal, tokens;
+};
+
+/* Cuts a letter into tokens. Refusals 1 to 7. */
+struct elduvarn_cut_answer elduvarn_cut(const uint8_t *source, size_t source_len, uint32_t *tokens,
+                                        size_t tokens_len);
+
+struct elduvarn_read_answer {
+    uint32_t refusal, tokens, fonts, colours, blocks, text;
+};
+
+/* Reads a letter: tokens, font and colour table, blocks, and their text in UTF-8. Refusals 1 to 20.
+ * A letter of n bytes has at most n tokens, n blocks and n bytes of text. */
+struct elduvarn_read_answer elduvarn_read_plain(const uint8_t *source, size_t source_len,
+                                                uint32_t *tokens, size_t tokens_len,
+                                                uint32_t *fonts, size_t fonts_len,
+                                                uint32_t *colours, size_t colours_len,
+                                                uint32_t *blocks, size_t blocks_len,
+                                                uint8_t *text, size_t text_len);
+
+/* The same, but each \par adds a line feed to the text. */
+struct elduvarn_read_answer elduvarn_read_paragraphs(const uint8_t *source, size_t source_len,
+                                                     uint32_t *tokens, size_t tokens_len,
+                                                     uint32_t *fonts, size_t fonts_len,
+                                                     uint32_t *colours, size_t colours_len,
+                                                     uint32_t *blocks, size_t blocks_len,
+                                                     uint8_t *text, size_t text_len);
+
+/* The refusal of a stored list, as if its rooms were ample: 0, or 20 to 24; 20 only where its text
+ * passes 2,147,483,647 bytes. */
+uint32_t elduvarn_stored_check(const uint8_t *list, size_t list_len);
+
+struct elduvarn_stored_read_answer {
+    uint32_t refusal;
+    size_t blocks, text;
+};
+
+/* Reads a stored list into blocks and text. Refusals 19 to 24. */
+struct elduvarn_stored_read_answer elduvarn_stored_read(const uint8_t *list, size_t list_len,
+                                                        uint32_t *blocks, size_t blocks_len,
+                                                        uint8_t *text, size_t text_len);
+
+struct elduvarn_stored_write_answer {
+    uint32_t refusal;
+    size_t bytes;
+};
+
+/* Writes the stored list of blocks and their text. Refusals 24 and 25. The blocks are those of a
+ * reading, without the zeros behind them: lengths count what is to be stored. */
+struct elduvarn_stored_write_answer elduvarn_stored_write(const uint32_t *blocks, size_t blocks_len,
+                                                          const uint8_t *text, size_t text_len,
+                                                          uint8_t *list, size_t list_len);
+
+/* What follows is C for the host's ease, outside the archive and its proof. */
+
+/* Bytes that hold the stored list of so many blocks and bytes of text, whatever they are: a block
+ * count of five groups; per block at most 42 groups (3 times 3, 1, 1, 2 times 5, 1, 4 times 5). */
+static inline size_t elduvarn_stored_most(size_t blocks, size_t text)
+{
+    return 5 + 42 * blocks + text;
+}
+
+/* The name in docs/REFUSALS.md; "Success" for 0. */
+static inline const char *elduvarn_refusal_name(uint32_t refusal)
+{
+    static const char *const names[] = {
+        "Success",        "SourceTooLong",   "NotAscii",    "HexShort",    "HexBad",
+        "NumberBad",      "LastSlice",       "TokenRoom",   "NoTokens",    "FirstToken",
+        "TableLineBreak", "FontNumber",      "NumberField", "IgnorableInBody",
+        "NoState",        "LineSpacing",     "TooDeep",     "FontRoom",    "ColourRoom",
+        "BlockRoom",      "TextRoom",        "StoredNumber", "StoredShort", "StoredLong",
+        "StoredField",    "OutputRoom",
+    };
+    return refusal < sizeof names / sizeof *names ? names[refusal] : "no refusal";
+}
+
+#ifdef __cplusplus
+}
+#endif
+
+#endif

@@ -1,0 +1,567 @@
+/* Known answers for every exported function, in rooms of just enough, too little and none.
+ *
+ *   test          makes all calls in the three layouts of lend.h; the last line counts them
+ *   test names    lists the refusals by number and name
+ *
+ * Exit status: 0 all passed, 1 not, 3 no memory. Expected answers are read off document 01 and
+ * docs/REFUSALS.md. */
+
+#define _DEFAULT_SOURCE
+
+#include "elduvarn.h"
+#include "lend.h"
+
+#include <signal.h>
+#include <stdarg.h>
+
+#define COUNT(array) (sizeof(array) / sizeof *(array))
+
+static int passed, failed;
+static const char *const layouts[] = {"before a wall", "behind a wall", "on the heap"};
+/* The call that is made. */
+static char now[200];
+
+static void will(const char *what, ...)
+{
+    va_list rest;
+    va_start(rest, what);
+    vsnprintf(now, sizeof now, what, rest);
+    va_end(rest);
+}
+
+/* Counts the call, and says if its refusal, or something else in its answer, is not as expected. */
+static void told(int good, uint32_t is, uint32_t should)
+{
+    if (good && is == should) {
+        passed++;
+        return;
+    }
+    failed++;
+    printf("FAILED %s: %s: ", layouts[layout], now);
+    if (is == should)
+        printf("other counts or rooms than expected\n");
+    else
+        printf("%u %s, not %u %s\n", (unsigned)is, elduvarn_refusal_name(is), (unsigned)should,
+               elduvarn_refusal_name(should));
+    fflush(stdout);
+}
+
+static void say(const char *words)
+{
+    if (write(STDOUT_FILENO, words, strlen(words)) < 0)
+        _exit(1);
+}
+
+/* A wall was touched. */
+static void stepped_outside(int number)
+{
+    (void)number;
+    say("FAILED ");
+    say(layouts[layout]);
+    say(": ");
+    say(now);
+    say(": a step outside what was lent\n");
+    _exit(1);
+}
+
+/* Whether a room is what stands in `front`, and then zeros. */
+static int holds_bytes(const uint8_t *room, size_t size, const void *front, size_t count)
+{
+    int good = count <= size && (count == 0 || memcmp(room, front, count) == 0);
+    for (size_t i = count; i < size; i++)
+        good &= room[i] == 0;
+    return good;
+}
+
+static int holds_words(const uint32_t *room, size_t size, const uint32_t *front, size_t count)
+{
+    return holds_bytes((const uint8_t *)room, size * 4, front, count * 4);
+}
+
+/* The cutter. */
+
+static void cuts(const char *letter, size_t size, size_t room, uint32_t refusal,
+                 const uint32_t *records, uint32_t count)
+{
+    const uint8_t *source = given_bytes(letter, size);
+    uint32_t *tokens = lend_words(room);
+    will("cut of %zu bytes %.40s in %zu words", size, letter, room);
+    struct elduvarn_cut_answer answer = elduvarn_cut(source, size, tokens, room);
+    int good = answer.tokens == count &&
+               holds_words(tokens, room, records, (size_t)count * ELDUVARN_TOKEN_WORDS);
+    told(good, answer.refusal, refusal);
+    give_back();
+}
+
+static void test_cut(void)
+{
+    /* 01's table of names has b at 13 and fs at 10. */
+    static const uint32_t styled[] = {
+        1, 0,  0, 0,  0,  0, /* { */
+        5, 13, 1, 1,  0,  0, /* b */
+        5, 10, 1, 24, 0,  0, /* fs */
+        0, 0,  0, 0,  10, 1, /* a */
+        2, 0,  0, 0,  0,  0, /* } */
+    };
+    static const uint32_t minus[] = {1, 0, 0, 0, 0, 0, 5, 2, 1, 4294963383u,
+                                     0, 0, 2, 0, 0, 0, 0, 0};
+    static const uint32_t unknown[] = {5, 49, 1, 7, 0, 2, 2, 0, 0, 0, 0, 0};
+    const char *letter = "{\\b1\\fs24 a}";
+    for (size_t room = 0; room < COUNT(styled); room++)
+        cuts(letter, strlen(letter), room, ELDUVARN_TOKEN_ROOM, NULL, 0);
+    for (size_t more = 0; more < 8; more++)
+        cuts(letter, strlen(letter), COUNT(styled) + more, 0, styled, 5);
+    cuts("{\\u-3913 }", 10, COUNT(minus), 0, minus, 3);
+    cuts("\\x7}", 4, COUNT(unknown), 0, unknown, 2);
+    cuts("", 0, 0, 0, NULL, 0);
+    cuts("", 0, 1, 0, NULL, 0);
+    cuts(" ", 1, 6, 0, NULL, 0);
+    cuts("a", 1, 6, ELDUVARN_LAST_SLICE, NULL, 0);
+    cuts("}", 1, 6, 0, unknown + 6, 1);
+    cuts("}", 1, 5, ELDUVARN_TOKEN_ROOM, NULL, 0);
+    cuts("\x80", 1, 6, ELDUVARN_NOT_ASCII, NULL, 0);
+}
+
+/* The reader. A letter with its counts, and its text in both readings. */
+
+struct letter {
+    const char *source;
+    uint32_t tokens, fonts, colours, blocks;
+    const char *text, *by_paragraphs;
+};
+
+typedef struct elduvarn_read_answer reading(const uint8_t *, size_t, uint32_t *, size_t,
+                                            uint32_t *, size_t, uint32_t *, size_t, uint32_t *,
+                                            size_t, uint8_t *, size_t);
+
+enum { TOKENS, FONTS, COLOURS, BLOCKS, TEXT, ROOMS };
+
+/* What a call of the reader left; room is the size of each, in elements. */
+struct read {
+    struct elduvarn_read_answer answer;
+    uint32_t *words[4];
+    uint8_t *text;
+    size_t room[ROOMS];
+};
+
+static struct read read_in(reading *by, const char *source, size_t size, const size_t *room)
+{
+    struct read read;
+    const uint8_t *letter = given_bytes(source, size);
+    memcpy(read.room, room, sizeof read.room);
+    for (int i = 0; i < 4; i++)
+        read.words[i] = lend_words(room[i]);
+    read.text = lend_bytes(room[TEXT]);
+    will("%s reading of %zu bytes %.40s in %zu, %zu, %zu, %zu words and %zu bytes",
+         by == elduvarn_read_plain ? "plain" : "paragraph", size, source, room[0], room[1], room[2],
+         room[3], room[4]);
+    read.answer = by(letter, size, read.words[0], room[0], read.words[1], room[1], read.words[2],
+                     room[2], read.words[3], room[3], read.text, room[TEXT]);
+    return read;
+}
+
+static int is_empty(const struct read *read)
+{
+    const struct elduvarn_read_answer *is = &read->answer;
+    int good = is->tokens == 0 && is->fonts == 0 && is->colours == 0 && is->blocks == 0 &&
+               is->text == 0 && holds_bytes(read->text, read->room[TEXT], NULL, 0);
+    for (int i = 0; i < 4; i++)
+        good &= holds_words(read->words[i], read->room[i], NULL, 0);
+    return good;
+}
+
+static int has_counts(const struct read *read, const struct letter *letter, const char *text)
+{
+    const struct elduvarn_read_answer *is = &read->answer;
+    return is->tokens == letter->tokens && is->fonts == letter->fonts &&
+           is->colours == letter->colours && is->blocks == letter->blocks &&
+           is->text == strlen(text) &&
+           holds_bytes(read->text, read->room[TEXT], text, strlen(text));
+}
+
+static void just_enough(const struct letter *letter, const char *text, size_t *room)
+{
+    room[TOKENS] = letter->tokens * ELDUVARN_TOKEN_WORDS;
+    room[FONTS] = letter->fonts * ELDUVARN_FONT_WORDS;
+    room[COLOURS] = letter->colours * ELDUVARN_COLOUR_WORDS;
+    room[BLOCKS] = letter->blocks * ELDUVARN_BLOCK_WORDS;
+    room[TEXT] = strlen(text);
+}
+
+/* In rooms of just enough, of a few elements more, and each of them in turn one too small. */
+static void reads(reading *by, const struct letter *letter, const char *text)
+{
+    static const uint32_t refusals[ROOMS] = {ELDUVARN_TOKEN_ROOM, ELDUVARN_FONT_ROOM,
+                                             ELDUVARN_COLOUR_ROOM, ELDUVARN_BLOCK_ROOM,
+                                             ELDUVARN_TEXT_ROOM};
+    size_t size = strlen(letter->source), room[ROOMS];
+    for (size_t more = 0; more < 3; more++) {
+        just_enough(letter, text, room);
+        for (int i = 0; i < ROOMS; i++)
+            room[i] += more;
+        struct read read = read_in(by, letter->source, size, room);
+        told(has_counts(&read, letter, text), read.answer.refusal, 0);
+        give_back();
+    }
+    for (int i = 0; i < ROOMS; i++) {
+        just_enough(letter, text, room);
+        if (room[i]-- == 0)
+            continue;
+        struct read read = read_in(by, letter->source, size, room);
+        told(is_empty(&read), read.answer.refusal, refusals[i]);
+        give_back();
+    }
+}
+
+/* 01, "Sample letters", those that are read; then tables, a paragraph and two styles. */
+static const struct letter letters[] = {
+    {"{}", 2, 0, 0, 0, "", ""},
+    {"{\\u8212 \\'97}", 4, 0, 0, 1, "\xE2\x80\x94", "\xE2\x80\x94"},
+    {"{\\'e9\\'e8}", 4, 0, 0, 1, "\xC3\xA9", "\xC3\xA9"},
+    {"{\\u-3913 }", 3, 0, 0, 1, "\xEF\x82\xB7", "\xEF\x82\xB7"},
+    {"{\\u-10179 \\u-8704 }", 4, 0, 0, 1, "\xF0\x9F\x98\x80", "\xF0\x9F\x98\x80"},
+    {"{\\u-10179 }", 3, 0, 0, 1, "\xEF\xBF\xBD", "\xEF\xBF\xBD"},
+    {"{\\u8217?}", 3, 0, 0, 0, "", ""},
+    {"{a}}", 4, 0, 0, 1, "a", "a"},
+    {"{a\\~b}", 3, 0, 0, 1, "a", "a"},
+    {"{a{\\*x}b}", 7, 0, 0, 1, "ab", "ab"},
+    {"{\\\\{a}}", 4, 0, 0, 1, "\\{a", "\\{a"},
+    {"{\\fonttbl{\\f1 Arial;}}", 7, 2, 0, 0, "", ""},
+    {"{\\colortbl\\red200\\green16\\blue46;}", 6, 0, 1, 0, "", ""},
+    {"{a\\par b}", 5, 0, 0, 1, "ab", "a\nb"},
+    {"{\\rtf1 a\\b b}", 6, 0, 0, 2, "ab", "ab"},
+};
+
+/* The smallest letters of docs/REFUSALS.md; those of 1 and 16 are made elsewhere. */
+static const struct {
+    const char *source;
+    uint32_t refusal;
+} refused[] = {
+    {"\x80", ELDUVARN_NOT_ASCII},
+    {"\\'}", ELDUVARN_HEX_SHORT},
+    {"\\'zz}", ELDUVARN_HEX_BAD},
+    {"\\a-}", ELDUVARN_NUMBER_BAD},
+    {"a", ELDUVARN_LAST_SLICE},
+    {"", ELDUVARN_NO_TOKENS},
+    {"}", ELDUVARN_FIRST_TOKEN},
+    {"{\\\n\\fonttbl}", ELDUVARN_TABLE_LINE_BREAK},
+    {"{\\fonttbl\\f}", ELDUVARN_FONT_NUMBER},
+    {"{\\f-1}", ELDUVARN_NUMBER_FIELD},
+    {"{\\fs65536}", ELDUVARN_NUMBER_FIELD},
+    {"{\\b2147483648}", ELDUVARN_NUMBER_BAD},
+    {"{a\\*}", ELDUVARN_IGNORABLE_IN_BODY},
+    {"{}}}", ELDUVARN_NO_STATE},
+    {"{a}}}", ELDUVARN_NO_STATE},
+    {"{\\sl-2147483648}", ELDUVARN_LINE_SPACING},
+};
+
+static const size_t ample[ROOMS] = {600, 60, 20, 260, 100};
+static reading *const readings[] = {elduvarn_read_plain, elduvarn_read_paragraphs};
+
+static void refuses(const char *source, size_t size, uint32_t refusal)
+{
+    for (size_t by = 0; by < COUNT(readings); by++) {
+        struct read read = read_in(readings[by], source, size, ample);
+        told(is_empty(&read), read.answer.refusal, refusal);
+        give_back();
+    }
+}
+
+/* What the table of letters does not say: records. */
+static void reads_records(const char *source, int room, const uint32_t *records, size_t words)
+{
+    struct read read = read_in(elduvarn_read_plain, source, strlen(source), ample);
+    told(holds_words(read.words[room], ample[room], records, words), read.answer.refusal, 0);
+    give_back();
+}
+
+/* Both sides of 64 states, of 65,536 bytes. */
+static void test_limits(void)
+{
+    static char letter[ELDUVARN_MOST_SOURCE + 1];
+    static const size_t rooms[ROOMS] = {18, 0, 0, 13, ELDUVARN_MOST_SOURCE - 2};
+    memset(letter, '{', 64);
+    letter[63] = '}';
+    struct read read = read_in(elduvarn_read_plain, letter, 64, ample);
+    told(read.answer.tokens == 64, read.answer.refusal, 0);
+    give_back();
+    letter[63] = '{';
+    letter[64] = '}';
+    refuses(letter, 65, ELDUVARN_TOO_DEEP);
+
+    memset(letter, 'a', sizeof letter);
+    letter[0] = '{';
+    letter[ELDUVARN_MOST_SOURCE - 1] = '}';
+    read = read_in(elduvarn_read_plain, letter, ELDUVARN_MOST_SOURCE, rooms);
+    told(read.answer.text == ELDUVARN_MOST_SOURCE - 2 &&
+             holds_bytes(read.text, rooms[TEXT], letter + 1, rooms[TEXT]),
+         read.answer.refusal, 0);
+    give_back();
+    refuses(letter, sizeof letter, ELDUVARN_SOURCE_TOO_LONG);
+    cuts(letter, sizeof letter, 6, ELDUVARN_SOURCE_TOO_LONG, NULL, 0);
+}
+
+static void test_read(void)
+{
+    static const uint32_t fonts[] = {0, 0, 0, 1, 14, 5};
+    static const uint32_t colours[] = {200 * 65536 + 16 * 256 + 46};
+    static const uint32_t listing[] = {0, 0, 12, 0, 0, 0, 0, 0, 0, 0, 0, 0, 1,
+                                       0, 0, 12, 1, 0, 0, 0, 0, 0, 0, 0, 1, 1};
+    for (size_t i = 0; i < COUNT(letters); i++) {
+        reads(elduvarn_read_plain, &letters[i], letters[i].text);
+        reads(elduvarn_read_paragraphs, &letters[i], letters[i].by_paragraphs);
+    }
+    reads_records("{\\fonttbl{\\f1 Arial;}}", FONTS, fonts, COUNT(fonts));
+    reads_records("{\\colortbl\\red200\\green16\\blue46;}", COLOURS, colours, COUNT(colours));
+    reads_records("{\\rtf1 a\\b b}", BLOCKS, listing, COUNT(listing));
+    for (size_t i = 0; i < COUNT(refused); i++)
+        refuses(refused[i].source, strlen(refused[i].source), refused[i].refusal);
+    test_limits();
+}
+
+/* The stored form. Blocks and text, and their list. */
+
+struct stored {
+    const char *name;
+    uint32_t blocks[2 * ELDUVARN_BLOCK_WORDS];
+    uint32_t count;
+    const char *text;
+    uint8_t list[48];
+    size_t bytes;
+};
+
+static const struct stored stored[] = {
+    {"no blocks", {0}, 0, "", {0}, 1},
+    {"one block", {0, 0, 12, 0, 0, 0, 0, 0, 0, 0, 0, 0, 1}, 1, "a",
+     {1, 0, 0, 12, 0, 0, 0, 0, 0, 0, 0, 0, 1, 'a'}, 14},
+    {"the sample listing",
+     {0, 0, 12, 0, 0, 0, 0, 0, 0, 0, 0, 0, 1, 0, 0, 12, 1, 0, 0, 0, 0, 0, 0, 0, 1, 1}, 2, "ab",
+     {2, 0, 0, 12, 0, 0, 0, 0, 0, 0, 0, 0, 1, 'a', 0, 0, 12, 1, 0, 0, 0, 0, 0, 0, 0, 1, 'b'}, 27},
+    /* Each field at its end, folded words -1, -2147483648, 2147483647 and 64. */
+    {"ends of ranges",
+     {65535, 128, 0, 127, 3, 4294967295u, 2147483648u, 1, 2147483647, 2147483647, 64, 0, 2}, 1,
+     "\xC3\xA9",
+     {1, 255, 255, 3, 128, 1, 0, 127, 3, 1, 255, 255, 255, 255, 15, 1, 255, 255, 255, 255, 7, 254,
+      255, 255, 255, 15, 128, 1, 2, 0xC3, 0xA9}, 31},
+};
+
+static void checks(const uint8_t *list, size_t bytes, uint32_t refusal, const char *name)
+{
+    const uint8_t *source = given_bytes(list, bytes);
+    will("check of %zu bytes, %s", bytes, name);
+    told(1, elduvarn_stored_check(source, bytes), refusal);
+    give_back();
+}
+
+/* Reads a list in rooms of such sizes. Expected are the blocks and text of `as`, or a refusal. */
+static void reads_list(const uint8_t *list, size_t bytes, size_t words, size_t text,
+                       uint32_t refusal, const struct stored *as, const char *name)
+{
+    const uint8_t *source = given_bytes(list, bytes);
+    uint32_t *block_room = lend_words(words);
+    uint8_t *text_room = lend_bytes(text);
+    will("reading of a list, %s, in %zu words and %zu bytes", name, words, text);
+    struct elduvarn_stored_read_answer is =
+        elduvarn_stored_read(source, bytes, block_room, words, text_room, text);
+    uint32_t blocks = refusal == 0 ? as->count : 0;
+    size_t length = refusal == 0 ? strlen(as->text) : 0;
+    int good = is.blocks == blocks && is.text == length &&
+               holds_words(block_room, words, as->blocks, (size_t)blocks * ELDUVARN_BLOCK_WORDS) &&
+               holds_bytes(text_room, text, as->text, length);
+    told(good, is.refusal, refusal);
+    give_back();
+}
+
+/* Writes blocks and text into a room of such a size. Expected is a list, or a refusal. */
+static void writes(const uint32_t *blocks, size_t words, const char *text, size_t length,
+                   size_t room, uint32_t refusal, const struct stored *as, const char *name)
+{
+    const uint32_t *block_words = given_words(blocks, words);
+    const uint8_t *text_bytes = given_bytes(text, length);
+    uint8_t *list = lend_bytes(room);
+    will("writing, %s, in %zu bytes", name, room);
+    struct elduvarn_stored_write_answer is =
+        elduvarn_stored_write(block_words, words, text_bytes, length, list, room);
+    size_t bytes = refusal == 0 ? as->bytes : 0;
+    int good = is.bytes == bytes && holds_bytes(list, room, as->list, bytes);
+    told(good, is.refusal, refusal);
+    give_back();
+}
+
+/* Every size of each room up to more than enough, and every start of the list. */
+static void test_good(const struct stored *it)
+{
+    size_t words = (size_t)it->count * ELDUVARN_BLOCK_WORDS, text = strlen(it->text);
+    checks(it->list, it->bytes, 0, it->name);
+    for (size_t end = 0; end < it->bytes; end++)
+        checks(it->list, end, ELDUVARN_STORED_SHORT, it->name);
+    for (size_t size = 0; size < words + 2; size++)
+        reads_list(it->list, it->bytes, size, text, size < words ? ELDUVARN_BLOCK_ROOM : 0, it,
+                   it->name);
+    for (size_t size = 0; size < text + 3; size++)
+        reads_list(it->list, it->bytes, words, size, size < text ? ELDUVARN_TEXT_ROOM : 0, it,
+                   it->name);
+    for (size_t room = 0; room < it->bytes + 3; room++)
+        writes(it->blocks, words, it->text, text, room,
+               room < it->bytes ? ELDUVARN_OUTPUT_ROOM : 0, it, it->name);
+    if (words > 0)
+        reads_list(it->list, it->bytes, 0, 0, ELDUVARN_BLOCK_ROOM, it, it->name);
+}
+
+/* The list of one block with `bytes` in place of the byte at `place`, or behind the list. */
+static const struct {
+    const char *name;
+    size_t place;
+    uint8_t bytes[6];
+    size_t count;
+    uint32_t refusal;
+} damaged[] = {
+    {"a count of six groups", 0, {128, 128, 128, 128, 128, 0}, 6, ELDUVARN_STORED_NUMBER},
+    {"a count not shortest", 0, {129, 0}, 2, ELDUVARN_STORED_NUMBER},
+    {"a colour of 2^32", 1, {128, 128, 128, 128, 16}, 5, ELDUVARN_STORED_NUMBER},
+    {"a tab not shortest", 11, {128, 0}, 2, ELDUVARN_STORED_NUMBER},
+    {"a length not shortest", 12, {129, 128, 0}, 3, ELDUVARN_STORED_NUMBER},
+    {"a block missing", 0, {2}, 1, ELDUVARN_STORED_SHORT},
+    {"a text too short", 12, {2}, 1, ELDUVARN_STORED_SHORT},
+    {"the largest length", 12, {255, 255, 255, 255, 15}, 5, ELDUVARN_STORED_SHORT},
+    {"a byte left over", 14, {0}, 1, ELDUVARN_STORED_LONG},
+    {"a block left over", 0, {0}, 1, ELDUVARN_STORED_LONG},
+    {"a colour of 65,536", 1, {128, 128, 4}, 3, ELDUVARN_STORED_FIELD},
+    {"a font of 65,536", 2, {128, 128, 4}, 3, ELDUVARN_STORED_FIELD},
+    {"a size of 65,536", 3, {128, 128, 4}, 3, ELDUVARN_STORED_FIELD},
+    {"flags of 128", 4, {128, 1}, 2, ELDUVARN_STORED_FIELD},
+    {"an alignment of 4", 5, {4}, 1, ELDUVARN_STORED_FIELD},
+    {"a line kind of 2", 8, {2}, 1, ELDUVARN_STORED_FIELD},
+    {"an automatic line of 1", 9, {1}, 1, ELDUVARN_STORED_FIELD},
+    {"no text", 12, {0}, 1, ELDUVARN_STORED_FIELD},
+    {"half a character", 13, {0xC3}, 1, ELDUVARN_STORED_FIELD},
+    {"no text, though bytes are there", 12, {0, 97, 97}, 3, ELDUVARN_STORED_FIELD},
+};
+
+static void test_damaged(void)
+{
+    const struct stored *one = &stored[1];
+    for (size_t i = 0; i < COUNT(damaged); i++) {
+        uint8_t list[24];
+        size_t place = damaged[i].place, bytes = place;
+        memcpy(list, one->list, place);
+        memcpy(list + bytes, damaged[i].bytes, damaged[i].count);
+        bytes += damaged[i].count;
+        if (place < one->bytes) {
+            memcpy(list + bytes, one->list + place + 1, one->bytes - place - 1);
+            bytes += one->bytes - place - 1;
+        }
+        checks(list, bytes, damaged[i].refusal, damaged[i].name);
+        reads_list(list, bytes, 13, 1, damaged[i].refusal, one, damaged[i].name);
+    }
+    uint8_t twice[27];
+    memcpy(twice, stored[2].list, sizeof twice);
+    twice[17] = 0;
+    checks(twice, sizeof twice, ELDUVARN_STORED_FIELD, "two blocks of one style");
+    reads_list(twice, sizeof twice, 26, 2, ELDUVARN_STORED_FIELD, one, "two blocks of one style");
+    reads_list(twice, sizeof twice, 0, 0, ELDUVARN_BLOCK_ROOM, one, "two blocks of one style");
+}
+
+/* The records of the sample listing with another word in a place. */
+static const struct {
+    const char *name;
+    size_t place;
+    uint32_t word;
+} wrong[] = {
+    {"a colour of 65,536", 0, 65536},
+    {"a font of -1", 1, 4294967295u},
+    {"a size of 65,536", 15, 65536},
+    {"flags of 128", 3, 128},
+    {"an alignment of 4", 17, 4},
+    {"a line kind of 2", 7, 2},
+    {"an automatic line of 1", 8, 1},
+    {"the style of the block before", 16, 0},
+    {"a text that starts at 1", 11, 1},
+    {"a gap between texts", 24, 2},
+    {"texts that overlap", 24, 0},
+    {"an empty text", 12, 0},
+    {"a text past the end", 25, 2},
+    {"a text past 2^31", 25, 2147483648u},
+};
+
+static void test_wrong(void)
+{
+    const struct stored *two = &stored[2];
+    uint32_t blocks[26];
+    for (size_t i = 0; i < COUNT(wrong); i++) {
+        memcpy(blocks, two->blocks, sizeof blocks);
+        blocks[wrong[i].place] = wrong[i].word;
+        writes(blocks, 26, "ab", 2, 27, ELDUVARN_STORED_FIELD, two, wrong[i].name);
+        writes(blocks, 26, "ab", 2, 0, ELDUVARN_STORED_FIELD, two, wrong[i].name);
+    }
+    for (size_t words = 1; words < 26; words++)
+        writes(two->blocks, words, "ab", 2, 27, ELDUVARN_STORED_FIELD, two, "other words");
+    writes(two->blocks, 26, "abc", 3, 28, ELDUVARN_STORED_FIELD, two, "text left over");
+    writes(two->blocks, 26, "a", 1, 27, ELDUVARN_STORED_FIELD, two, "text missing");
+    writes(two->blocks, 0, "a", 1, 27, ELDUVARN_STORED_FIELD, two, "text without blocks");
+    writes(two->blocks, 26, "\xC3\xA9", 2, 27, ELDUVARN_STORED_FIELD, two, "a split character");
+}
+
+/* A letter is read, stored, checked and read back, each in rooms of just enough. */
+static void test_round_trip(void)
+{
+    static const char letter[] =
+        "{\\rtf1{\\fonttbl{\\f0 Helvetica;}}\\fs24 Caf\\'e9 {\\b bold\\i  both}\\par "
+        "\\pard\\qj\\sb120\\sa-120\\sl-276\\slmul1 \\u8212 dash\\cf2  coloured}";
+    static const char shown[] = "Caf\xC3\xA9" "bold both\n\xE2\x80\x94" "dash coloured";
+    struct read read = read_in(elduvarn_read_paragraphs, letter, strlen(letter), ample);
+    size_t words = (size_t)read.answer.blocks * ELDUVARN_BLOCK_WORDS, text = read.answer.text;
+    size_t most = elduvarn_stored_most(read.answer.blocks, text);
+    told(read.answer.blocks == 6 && text == strlen(shown) &&
+             holds_bytes(read.text, ample[TEXT], shown, text),
+         read.answer.refusal, 0);
+    will("storing and reading back that letter");
+
+    const uint32_t *blocks = given_words(read.words[BLOCKS], words);
+    const uint8_t *text_bytes = given_bytes(read.text, text);
+    uint8_t *wide = lend_bytes(most);
+    struct elduvarn_stored_write_answer written =
+        elduvarn_stored_write(blocks, words, text_bytes, text, wide, most);
+    size_t bytes = written.bytes;
+    told(bytes <= most, written.refusal, 0);
+
+    const uint8_t *list = given_bytes(wide, bytes);
+    told(1, elduvarn_stored_check(list, bytes), 0);
+    uint32_t *block_room = lend_words(words);
+    uint8_t *text_room = lend_bytes(text);
+    struct elduvarn_stored_read_answer back =
+        elduvarn_stored_read(list, bytes, block_room, words, text_room, text);
+    told(back.blocks == read.answer.blocks && back.text == text &&
+             holds_words(block_room, words, blocks, words) &&
+             holds_bytes(text_room, text, text_bytes, text),
+         back.refusal, 0);
+    give_back();
+}
+
+static void test_stored(void)
+{
+    for (size_t i = 0; i < COUNT(stored); i++)
+        test_good(&stored[i]);
+    checks(stored[0].list, 0, ELDUVARN_STORED_SHORT, "no bytes");
+    test_damaged();
+    test_wrong();
+    test_round_trip();
+}
+
+int main(int count, char **words)
+{
+    if (count == 2 && strcmp(words[1], "names") == 0) {
+        for (uint32_t refusal = 1; refusal <= ELDUVARN_OUTPUT_ROOM; refusal++)
+            printf("%u %s\n", (unsigned)refusal, elduvarn_refusal_name(refusal));
+        return 0;
+    }
+    signal(SIGSEGV, stepped_outside);
+    signal(SIGBUS, stepped_outside);
+    for (layout = 0; layout < LAYOUTS; layout++) {
+        test_cut();
+        test_read();
+        test_stored();
+    }
+    printf("test: %d passed, %d failed\n", passed, failed);
+    return failed > 0;
+}
