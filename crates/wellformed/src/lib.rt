@@ -2,8 +2,10 @@
 use bytes::has_high;
 ghost use mathlib.Core.Path.{_≡_};
 ghost use mathlib.Core.Bool.{true};
+ghost use Prim.Native.Nat.{_≤_};
+ghost use lib.ListN.{length};
 ghost use Rattle.wellformed.specs.WellFormed.{isFirst, behind, isUtf8};
-ghost use Rattle.wellformed.specs.Owed.{owed, ranges};
+ghost use Rattle.wellformed.specs.Owed.{owed, ranges, Passed};
 
 // How many bytes a character still owes, and the range of the next; those behind it lie in 0x80 to 0xBF.
 struct Owed {
@@ -62,21 +64,45 @@ fn owed_behind(b: u8) -> Owed
     owe(3, 0x80, 0x8F)
 }
 
-// Whether a slice is UTF-8 as a whole. One of ASCII alone is told by a quick look.
+// How many bytes a block has that is looked at as a whole.
+const BLOCK: usize = 24;
+
+// The place, at or after `from`, behind the whole blocks of ASCII that stand there.
+fn ascii_blocks(s: &[u8], from: usize) -> usize
+    requires { ⌜ from ≤ length (now s) ⌝ }
+    ensures { λ r. ⌜ Passed (now (s .entry)) from r ⌝ }
+{
+    let mut at = from;
+    while BLOCK <= s.len() - at {
+        let next = at + BLOCK;
+        if has_high(&s[at..next]) {
+            return at;
+        }
+        at = next;
+    }
+    at
+}
+
+// Whether a slice is UTF-8 as a whole. Text of ASCII is passed over block by block, at the start and behind each other character.
 pub fn is_utf8(s: &[u8]) -> bool
     ensures { λ r. ⌜ r ≡ isUtf8 (now (s .entry)) ⌝ }
 {
-    if !has_high(s) {
-        return true;
-    }
     let mut count = 0;
     let mut low = 0x80;
     let mut high = 0xBF;
-    let mut i = 0;
+    let mut i = ascii_blocks(s, 0);
+    if s.len() - i < BLOCK {
+        if !has_high(&s[i..]) {
+            return true;
+        }
+    }
     while i < s.len() {
         let b = s[i];
         i += 1;
         if count == 0 {
+            if b < 128 {
+                continue;
+            }
             if !is_first(b) {
                 return false;
             }
@@ -92,6 +118,9 @@ pub fn is_utf8(s: &[u8]) -> bool
         count -= 1;
         low = 0x80;
         high = 0xBF;
+        if count == 0 {
+            i = ascii_blocks(s, i);
+        }
     }
     count == 0
 }
