@@ -9,6 +9,7 @@
 //!   whole     the form of a reading's
 //!   room      what is lent for a call
 //!   clock     medians, for bench_letters
+//!   program   modes and options of the programs
 //!   bridge    our library on another processor
 
 pub mod bench_letters;
@@ -20,6 +21,7 @@ pub mod grammar;
 pub mod letters;
 pub mod mutate;
 pub mod oracle;
+pub mod program;
 pub mod random;
 pub mod reading_grammar;
 pub mod room;

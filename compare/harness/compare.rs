@@ -3,6 +3,7 @@
 use crate::judge::Judge;
 use crate::limits;
 use common::cut::SOURCE_LIMIT;
+use common::program::Plan;
 use common::random::Random;
 use common::{grammar, letters, mutate, oracle};
 use std::time::Instant;
@@ -10,17 +11,9 @@ use std::time::Instant;
 /// Differences that are printed in full for each part.
 const PRINTED: u32 = 3;
 
-pub struct Options {
-    pub seed: u64,
-    /// Letters drawn by the grammar, and again as many damaged ones.
-    pub count: usize,
-    /// Length of the longest strings of which all are tried.
-    pub depth: usize,
-}
-
 /// True if there is no difference.
-pub fn run(options: &Options) -> bool {
-    let Options { seed, count, depth } = *options;
+pub fn run(plan: &Plan) -> bool {
+    let Plan { seed, count, depth } = *plan;
     println!("seed {seed}, count {count}, depth {depth}");
     oracle::check_names();
     let mut judge = Judge::new(!seed);

@@ -16,35 +16,19 @@ mod ours;
 mod report;
 mod seen;
 
+use common::program::{self, Plan};
 use std::process::ExitCode;
 
 const USAGE: &str = "modes: compare [--seed N] [--count N] [--depth N], bench [--rounds N]";
 
 fn main() -> ExitCode {
-    let words: Vec<String> = std::env::args().skip(1).collect();
-    match mode(&words) {
-        Ok(true) => ExitCode::SUCCESS,
-        Ok(false) => ExitCode::from(1),
-        Err(message) => {
-            eprintln!("{message}\n{USAGE}");
-            ExitCode::from(2)
-        }
-    }
+    program::run(USAGE, mode)
 }
 
-fn mode(words: &[String]) -> Result<bool, String> {
-    let (mode, words) = words.split_first().ok_or("no mode")?;
-    match mode.as_str() {
-        "compare" => {
-            let [seed, count, depth] =
-                common::options(words, [("--seed", 1), ("--count", 1_000_000), ("--depth", 6)])?;
-            let (count, depth) = (count as usize, depth as usize);
-            Ok(compare::run(&compare::Options { seed, count, depth }))
-        }
-        "bench" => {
-            let [rounds] = common::options(words, [("--rounds", 301)])?;
-            Ok(bench::run(rounds.max(1) as usize))
-        }
+fn mode(mode: &str, words: &[String]) -> Result<bool, String> {
+    match mode {
+        "compare" => Ok(compare::run(&Plan::of(words, 1_000_000, 6)?)),
+        "bench" => Ok(bench::run(program::rounds(words, 301)?)),
         other => Err(format!("no mode {other}")),
     }
 }

@@ -24,6 +24,7 @@ mod seen;
 mod small;
 mod vectors;
 
+use common::program::{self, Plan};
 use std::process::ExitCode;
 
 const USAGE: &str = "\
@@ -31,32 +32,14 @@ modes: read [--model] [--seed N] [--count N] [--depth N], read-bench [--model] [
 read-vectors FILE [--seed N] [--count N]";
 
 fn main() -> ExitCode {
-    // Which side answers is settled when this is built: compare/run reads --model.
-    let words: Vec<String> = std::env::args().skip(1).filter(|word| word != "--model").collect();
-    match mode(&words) {
-        Ok(true) => ExitCode::SUCCESS,
-        Ok(false) => ExitCode::from(1),
-        Err(message) => {
-            eprintln!("{message}\n{USAGE}");
-            ExitCode::from(2)
-        }
-    }
+    program::run(USAGE, mode)
 }
 
-fn mode(words: &[String]) -> Result<bool, String> {
-    let (mode, words) = words.split_first().ok_or("no mode")?;
+fn mode(mode: &str, words: &[String]) -> Result<bool, String> {
     assert_eq!(common::cut::NAMES, model::NAMES, "the two tables of names");
-    match mode.as_str() {
-        "read" => {
-            let [seed, count, depth] =
-                common::options(words, [("--seed", 1), ("--count", 1_000_000), ("--depth", 4)])?;
-            let (count, depth) = (count as usize, depth as usize);
-            Ok(read::run(&read::Options { seed, count, depth }))
-        }
-        "read-bench" => {
-            let [rounds] = common::options(words, [("--rounds", 101)])?;
-            Ok(bench::run(rounds.max(1) as usize))
-        }
+    match mode {
+        "read" => Ok(read::run(&Plan::of(words, 1_000_000, 4)?)),
+        "read-bench" => Ok(bench::run(program::rounds(words, 101)?)),
         "read-vectors" => {
             let (path, words) = words.split_first().ok_or("no file")?;
             let [seed, count] = common::options(words, [("--seed", 1), ("--count", 300)])?;

@@ -23,37 +23,20 @@ mod report;
 mod rooms;
 mod seen;
 
+use common::program::{self, Plan};
 use std::process::ExitCode;
 
 const USAGE: &str = "\
 modes: stored [--model] [--seed N] [--count N] [--depth N], stored-bench [--model] [--rounds N]";
 
 fn main() -> ExitCode {
-    // Which side answers is settled when this is built: compare/run reads --model.
-    let words: Vec<String> = std::env::args().skip(1).filter(|word| word != "--model").collect();
-    match mode(&words) {
-        Ok(true) => ExitCode::SUCCESS,
-        Ok(false) => ExitCode::from(1),
-        Err(message) => {
-            eprintln!("{message}\n{USAGE}");
-            ExitCode::from(2)
-        }
-    }
+    program::run(USAGE, mode)
 }
 
-fn mode(words: &[String]) -> Result<bool, String> {
-    let (mode, words) = words.split_first().ok_or("no mode")?;
-    match mode.as_str() {
-        "stored" => {
-            let [seed, count, depth] =
-                common::options(words, [("--seed", 1), ("--count", 500_000), ("--depth", 5)])?;
-            let (count, depth) = (count as usize, depth as usize);
-            Ok(parts::run(&parts::Options { seed, count, depth }))
-        }
-        "stored-bench" => {
-            let [rounds] = common::options(words, [("--rounds", 301)])?;
-            Ok(bench::run(rounds.max(1) as usize))
-        }
+fn mode(mode: &str, words: &[String]) -> Result<bool, String> {
+    match mode {
+        "stored" => Ok(parts::run(&Plan::of(words, 500_000, 5)?)),
+        "stored-bench" => Ok(bench::run(program::rounds(words, 301)?)),
         other => Err(format!("no mode {other}")),
     }
 }

@@ -4,23 +4,16 @@ use crate::call::Records;
 use crate::judge::Judge;
 use crate::{damage, drawn, lists, ours};
 use codec::{BLOCK_WORDS, MOST_TEXT};
+use common::program::Plan;
 use common::random::Random;
 use std::time::Instant;
 
 /// Differences that are printed in full for each part.
 const PRINTED: u32 = 3;
 
-pub struct Options {
-    pub seed: u64,
-    /// Records at random, as many lists of such, and as many again of both that are damaged.
-    pub count: usize,
-    /// Bytes of the longest strings of which all are tried.
-    pub depth: usize,
-}
-
 /// True if there is no difference.
-pub fn run(options: &Options) -> bool {
-    let Options { seed, count, depth } = *options;
+pub fn run(plan: &Plan) -> bool {
+    let Plan { seed, count, depth } = *plan;
     println!("seed {seed}, count {count}, depth {depth}; {} is judged", ours::NAME);
     let mut judge = Judge::new(!seed);
     listed(&mut judge, depth);
