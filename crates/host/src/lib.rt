@@ -170,7 +170,11 @@ pub extern "C" fn elduvarn_stored_check(list: &[u8]) -> u32
 }
 
 #[no_mangle]
-pub extern "C" fn elduvarn_stored_read(list: &[u8], blocks: &mut [u32], text: &mut [u8]) -> StoredAnswer
+pub extern "C" fn elduvarn_stored_read(
+    list: &[u8],
+    blocks: &mut [u32],
+    text: &mut [u8],
+) -> StoredAnswer
     ensures answer { λ r. ⌜ r ≡ storedOf (storedAnswer (length (now (blocks .entry))) (length (now (text .entry))) (now (list .entry))) ⌝ }
     ensures block_room { λ _. ⌜ now (blocks .exit) ≡ storedBlocks (length (now (blocks .entry))) (length (now (text .entry))) (now (list .entry)) ⌝ }
     ensures text_room { λ _. ⌜ now (text .exit) ≡ storedText (length (now (blocks .entry))) (length (now (text .entry))) (now (list .entry)) ⌝ }

@@ -78,8 +78,8 @@ module _ {s : List ℕ} {total i : ℕ} {t ws : List ℕ} (g : Reading s total i
           held = omega (arith, h, g .wide);
           left = omega (arith, g .left, l);
           all =
-            g .all ∙ ap (behind (take i ws) (length s - length t)) a ∙ behind-more (take i ws) (length s - length t) v k (numbersFrom (total - (i + 1)) (drop k t))
-            ∙ rw (m, add-one i, take-suc-set ws i v h);
+              g .all ∙ ap (behind (take i ws) (length s - length t)) a ∙ behind-more (take i ws) (length s - length t) v k (numbersFrom (total - (i + 1)) (drop k t))
+              ∙ rw (m, add-one i, take-suc-set ws i v h);
         })
 
     pub reading-bad : {x : Numeral} (ws′ : List ℕ) (n : ℕ) → x ≡ numberOf t → x ≡ BadNumber → {r : Refusal} → r ≡ refusal StoredNumber → NumbersIn (numbersFrom total s) n (Refused r) ws′
@@ -210,8 +210,12 @@ module _ {k : ℕ} {s t : List ℕ} {n left : ℕ} {begun : Bool} {before : Styl
       pub checking-text : left < c → {r : Refusal} → r ≡ refusal TextRoom → Refused r ≡ answer 0 (roomy B 2147483647 none (blocksFrom k none s))
       unfolding answer
       checking-text l q =
-          sym (to-check ∙ rw (f, q, roomy-over (B - (k - n)) left (lastOf begun before) (piece st (take c (drop m t))) (blocksFrom (n - 1) (last st) (drop (m + c) t))
-          (facts .differs) (omega (arith, w, g .short, facts .within, facts .numbers)) (rw bytes l)))
+          sym (to-check ∙ rw (
+            f,
+            q,
+            roomy-over (B - (k - n)) left (lastOf begun before) (piece st (take c (drop m t))) (blocksFrom (n - 1) (last st) (drop (m + c) t))
+                (facts .differs) (omega (arith, w, g .short, facts .within, facts .numbers)) (rw bytes l),
+          ))
 
       checking-next : c ≤ left → answer 0 (roomy B 2147483647 none (blocksFrom k none s))
           ≡ answer (k - (n - 1)) (roomy (B - (k - (n - 1))) (left - c) (last st) (blocksFrom (n - 1) (last st) (drop (m + c) t)))
@@ -219,8 +223,14 @@ module _ {k : ℕ} {s t : List ℕ} {n left : ℕ} {begun : Bool} {before : Styl
       checking-next l =
           let i : k - (n - 1) ≡ k - n + 1 = omega (arith, h, g .held) in
           let j : B - (k - n + 1) ≡ B - (k - n) - 1 = omega arith in
-          to-check ∙ rw (f, i, j, roomy-next (B - (k - n)) left (lastOf begun before) (piece st (take c (drop m t))) (blocksFrom (n - 1) (last st) (drop (m + c) t))
-          (facts .differs) (omega (arith, w, g .short, facts .within, facts .numbers)) (rw bytes l), bytes) refl
+          to-check ∙ rw (
+            f,
+            i,
+            j,
+            roomy-next (B - (k - n)) left (lastOf begun before) (piece st (take c (drop m t))) (blocksFrom (n - 1) (last st) (drop (m + c) t))
+                (facts .differs) (omega (arith, w, g .short, facts .within, facts .numbers)) (rw bytes l),
+            bytes,
+          ) refl
 
   pub checking-more : 0 < n → {e : Entry} → e ≡ entry (lastOf begun before) t → {st : Style} {m c : ℕ} → e ≡ Is st m c → c ≤ left
       → Checking k s (take (length t - (m + c)) (drop (m + c) t)) (n - 1) (left - c) true st

@@ -1,0 +1,96 @@
+-- Hidden stays hidden: letters that are the same except inside ignored groups say the same.
+--     hidden-stays-hidden   of letters with one veil
+--     alike-said            of letters that differ inside ignored groups, group by group
+-- It is about the definitions that the contracts of `reader::read` and `cutter::cut` cite. Assumes nothing.
+use mathlib.Core.Path.{_≡_, refl, sym, ap, _∙_}
+use mathlib.Core.List.{List}
+use mathlib.Core.Bool.{true}
+use Prim.Native.Nat.{ℕ}
+use Rattle.answers.specs.declared.Why.the-variants.{TokenRoom}
+use Rattle.answers.specs.declared.Outcome.{Outcome}
+use Rattle.answers.specs.declared.Outcome.the-variants.{Done, Refused}
+use Rattle.answers.specs.Answers.{refusal}
+use Rattle.rooms.specs.Streams.{items, answer}
+use Rattle.rooms.specs.Rooms.{settled}
+use Rattle.rooms.proofs.Streams.{done-refused}
+use Rattle.tokens.specs.Tokens.{Shown, tokenLayout}
+use Rattle.cutter.specs.Cutting.{tokenStream, cutAnswer}
+use Rattle.walk.specs.Walk.{Step, walk}
+use Rattle.styles.specs.declared.Reading.{Reading}
+use Rattle.reader.specs.Reading.{shownBy, Sizes, cut, letterOf}
+use Rattle.veil.specs.Veil.{veil, Alike}
+use Rattle.veil.specs.Said.{saidBy, said, SameRooms}
+use Rattle.veil.proofs.Bare.{bareSteps}
+use Rattle.veil.proofs.Shows.{whole, answer-whole}
+use Rattle.veil.proofs.Veils.{walk-same}
+use Rattle.veil.proofs.Steps.{first, begun-steps, sayOf, say-bare}
+use Rattle.veil.proofs.Names.{letter-names}
+use Rattle.veil.proofs.Groups.{alike-veil}
+
+-- a source that is cut without refusal
+cut-whole : (src : List ℕ) (total : ℕ) {n : ℕ} → cutAnswer src total ≡ Done n → whole (tokenStream src) ≡ true
+unfolding cutAnswer settled
+cut-whole src total {n} e = go (answer 0 (tokenStream src)) refl e
+  where
+    go : (o : Outcome) → answer 0 (tokenStream src) ≡ o → settled tokenLayout (refusal TokenRoom) total o ≡ Done n
+        → whole (tokenStream src) ≡ true
+    go (Done m) a q = answer-whole (tokenStream src) 0 m a
+    go (Refused r) a q = absurd (done-refused (sym q))
+
+-- the steps of the walk, without places
+steps : List ℕ → List Step
+steps src = bareSteps (walk (shownBy (items (tokenStream src))))
+
+-- a font's name, read from the source, is the name that the font table gives
+pub said-own : (rd : Reading) (src : List ℕ) (z : Sizes) {n : ℕ} → cutAnswer src (z .tokens) ≡ Done n
+    → said rd src z ≡ sayOf (letterOf rd src z)
+unfolding said letterOf
+said-own rd src z e =
+    let ts : List Shown = shownBy (items (tokenStream src)) in
+    ap (λ (o : Outcome). saidBy src (cut rd z (items (tokenStream src)) o)) e
+    ∙ ap (saidBy src) (begun-steps rd z ts)
+    ∙ letter-names src rd (z .fonts) (z .colours) (z .blocks) (z .text)
+    ∙ ap sayOf (sym (begun-steps rd z ts))
+    ∙ ap (λ (o : Outcome). sayOf (cut rd z (items (tokenStream src)) o)) (sym e)
+
+-- it says what its steps say
+said-steps : (rd : Reading) (src : List ℕ) (z : Sizes) {n : ℕ} → cutAnswer src (z .tokens) ≡ Done n
+    → said rd src z ≡ sayOf (first rd (z .fonts) (z .colours) (z .blocks) (z .text) (steps src))
+unfolding letterOf steps
+said-steps rd src z e =
+    let ts : List Shown = shownBy (items (tokenStream src)) in
+    said-own rd src z e
+    ∙ ap (λ (o : Outcome). sayOf (cut rd z (items (tokenStream src)) o)) e
+    ∙ ap sayOf (begun-steps rd z ts)
+    ∙ sym (say-bare rd (z .fonts) (z .colours) (z .blocks) (z .text) (walk ts))
+
+same-steps : (a b : List ℕ) (s t : ℕ) {n m : ℕ} → cutAnswer a s ≡ Done n → cutAnswer b t ≡ Done m → veil a ≡ veil b
+    → steps a ≡ steps b
+unfolding steps
+same-steps a b s t u v e = walk-same a b (cut-whole a s u) (cut-whole b t v) e
+
+-- in rooms of the same sizes the same steps say the same
+same-sizes : (rd : Reading) (z y : Sizes) (ss : List Step) → SameRooms z y
+    → sayOf (first rd (z .fonts) (z .colours) (z .blocks) (z .text) ss) ≡ sayOf (first rd (y .fonts) (y .colours) (y .blocks) (y .text) ss)
+same-sizes rd z y ss s = rw (s .fonts, s .colours, s .blocks, s .text)
+
+-- ---- the theorem
+
+-- Any reading; any two sources, white space at their ends included; any rooms, those of one as large as those of the other but
+-- for the token rooms. Premises: each source is cut without refusal in its token room (so that room is enough), and they have
+-- one veil. Then both are refused alike, or both give the same fonts, colours, blocks and text
+pub hidden-stays-hidden : (rd : Reading) (a b : List ℕ) (z y : Sizes) → SameRooms z y → {n m : ℕ}
+    → cutAnswer a (z .tokens) ≡ Done n → cutAnswer b (y .tokens) ≡ Done m → veil a ≡ veil b
+    → said rd a z ≡ said rd b y
+hidden-stays-hidden rd a b z y s u v e =
+    said-steps rd a z u
+    ∙ ap (λ (ss : List Step). sayOf (first rd (z .fonts) (z .colours) (z .blocks) (z .text) ss)) (same-steps a b (z .tokens) (y .tokens) u v e)
+    ∙ same-sizes rd z y (steps b) s
+    ∙ sym (said-steps rd b y v)
+
+-- The same of letters that differ inside ignored groups, each closed by its own bracket: of those in between, where one group
+-- after another is changed, nothing is asked
+pub alike-said : (rd : Reading) (a b : List ℕ) (z y : Sizes) → SameRooms z y → {n m : ℕ}
+    → cutAnswer a (z .tokens) ≡ Done n → cutAnswer b (y .tokens) ≡ Done m → Alike a b
+    → said rd a z ≡ said rd b y
+alike-said rd a b z y s u v k = hidden-stays-hidden rd a b z y s u v (alike-veil k)

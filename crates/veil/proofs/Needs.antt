@@ -1,0 +1,135 @@
+-- Why each premise of `hidden-stays-hidden`, and each of `Ignored`, is asked: letters without it whose readings differ from
+-- that of `{a{\*x}b}`, or from one another's, by computation. A letter is heard as its answer number, its text and its fonts,
+-- which are a part of what it says. Assumes nothing.
+use mathlib.Core.Path.{_≡_, refl}
+use mathlib.Core.List.{List, [], _∷_}
+use Prim.Native.Nat.{ℕ}
+use Prim.Native.String.{String}
+use Rattle.answers.specs.Answers.{whyNumber}
+use Rattle.bytes.specs.Bytes.{lead, body, any}
+use Rattle.bytes.specs.Texts.{bytesOf}
+use Rattle.names.specs.Names.{sameBytes, placeIn, wordNumber}
+use Rattle.numbers.specs.Numbers.{hexDigit, hexPair, digitsFrom, digits, decimal}
+use Rattle.rooms.specs.Streams.{andThen, each, answer, items}
+use Rattle.rooms.specs.Rooms.{settled, tableLimit}
+use Rattle.slices.specs.Slices.{split, slices}
+use Rattle.tokenize.specs.Tokenize.{mark, plain, hexValue, hexEscape, lineBreakAnd, shownWord, numbered, named, bareLength}
+use Rattle.tokenize.specs.Tokenize.{wordTail, word, other, escaped, tokens}
+use Rattle.cutter.specs.Cutting.{located, last, allSlices, trimmed, tokenStream, cutAnswer}
+use Rattle.utf8.specs.Utf8.{utf8, written}
+use Rattle.units.specs.Units.{unitOf, units, later, kept, decode, utf8All, runText}
+use Rattle.items.specs.Items.{part as bytesAt}
+use Rattle.walk.specs.Walk.{aimFrom, extent, walkFrom}
+use Rattle.fonts.specs.Fonts.{named as fontNamed, hasKey, inserted, stored, fontWord, fontToken, fontsFrom, fonts}
+use Rattle.colours.specs.Colours.{colourWordOf, colourToken, coloursFrom, colours}
+use Rattle.header.specs.Header.{tablesFrom}
+use Rattle.styles.specs.declared.Reading.the-variants.{Plain}
+use Rattle.styles.specs.Styles.{flagged, fitted, alignment, spacing, measured, character, change, flagsNumber, styleOf}
+use Rattle.pages.specs.Pages.{blocksFrom, blocks, textOf, roomy}
+use Rattle.body.specs.Body.{gather, asks, bodyFrom}
+use Rattle.reader.specs.Reading.{shownBy, placed, bodied, letterOf}
+use Rattle.veil.specs.Veil.{part, parts, pieces, join, shown, mask, veil}
+use Rattle.veil.specs.Said.{Named, Said, refuses, says, namesIn, said}
+
+record Heard : Type 0 where
+  number : ℕ
+  text : List ℕ
+  fonts : List Named
+
+abbrev heard : Said → Heard
+heard (says c) = record { number = 0; text = c .text; fonts = c .fonts }
+heard (refuses r) = record { number = whyNumber (r .why); text = []; fonts = [] }
+
+-- a letter; the words of its token room, the bytes of its text room; and what is heard
+record Case : Type 0 where
+  letter : String
+  tokens : ℕ
+  text : ℕ
+  hears : Heard
+
+-- rooms that are large enough
+case : String → Heard → Case
+case s h = record { letter = s; tokens = 600; text = 16; hears = h }
+
+inRooms : ℕ → ℕ → String → Heard → Case
+inRooms n m s h = record { letter = s; tokens = n; text = m; hears = h }
+
+bytes : List ℕ → Heard
+bytes t = record { number = 0; text = t; fonts = [] }
+
+text : String → Heard
+text s = bytes (bytesOf s)
+
+refusal : ℕ → Heard
+refusal n = record { number = n; text = []; fonts = [] }
+
+font : ℕ → String → Named
+font k s = record { key = k; name = bytesOf s }
+
+cases : List Case
+cases =
+    -- the letter that the others are beside
+    case "{a{\\*x}b}" (text "ab")
+    -- cut without refusal: there is a refusal inside
+    ∷ case "{a{\\*{\\'zz}}b}" (refusal 4)
+    -- token room enough for each: 7 tokens find room, 9 do not
+    ∷ inRooms 42 16 "{a{\\*x}b}" (text "ab")
+    ∷ inRooms 42 16 "{a{\\*{}}b}" (refusal 7)
+    -- other rooms of the same sizes: a text room of 1
+    ∷ inRooms 600 1 "{a{\\*x}b}" (refusal 20)
+    -- closed by its own bracket: one that closes an inner group; one that is text; one that is glued to a slice
+    ∷ case "{a{\\*{x}b}" (text "a")
+    ∷ case "{a{\\*x\\}b}" (text "a")
+    ∷ case "{a{\\*{\\\\}b}" (text "a")
+    -- opened by a bracket: one that is text
+    ∷ case "{a\\{\\*x}b}" (refusal 13)
+    -- reached by the walk: in a font table a `\*` group is read
+    ∷ case "{{\\fonttbl{\\f0 A;}{\\*\\f1 B;}}t}" (record {
+      number =
+          0;
+      text = bytesOf "t";
+      fonts = font 0 "A" ∷ font 1 "B" ∷ [];
+    })
+    ∷ case "{{\\fonttbl{\\f0 A;}{\\*\\f1 C;}}t}" (record {
+      number =
+          0;
+      text = bytesOf "t";
+      fonts = font 0 "A" ∷ font 1 "C" ∷ [];
+    })
+    -- passed over, both: without a mark; with a mark that is not the first; a stylesheet with a number
+    ∷ case "{a{\\b x}b}" (text "axb")
+    ∷ case "{a{x\\*}b}" (refusal 13)
+    ∷ case "{a{\\stylesheet1 x}b}" (text "axb")
+    -- a line break may stand between the bracket and the mark, and is hidden; a word may not; before a table's word it is refused
+    ∷ case "{a{\\\n\\*x}b}" (text "ab")
+    ∷ case "{a{\\b\\*x}b}" (refusal 13)
+    ∷ case "{a{\\\n\\fonttbl x}b}" (refusal 10)
+    -- the group stays, as a mark: between two `u` tokens it parts the run, so that the second unit is kept
+    ∷ case "{\\u8212 {\\*x}\\u65 }" (bytes (226 ∷ 128 ∷ 148 ∷ 65 ∷ []))
+    ∷ case "{\\u8212 \\u65 }" (bytes (226 ∷ 128 ∷ 148 ∷ []))
+    -- not asked: that the group is closed, if it is in neither
+    ∷ case "{a{\\*{x}" (text "a")
+    ∷ case "{a{\\*{{y}" (text "a")
+    ∷ []
+
+abbrev Heards : List Case → Type 0
+Heards [] = Unit {0}
+Heards (x ∷ xs) =
+    (heard (said Plain (bytesOf (x .letter)) (record {
+      tokens =
+          x .tokens;
+      fonts = 9;
+      colours = 3;
+      blocks = 39;
+      text = x .text;
+    })) ≡ x .hears) × Heards xs
+
+needs : Heards cases
+unfolding cases case inRooms text bytes refusal font said letterOf shownBy bodied placed roomy bodyFrom asks gather blocks blocksFrom textOf walkFrom extent aimFrom tablesFrom fonts fontsFrom fontToken fontWord stored inserted hasKey fontNamed colours coloursFrom colourToken colourWordOf tableLimit runText utf8All decode kept later units unitOf utf8 written change styleOf flagsNumber flagged fitted alignment spacing measured character cutAnswer tokenStream trimmed allSlices last located settled answer items each andThen split slices lead body any tokens escaped other word wordTail bareLength named numbered shownWord lineBreakAnd hexEscape hexValue plain mark wordNumber placeIn sameBytes hexDigit hexPair digitsFrom digits decimal namesIn bytesAt
+needs =
+    (refl, (refl, (refl, (refl, (refl, (refl, (refl, (refl, (refl, (refl, (refl, (refl, (refl, (refl, (refl, (refl, (refl, (refl, (refl, (refl, (refl, tt)))))))))))))))))))))
+
+-- the second letter above is of one veil with the first: only that it is not cut parts them
+refused-inside : veil (bytesOf "{a{\\*{\\'zz}}b}") ≡ veil (bytesOf "{a{\\*x}b}")
+unfolding veil pieces join mask parts part shown aimFrom trimmed items andThen split slices lead body tokens escaped other word wordTail bareLength named numbered shownWord lineBreakAnd hexEscape hexValue plain mark wordNumber placeIn sameBytes hexDigit hexPair digitsFrom digits decimal
+refused-inside = refl

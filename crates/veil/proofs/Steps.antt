@@ -1,0 +1,414 @@
+-- What a letter says is read off the steps of the walk, and no place is looked at.
+--     begun-steps   the letter of tokens is that of the steps that the walk makes of them
+--     say-bare      it says the same without the places
+-- Assumes nothing.
+use mathlib.Core.Path.{_≡_, refl, sym, ap, _∙_}
+use mathlib.Core.List.{List, [], _∷_}
+use mathlib.Core.Bool.{Bool, true, false, cond, _||_}
+use Prim.Native.Nat.{ℕ}
+use lib.ListN.{length, take}
+use lib.Dec.{eqb, ltb}
+use Rattle.answers.specs.declared.Why.the-variants.{NoTokens, FirstToken, FontRoom}
+use Rattle.answers.specs.declared.Outcome.{Outcome}
+use Rattle.answers.specs.declared.Outcome.the-variants.{Done, Refused}
+use Rattle.answers.specs.Answers.{refusal, Found, found, refused}
+use Rattle.bytes.specs.declared.Class.the-variants.{Semicolon}
+use Rattle.bytes.specs.Bytes.{inClass, body as bodyLength}
+use Rattle.rooms.specs.Streams.{Stream, answer}
+use Rattle.rooms.specs.Rooms.{tableLimit, capacity}
+use Rattle.tokens.specs.declared.Property.{Property}
+use Rattle.tokens.specs.declared.Property.the-variants.{None, Value}
+use Rattle.tokens.specs.Tokens.{Shown}
+use Rattle.tokens.specs.Tokens
+use Rattle.fonts.specs.Fonts.{Font, Fonts, noFonts, named, hasKey, inserted, stored, rekeyed, fontWord, fontToken, nextFont}
+use Rattle.fonts.specs.Fonts.{fontsFrom, tableOf, fonts}
+use Rattle.colours.specs.Colours.{Colours, colourToken, nextColour, coloursFrom, tableOf as colourTableOf, noColours, colours}
+use Rattle.walk.specs.declared.Aim.{Aim}
+use Rattle.walk.specs.declared.Aim.the-variants.{Nothing, Hide, Fonts as ReadFonts, Colours as ReadColours}
+use Rattle.walk.specs.Walk.{aim, Step, kept, hidden, fontTable, colourTable, entered, passedBy, walkFrom, walk}
+use Rattle.header.specs.Header.{Tables, noTables, withFonts, withColours, readStep, nextStep, tablesFrom, tables}
+use Rattle.styles.specs.declared.State.{State}
+use Rattle.styles.specs.declared.Reading.{Reading}
+use Rattle.styles.specs.Styles.{fresh}
+use Rattle.pages.specs.Pages.{Piece, blocks, textOf, blockWords, textCapacity, none, roomy}
+use Rattle.body.specs.Body.{Item, token, run, apart, joined, keptItems, gather, Asked, tokenAsks, bareAsks, asks, statesOf}
+use Rattle.body.specs.Body.{uttered, bodyFrom, body}
+use Rattle.reader.specs.Reading.{begun, Sizes, Letter, ended, placed, bodied, headed, walked}
+use Rattle.veil.specs.Said.{Named, Said, refuses, says}
+use Rattle.veil.proofs.Bare.{bare, bareAll, bareStep, bareSteps}
+
+-- ---- a letter by its steps, in rooms for so many fonts and colours, and of b words and t bytes
+
+module _ (rd : Reading) (b t : ℕ) (ss : List Step) where
+  abbrev pub laid : Stream Piece
+  laid = roomy (capacity blockWords b) (textCapacity t) none (body rd ss)
+
+  abbrev pub finished : Found Tables → Found Letter
+  finished (found h) = ended h laid (answer 0 laid)
+  finished (refused r) = refused r
+
+module _ (rd : Reading) (f c b t : ℕ) where
+  abbrev pub stepped : List Step → Found Letter
+  stepped ss = finished rd b t ss (tables (tableLimit 3 f) (tableLimit 1 c) ss)
+
+  -- the look at the first token, at the first step
+  abbrev pub first : List Step → Found Letter
+  first [] = refused (refusal NoTokens)
+  first (kept Shown.opening ∷ ss) = stepped (kept Shown.opening ∷ ss)
+  first (kept Shown.closing ∷ ss) = refused (refusal FirstToken)
+  first (kept Shown.lineBreak ∷ ss) = refused (refusal FirstToken)
+  first (kept Shown.ignorable ∷ ss) = refused (refusal FirstToken)
+  first (kept (Shown.text p bs) ∷ ss) = refused (refusal FirstToken)
+  first (kept (Shown.word w num) ∷ ss) = refused (refusal FirstToken)
+  first (kept (Shown.unknown p bs num) ∷ ss) = refused (refusal FirstToken)
+  first (hidden ∷ ss) = stepped (hidden ∷ ss)
+  first (fontTable late ts ∷ ss) = stepped (fontTable late ts ∷ ss)
+  first (colourTable late ts ∷ ss) = stepped (colourTable late ts ∷ ss)
+
+  first-opening : (a : Aim) (ts : List Shown) (ss : List Step) → first (entered a ts ∷ ss) ≡ stepped (entered a ts ∷ ss)
+  first-opening Nothing ts ss = refl
+  first-opening Hide ts ss = refl
+  first-opening (ReadFonts late) ts ss = refl
+  first-opening (ReadColours late) ts ss = refl
+
+headed-steps : (rd : Reading) (b t : ℕ) (ts : List Shown) (x : Found Tables) → headed rd b t ts x ≡ finished rd b t (walk ts) x
+unfolding bodied placed
+headed-steps rd b t ts (found h) = refl
+headed-steps rd b t ts (refused r) = refl
+
+pub begun-steps : (rd : Reading) (z : Sizes) (ts : List Shown)
+    → walked rd z (begun ts) ≡ first rd (z .fonts) (z .colours) (z .blocks) (z .text) (walk ts)
+unfolding walkFrom
+begun-steps rd z [] = refl
+begun-steps rd z (Shown.opening ∷ ts) =
+    headed-steps rd (z .blocks) (z .text) (Shown.opening ∷ ts) (tables (tableLimit 3 (z .fonts)) (tableLimit 1 (z .colours)) (walk (Shown.opening ∷ ts)))
+    ∙ sym (first-opening rd (z .fonts) (z .colours) (z .blocks) (z .text) (aim ts) ts (walkFrom (passedBy Shown.opening ts) ts))
+begun-steps rd z (Shown.closing ∷ ts) = refl
+begun-steps rd z (Shown.lineBreak ∷ ts) = refl
+begun-steps rd z (Shown.ignorable ∷ ts) = refl
+begun-steps rd z (Shown.text p bs ∷ ts) = refl
+begun-steps rd z (Shown.word w num ∷ ts) = refl
+begun-steps rd z (Shown.unknown p bs num ∷ ts) = refl
+
+-- ---- the body
+
+abbrev bareItem : Item → Item
+bareItem (token t) = token (bare t)
+bareItem (run nums) = run nums
+bareItem apart = apart
+
+bareItems : List Item → List Item
+bareItems [] = []
+bareItems (i ∷ is) = bareItem i ∷ bareItems is
+
+joined-bare : (num : Property) (is : List Item) → joined num (bareItems is) ≡ bareItems (joined num is)
+unfolding bareItems
+joined-bare num [] = refl
+joined-bare num (run nums ∷ is) = refl
+joined-bare num (token t ∷ is) = refl
+joined-bare num (apart ∷ is) = refl
+
+kept-bare : (t : Shown) (is : List Item) → keptItems (bare t) (bareItems is) ≡ bareItems (keptItems t is)
+unfolding bareItems
+kept-bare (Shown.word w num) is = go (eqb w 2) (joined-bare num is)
+  where
+    go : (x : Bool) → joined num (bareItems is) ≡ bareItems (joined num is)
+        → cond x (joined num (bareItems is)) (token (Shown.word w num) ∷ bareItems is) ≡ bareItems (cond x (joined num is) (token (Shown.word w num) ∷ is))
+    go true e = e
+    go false e = refl
+kept-bare (Shown.text p bs) is = refl
+kept-bare Shown.opening is = refl
+kept-bare Shown.closing is = refl
+kept-bare Shown.lineBreak is = refl
+kept-bare Shown.ignorable is = refl
+kept-bare (Shown.unknown p bs num) is = refl
+
+gather-bare : (ss : List Step) → gather (bareSteps ss) ≡ bareItems (gather ss)
+unfolding gather bareSteps bareItems
+gather-bare [] = refl
+gather-bare (kept t ∷ ss) = ap (keptItems (bare t)) (gather-bare ss) ∙ kept-bare t (gather ss)
+gather-bare (hidden ∷ ss) = ap (λ (l : List Item). apart ∷ l) (gather-bare ss)
+gather-bare (fontTable late ts ∷ ss) = ap (λ (l : List Item). apart ∷ l) (gather-bare ss)
+gather-bare (colourTable late ts ∷ ss) = ap (λ (l : List Item). apart ∷ l) (gather-bare ss)
+
+none-asks : (t : Shown) → bareAsks (bare t) ≡ bareAsks t
+none-asks Shown.opening = refl
+none-asks Shown.closing = refl
+none-asks Shown.lineBreak = refl
+none-asks Shown.ignorable = refl
+none-asks (Shown.text p bs) = refl
+none-asks (Shown.word w num) = refl
+none-asks (Shown.unknown p bs num) = refl
+
+some-asks : (rd : Reading) (top : State) (rest : List State) (t : Shown)
+    → tokenAsks rd top rest (bare t) ≡ tokenAsks rd top rest t
+some-asks rd top rest Shown.opening = refl
+some-asks rd top rest Shown.closing = refl
+some-asks rd top rest Shown.lineBreak = refl
+some-asks rd top rest Shown.ignorable = refl
+some-asks rd top rest (Shown.text p bs) = refl
+some-asks rd top rest (Shown.word w num) = refl
+some-asks rd top rest (Shown.unknown p bs num) = refl
+
+asks-bare : (rd : Reading) (st : List State) (i : Item) → asks rd st (bareItem i) ≡ asks rd st i
+unfolding asks
+asks-bare rd [] (token t) = none-asks t
+asks-bare rd (top ∷ rest) (token t) = some-asks rd top rest t
+asks-bare rd [] (run nums) = refl
+asks-bare rd (top ∷ rest) (run nums) = refl
+asks-bare rd [] apart = refl
+asks-bare rd (top ∷ rest) apart = refl
+
+body-from-bare : (rd : Reading) (st : List State) (is : List Item) → bodyFrom rd st (bareItems is) ≡ bodyFrom rd st is
+unfolding bodyFrom bareItems
+body-from-bare rd st [] = refl
+body-from-bare rd st (i ∷ is) =
+    ap (λ (a : Asked). uttered a (bodyFrom rd (statesOf a) (bareItems is))) (asks-bare rd st i)
+    ∙ ap (uttered (asks rd st i)) (body-from-bare rd (statesOf (asks rd st i)) is)
+
+body-bare : (rd : Reading) (ss : List Step) → body rd (bareSteps ss) ≡ body rd ss
+body-bare rd ss = ap (bodyFrom rd (fresh ∷ [])) (gather-bare ss) ∙ body-from-bare rd (fresh ∷ []) (gather ss)
+
+-- ---- the tables
+
+abbrev bareFont : Font → Font
+bareFont f = record { key = f .key; place = 0; name = f .name }
+
+bareFonts : List Font → List Font
+bareFonts [] = []
+bareFonts (f ∷ fs) = bareFont f ∷ bareFonts fs
+
+abbrev bareState : Fonts → Fonts
+bareState s = record { table = bareFonts (s .table); font = bareFont (s .font) }
+
+abbrev bareFound : Found Fonts → Found Fonts
+bareFound (found s) = found (bareState s)
+bareFound (refused r) = refused r
+
+length-bare : (fs : List Font) → length (bareFonts fs) ≡ length fs
+unfolding bareFonts
+length-bare [] = refl
+length-bare (f ∷ fs) = rw (length-bare fs)
+
+key-bare : (k : ℕ) (fs : List Font) → hasKey k (bareFonts fs) ≡ hasKey k fs
+unfolding hasKey bareFonts
+key-bare k [] = refl
+key-bare k (f ∷ fs) = ap (λ (x : Bool). eqb (f .key) k || x) (key-bare k fs)
+
+inserted-bare : (f : Font) (fs : List Font) → inserted (bareFont f) (bareFonts fs) ≡ bareFonts (inserted f fs)
+unfolding inserted bareFonts
+inserted-bare f [] = refl
+inserted-bare f (g ∷ gs) = go (ltb (g .key) (f .key)) (eqb (g .key) (f .key)) (inserted-bare f gs)
+  where
+    go : (x y : Bool) → inserted (bareFont f) (bareFonts gs) ≡ bareFonts (inserted f gs)
+        → cond x (bareFont g ∷ inserted (bareFont f) (bareFonts gs)) (cond y (bareFont f ∷ bareFonts gs) (bareFont f ∷ bareFont g ∷ bareFonts gs))
+        ≡ bareFonts (cond x (g ∷ inserted f gs) (cond y (f ∷ gs) (f ∷ g ∷ gs)))
+    go true y e = ap (λ (l : List Font). bareFont g ∷ l) e
+    go false true e = refl
+    go false false e = refl
+
+stored-bare : (limit : ℕ) (s : Fonts) → stored limit (bareState s) ≡ bareFound (stored limit s)
+unfolding stored
+stored-bare limit s =
+    rw (key-bare (s .font .key) (s .table), length-bare (s .table), inserted-bare (s .font) (s .table))
+    (go (hasKey (s .font .key) (s .table) || ltb (length (s .table)) limit))
+  where
+    go : (x : Bool)
+        → cond x (found (record { table = bareFonts (inserted (s .font) (s .table)); font = bareFont (s .font) })) (refused (refusal FontRoom))
+        ≡ bareFound (cond x (found (record {
+          table =
+              inserted (s .font) (s .table);
+          font = s .font;
+        })) (refused (refusal FontRoom)))
+    go true = refl
+    go false = refl
+
+rekeyed-bare : (num : Property) (x : Found Fonts) → rekeyed num (bareFound x) ≡ bareFound (rekeyed num x)
+rekeyed-bare None (found s) = refl
+rekeyed-bare (Value v) (found s) = refl
+rekeyed-bare None (refused r) = refl
+rekeyed-bare (Value v) (refused r) = refl
+
+font-word-bare : (limit w : ℕ) (num : Property) (s : Fonts)
+    → fontWord limit w num (bareState s) ≡ bareFound (fontWord limit w num s)
+unfolding fontWord
+font-word-bare limit w num s = go (eqb w 9)
+  where
+    go : (x : Bool)
+        → cond x (rekeyed num (stored limit (bareState s))) (found (bareState s)) ≡ bareFound (cond x (rekeyed num (stored limit s)) (found s))
+    go true = ap (rekeyed num) (stored-bare limit s) ∙ rekeyed-bare num (stored limit s)
+    go false = refl
+
+named-bare : (f : Font) (p : ℕ) (bs : List ℕ) → named (bareFont f) 0 bs ≡ bareFont (named f p bs)
+unfolding named
+named-bare f p bs = go (eqb (bodyLength (inClass Semicolon) bs) 0)
+  where
+    go : (x : Bool)
+        → _≡_ {A = Font} (record { key = f .key; place = cond x 0 0; name = take (bodyLength (inClass Semicolon) bs) bs })
+        (record { key = f .key; place = 0; name = take (bodyLength (inClass Semicolon) bs) bs })
+    go true = refl
+    go false = refl
+
+font-token-bare : (limit : ℕ) (t : Shown) (s : Fonts) → fontToken limit (bare t) (bareState s) ≡ bareFound (fontToken limit t s)
+unfolding fontToken
+font-token-bare limit (Shown.word w num) s = font-word-bare limit w num s
+font-token-bare limit (Shown.text p bs) s =
+    ap (λ (f : Font). found (record { table = bareFonts (s .table); font = f })) (named-bare (s .font) p bs)
+font-token-bare limit Shown.closing s = stored-bare limit s
+font-token-bare limit Shown.opening s = refl
+font-token-bare limit Shown.lineBreak s = refl
+font-token-bare limit Shown.ignorable s = refl
+font-token-bare limit (Shown.unknown p bs num) s = refl
+
+next-font-bare : (limit : ℕ) (x : Found Fonts) (t : Shown)
+    → nextFont limit (bareFound x) (bare t) ≡ bareFound (nextFont limit x t)
+next-font-bare limit (found s) t = font-token-bare limit t s
+next-font-bare limit (refused r) t = refl
+
+fonts-from-bare : (limit : ℕ) (x : Found Fonts) (ts : List Shown)
+    → fontsFrom limit (bareFound x) (bareAll ts) ≡ bareFound (fontsFrom limit x ts)
+unfolding fontsFrom bareAll
+fonts-from-bare limit x [] = refl
+fonts-from-bare limit x (t ∷ ts) =
+    ap (λ (y : Found Fonts). fontsFrom limit y (bareAll ts)) (next-font-bare limit x t) ∙ fonts-from-bare limit (nextFont limit x t) ts
+
+abbrev bareTable : Found (List Font) → Found (List Font)
+bareTable (found fs) = found (bareFonts fs)
+bareTable (refused r) = refused r
+
+table-bare : (x : Found Fonts) → tableOf (bareFound x) ≡ bareTable (tableOf x)
+table-bare (found s) = refl
+table-bare (refused r) = refl
+
+no-fonts-bare : found noFonts ≡ bareFound (found noFonts)
+unfolding bareFonts
+no-fonts-bare = refl
+
+fonts-bare : (limit : ℕ) (ts : List Shown) → fonts limit (bareAll ts) ≡ bareTable (fonts limit ts)
+unfolding fonts
+fonts-bare limit ts =
+    ap (λ (x : Found Fonts). tableOf (fontsFrom limit x (bareAll ts))) no-fonts-bare
+    ∙ ap tableOf (fonts-from-bare limit (found noFonts) ts)
+    ∙ table-bare (fontsFrom limit (found noFonts) ts)
+
+colour-token-bare : (limit : ℕ) (t : Shown) (s : Colours) → colourToken limit (bare t) s ≡ colourToken limit t s
+unfolding colourToken
+colour-token-bare limit (Shown.word w num) s = refl
+colour-token-bare limit (Shown.text p bs) s = refl
+colour-token-bare limit Shown.closing s = refl
+colour-token-bare limit Shown.opening s = refl
+colour-token-bare limit Shown.lineBreak s = refl
+colour-token-bare limit Shown.ignorable s = refl
+colour-token-bare limit (Shown.unknown p bs num) s = refl
+
+next-colour-bare : (limit : ℕ) (x : Found Colours) (t : Shown) → nextColour limit x (bare t) ≡ nextColour limit x t
+next-colour-bare limit (found s) t = colour-token-bare limit t s
+next-colour-bare limit (refused r) t = refl
+
+colours-from-bare : (limit : ℕ) (x : Found Colours) (ts : List Shown)
+    → coloursFrom limit x (bareAll ts) ≡ coloursFrom limit x ts
+unfolding coloursFrom bareAll
+colours-from-bare limit x [] = refl
+colours-from-bare limit x (t ∷ ts) =
+    ap (λ (y : Found Colours). coloursFrom limit y (bareAll ts)) (next-colour-bare limit x t) ∙ colours-from-bare limit (nextColour limit x t) ts
+
+colours-bare : (limit : ℕ) (ts : List Shown) → colours limit (bareAll ts) ≡ colours limit ts
+unfolding colours
+colours-bare limit ts = ap colourTableOf (colours-from-bare limit (found noColours) ts)
+
+abbrev bareTables : Tables → Tables
+bareTables h = record { fonts = bareFonts (h .fonts); colours = h .colours }
+
+abbrev bareHeader : Found Tables → Found Tables
+bareHeader (found h) = found (bareTables h)
+bareHeader (refused r) = refused r
+
+with-fonts-bare : (h : Tables) (x : Found (List Font)) → withFonts (bareTables h) (bareTable x) ≡ bareHeader (withFonts h x)
+with-fonts-bare h (found fs) = refl
+with-fonts-bare h (refused r) = refl
+
+with-colours-bare : (h : Tables) (x : Found (List ℕ)) → withColours (bareTables h) x ≡ bareHeader (withColours h x)
+with-colours-bare h (found cs) = refl
+with-colours-bare h (refused r) = refl
+
+module _ (f c : ℕ) where
+  read-bare : (s : Step) (h : Tables) → readStep f c (bareStep s) (bareTables h) ≡ bareHeader (readStep f c s h)
+  read-bare (kept t) h = refl
+  read-bare hidden h = refl
+  read-bare (fontTable true ts) h = refl
+  read-bare (fontTable false ts) h = ap (withFonts (bareTables h)) (fonts-bare f ts) ∙ with-fonts-bare h (fonts f ts)
+  read-bare (colourTable true ts) h = refl
+  read-bare (colourTable false ts) h = ap (withColours (bareTables h)) (colours-bare c ts) ∙ with-colours-bare h (colours c ts)
+
+  next-bare : (x : Found Tables) (s : Step) → nextStep f c (bareHeader x) (bareStep s) ≡ bareHeader (nextStep f c x s)
+  next-bare (found h) s = read-bare s h
+  next-bare (refused r) s = refl
+
+  tables-from-bare : (x : Found Tables) (ss : List Step)
+      → tablesFrom f c (bareHeader x) (bareSteps ss) ≡ bareHeader (tablesFrom f c x ss)
+  unfolding tablesFrom bareSteps
+  tables-from-bare x [] = refl
+  tables-from-bare x (s ∷ ss) =
+      ap (λ (y : Found Tables). tablesFrom f c y (bareSteps ss)) (next-bare x s) ∙ tables-from-bare (nextStep f c x s) ss
+
+  no-tables-bare : found noTables ≡ bareHeader (found noTables)
+  unfolding bareFonts
+  no-tables-bare = refl
+
+  tables-bare : (ss : List Step) → tables f c (bareSteps ss) ≡ bareHeader (tables f c ss)
+  tables-bare ss =
+      ap (λ (x : Found Tables). tablesFrom f c x (bareSteps ss)) no-tables-bare
+      ∙ tables-from-bare (found noTables) ss
+
+-- ---- what a letter says, a font's name told by its bytes
+
+abbrev pub ownName : Font → Named
+ownName f = record { key = f .key; name = f .name }
+
+unfoldable pub ownNames : List Font → List Named
+ownNames [] = []
+ownNames (f ∷ fs) = ownName f ∷ ownNames fs
+
+abbrev pub sayOf : Found Letter → Said
+sayOf (found l) =
+    says (record {
+      fonts = ownNames (l .tables .fonts);
+      colours = l .tables .colours;
+      blocks = blocks (l .pieces);
+      text = textOf (l .pieces);
+    })
+sayOf (refused r) = refuses r
+
+names-bare : (fs : List Font) → ownNames (bareFonts fs) ≡ ownNames fs
+unfolding ownNames bareFonts
+names-bare [] = refl
+names-bare (f ∷ fs) = ap (λ (l : List Named). ownName f ∷ l) (names-bare fs)
+
+ended-bare : (h : Tables) (s : Stream Piece) (o : Outcome) → sayOf (ended (bareTables h) s o) ≡ sayOf (ended h s o)
+ended-bare h s (Done n) = rw (names-bare (h .fonts))
+ended-bare h s (Refused r) = refl
+
+module _ (rd : Reading) (f c b t : ℕ) where
+  finished-bare : (ss : List Step) (x : Found Tables)
+      → sayOf (finished rd b t (bareSteps ss) (bareHeader x)) ≡ sayOf (finished rd b t ss x)
+  finished-bare ss (found h) = rw (body-bare rd ss) (ended-bare h (laid rd b t ss) (answer 0 (laid rd b t ss)))
+  finished-bare ss (refused r) = refl
+
+  stepped-bare : (ss : List Step) → sayOf (stepped rd f c b t (bareSteps ss)) ≡ sayOf (stepped rd f c b t ss)
+  stepped-bare ss =
+      ap (λ (x : Found Tables). sayOf (finished rd b t (bareSteps ss) x)) (tables-bare (tableLimit 3 f) (tableLimit 1 c) ss)
+      ∙ finished-bare ss (tables (tableLimit 3 f) (tableLimit 1 c) ss)
+
+  pub say-bare : (ss : List Step) → sayOf (first rd f c b t (bareSteps ss)) ≡ sayOf (first rd f c b t ss)
+  unfolding bareSteps
+  say-bare [] = refl
+  say-bare (kept Shown.opening ∷ ss) = stepped-bare (kept Shown.opening ∷ ss)
+  say-bare (kept Shown.closing ∷ ss) = refl
+  say-bare (kept Shown.lineBreak ∷ ss) = refl
+  say-bare (kept Shown.ignorable ∷ ss) = refl
+  say-bare (kept (Shown.text p bs) ∷ ss) = refl
+  say-bare (kept (Shown.word w num) ∷ ss) = refl
+  say-bare (kept (Shown.unknown p bs num) ∷ ss) = refl
+  say-bare (hidden ∷ ss) = stepped-bare (hidden ∷ ss)
+  say-bare (fontTable late ts ∷ ss) = stepped-bare (fontTable late ts ∷ ss)
+  say-bare (colourTable late ts ∷ ss) = stepped-bare (colourTable late ts ∷ ss)

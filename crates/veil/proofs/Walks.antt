@@ -1,0 +1,301 @@
+-- The walk over pieces and the walk over the masked pieces make the same steps.
+--     Sorted, sorted     a letter's pieces are opening brackets, closing brackets, and pieces that show no bracket
+--     aim-append         an aim depends on what follows by its aim alone
+--     walk-mask          the steps
+-- Assumes nothing.
+use mathlib.Core.Path.{_≡_, refl, sym, ap, _∙_}
+use mathlib.Core.List.{List, [], _∷_, _++_}
+use mathlib.Core.Bool.{Bool, true, false, cond, _||_, false≢true}
+use Prim.Native.Nat.{ℕ, zero, suc, _+_, _-_}
+use native.Mathlib.Omega.{arith}
+use lib.ListN.{take, drop}
+use lib.Dec.{eqb}
+use borrow.Author.Tests.{eqb-true, ne-eqb}
+use Rattle.rooms.specs.Streams.{andThen, items}
+use Rattle.tokens.specs.Tokens.{Shown}
+use Rattle.tokens.specs.Tokens
+use Rattle.tokenize.specs.Tokenize.{isMark, mark, escaped, tokens}
+use Rattle.walk.specs.declared.Aim.{Aim}
+use Rattle.walk.specs.declared.Aim.the-variants.{Nothing, Hide, Fonts, Colours}
+use Rattle.walk.specs.Walk.{aimAt, aimFrom, aim, level, extent, Step, kept, hidden, fontTable, colourTable, entered}
+use Rattle.walk.specs.Walk.{enteredLength, walkFrom, walk}
+use Rattle.walk.proofs.Walk.{walk-one}
+use Rattle.veil.specs.Veil.{up, down, flat, Mode, going, passing, reading, enter, shown, sideOf, cover, mask}
+use Rattle.veil.proofs.Bare.{side, Flat, none as flat-none, some as flat-some}
+use Rattle.veil.proofs.Pieces.{Cut, none as cut-none, mark as cut-mark, run as cut-run}
+use Rattle.veil.proofs.Shows.{calm-flat, calm-tokens}
+
+-- ---- the pieces of a letter, by what they are to the walk
+
+pub data Sorted : List (List ℕ) → Type 0 where
+  none : Sorted []
+  opens : {ps : List (List ℕ)} → Sorted ps → Sorted ((123 ∷ []) ∷ ps)
+  closes : {ps : List (List ℕ)} → Sorted ps → Sorted ((125 ∷ []) ∷ ps)
+  stays : {p : List ℕ} {ps : List (List ℕ)} → sideOf p ≡ flat → Flat (items (tokens 0 p)) → Sorted ps → Sorted (p ∷ ps)
+
+data Mark (b : ℕ) : Type 0 where
+  is-open : b ≡ 123 → Mark b
+  is-close : b ≡ 125 → Mark b
+  is-feed : b ≡ 10 → Mark b
+
+mark-of : (b : ℕ) → isMark b ≡ true → Mark b
+mark-of b = go (eqb b 123) refl (eqb b 125) refl
+  where
+    go : (x : Bool) → eqb b 123 ≡ x → (y : Bool) → eqb b 125 ≡ y → (x || y) || eqb b 10 ≡ true → Mark b
+    go true e y f m = is-open (eqb-true b 123 e)
+    go false e true f m = is-close (eqb-true b 125 f)
+    go false e false f m = is-feed (eqb-true b 10 m)
+
+pub run-side : (b : ℕ) (t : List ℕ) → isMark b ≡ false → sideOf (b ∷ t) ≡ flat
+run-side b t = go (eqb b 123) (eqb b 125)
+  where
+    go : (x y : Bool) → (x || y) || eqb b 10 ≡ false → cond x up (cond y down flat) ≡ flat
+    go true y m = absurd (false≢true (sym m))
+    go false true m = absurd (false≢true (sym m))
+    go false false m = refl
+
+pub sorted : {ps : List (List ℕ)} → Cut ps → Sorted ps
+unfolding tokens mark andThen items
+sorted cut-none = none
+sorted (cut-run {b} {t} {ps} m f h) = stays (run-side b t m) (calm-flat (calm-tokens 0 0 b t m)) (sorted h)
+sorted (cut-mark {b} {ps} m h) = go (mark-of b m) (sorted h)
+  where
+    go : Mark b → Sorted ps → Sorted ((b ∷ []) ∷ ps)
+    go (is-open e) k = rw e (opens k)
+    go (is-close e) k = rw e (closes k)
+    go (is-feed e) k = rw e (stays refl flat-none k)
+
+-- ---- what follows an opening bracket
+
+aim-from-append : (late : Bool) (c x y : List Shown) → ((l : Bool) → aimFrom l x ≡ aimFrom l y)
+    → aimFrom late (c ++ x) ≡ aimFrom late (c ++ y)
+unfolding aimFrom
+aim-from-append late [] x y e = e late
+aim-from-append late (t ∷ c) x y e = ap (aimAt late t) (aim-from-append true c x y e)
+
+-- where two rests begin alike, so do they behind the same tokens
+pub aim-append : (c x y : List Shown) → ((late : Bool) → aimFrom late x ≡ aimFrom late y) → aim (c ++ x) ≡ aim (c ++ y)
+aim-append c x y e = aim-from-append false c x y e
+
+-- where the mask leaves what it meets
+pub data Seen : Mode → Type 0 where
+  goes : Seen going
+  reads : {d : ℕ} → Seen (reading d)
+
+-- the first token behind a bracket is left as it is
+aim-mask : {ps : List (List ℕ)} {m : Mode} → Sorted ps → Seen m → (late : Bool)
+    → aimFrom late (shown (mask m ps)) ≡ aimFrom late (shown ps)
+unfolding mask shown tokens mark andThen items aimFrom
+aim-mask none v late = refl
+aim-mask (opens {ps} h) goes late = go (aim (shown ps)) (mask (enter (aim (shown ps))) ps)
+  where
+    go : (a : Aim) (r : List (List ℕ)) → aimFrom late (shown (cover going up a (123 ∷ []) ++ r)) ≡ Nothing
+    go Nothing r = refl
+    go Hide r = refl
+    go (Fonts l) r = refl
+    go (Colours l) r = refl
+aim-mask (opens h) reads late = refl
+aim-mask (closes h) goes late = refl
+aim-mask (closes h) (reads {d = zero}) late = refl
+aim-mask (closes h) (reads {d = suc d}) late = refl
+aim-mask (stays {p} {ps} e l h) goes late =
+    rw e (aim-from-append late (items (tokens 0 p)) (shown (mask going ps)) (shown ps) (aim-mask h goes))
+aim-mask (stays {p} {ps} e l h) (reads {d}) late =
+    rw e (aim-from-append late (items (tokens 0 p)) (shown (mask (reading d) ps)) (shown ps) (aim-mask h reads))
+
+-- ---- tokens that are no brackets
+
+flat-level : (t : Shown) (d : ℕ) → side t ≡ flat → level t (suc d) ≡ suc d
+flat-level Shown.opening d e = absurd (let z : _≡_ {A = ℕ} 0 1 = cc in omega arith)
+flat-level Shown.closing d e = absurd (let z : _≡_ {A = ℕ} 0 1 = cc in omega arith)
+flat-level Shown.lineBreak d e = refl
+flat-level Shown.ignorable d e = refl
+flat-level (Shown.text p bs) d e = refl
+flat-level (Shown.word w num) d e = refl
+flat-level (Shown.unknown p bs num) d e = refl
+
+flat-step : (t : Shown) (ts : List Shown) → side t ≡ flat → walk (t ∷ ts) ≡ kept t ∷ walk ts
+unfolding walkFrom
+flat-step Shown.opening ts e = absurd (let z : _≡_ {A = ℕ} 0 1 = cc in omega arith)
+flat-step Shown.closing ts e = absurd (let z : _≡_ {A = ℕ} 0 1 = cc in omega arith)
+flat-step Shown.lineBreak ts e = refl
+flat-step Shown.ignorable ts e = refl
+flat-step (Shown.text p bs) ts e = refl
+flat-step (Shown.word w num) ts e = refl
+flat-step (Shown.unknown p bs num) ts e = refl
+
+flat-walk : {c : List Shown} (x y : List Shown) → Flat c → walk x ≡ walk y → walk (c ++ x) ≡ walk (c ++ y)
+flat-walk x y flat-none e = e
+flat-walk x y (flat-some {t} {ts = c} f h) e =
+    flat-step t (c ++ x) f ∙ ap (λ (ss : List Step). kept t ∷ ss) (flat-walk x y h e) ∙ sym (flat-step t (c ++ y) f)
+
+-- ---- inside a group
+
+-- the group's tokens, where d groups more are open inside; and what stands behind it
+inside : ℕ → List Shown → List Shown
+inside d ts = take (extent (suc d) ts) ts
+
+outside : ℕ → List Shown → List Shown
+outside d ts = drop (extent (suc d) ts) ts
+
+not-zero : (d : ℕ) → eqb (suc d) 0 ≡ false
+not-zero d = ne-eqb (suc d) 0 (λ e. omega arith)
+
+extent-open : (d : ℕ) (ts : List Shown) → extent (suc d) (Shown.opening ∷ ts) ≡ suc (extent (suc (suc d)) ts)
+unfolding extent
+extent-open d ts = rw (not-zero (suc d))
+
+extent-close : (ts : List Shown) → extent 1 (Shown.closing ∷ ts) ≡ 1
+unfolding extent
+extent-close ts = refl
+
+extent-closes : (d : ℕ) (ts : List Shown) → extent (suc (suc d)) (Shown.closing ∷ ts) ≡ suc (extent (suc d) ts)
+unfolding extent
+extent-closes d ts = let e : suc (suc d) - 1 ≡ suc d = omega arith in rw (e, not-zero d)
+
+extent-flat : (d : ℕ) (t : Shown) (ts : List Shown) → side t ≡ flat → extent (suc d) (t ∷ ts) ≡ suc (extent (suc d) ts)
+unfolding extent
+extent-flat d t ts e = rw (flat-level t d e, not-zero d)
+
+-- two token lists whose groups, and what is behind them, are read alike
+record Same (d : ℕ) (x y : List Shown) : Type 0 where
+  in-it : inside d x ≡ inside d y
+  behind-it : walk (outside d x) ≡ walk (outside d y)
+
+same-open : (d : ℕ) (x y : List Shown) → Same (suc d) x y → Same d (Shown.opening ∷ x) (Shown.opening ∷ y)
+unfolding inside outside
+same-open d x y s = record {
+  in-it = rw (extent-open d x, extent-open d y) (ap (λ (l : List Shown). Shown.opening ∷ l) (s .in-it));
+  behind-it = rw (extent-open d x, extent-open d y) (s .behind-it);
+}
+
+same-close : (x y : List Shown) → walk x ≡ walk y → Same 0 (Shown.closing ∷ x) (Shown.closing ∷ y)
+unfolding inside outside
+same-close x y e = record {
+  in-it = rw (extent-close x, extent-close y);
+  behind-it = rw (extent-close x, extent-close y) e;
+}
+
+same-closes : (d : ℕ) (x y : List Shown) → Same d x y → Same (suc d) (Shown.closing ∷ x) (Shown.closing ∷ y)
+unfolding inside outside
+same-closes d x y s = record {
+  in-it = rw (extent-closes d x, extent-closes d y) (ap (λ (l : List Shown). Shown.closing ∷ l) (s .in-it));
+  behind-it = rw (extent-closes d x, extent-closes d y) (s .behind-it);
+}
+
+same-flat : (d : ℕ) {c : List Shown} (x y : List Shown) → Flat c → Same d x y → Same d (c ++ x) (c ++ y)
+unfolding inside outside
+same-flat d x y flat-none s = s
+same-flat d x y (flat-some {t} {ts = c} e h) s = go (same-flat d x y h s)
+  where
+    go : Same d (c ++ x) (c ++ y) → Same d (t ∷ (c ++ x)) (t ∷ (c ++ y))
+    go k = record {
+      in-it = rw (extent-flat d t (c ++ x) e, extent-flat d t (c ++ y) e) (ap (λ (l : List Shown). t ∷ l) (k .in-it));
+      behind-it = rw (extent-flat d t (c ++ x) e, extent-flat d t (c ++ y) e) (k .behind-it);
+    }
+
+same-none : (d : ℕ) → Same d [] []
+same-none d = record { in-it = refl; behind-it = refl }
+
+-- what stands behind a group that is passed over
+outside-none : (d : ℕ) → outside d [] ≡ []
+unfolding outside extent
+outside-none d = refl
+
+outside-open : (d : ℕ) (ts : List Shown) → outside d (Shown.opening ∷ ts) ≡ outside (suc d) ts
+unfolding outside
+outside-open d ts = rw (extent-open d ts)
+
+outside-close : (ts : List Shown) → outside 0 (Shown.closing ∷ ts) ≡ ts
+unfolding outside
+outside-close ts = rw (extent-close ts)
+
+outside-closes : (d : ℕ) (ts : List Shown) → outside (suc d) (Shown.closing ∷ ts) ≡ outside d ts
+unfolding outside
+outside-closes d ts = rw (extent-closes d ts)
+
+outside-flat : (d : ℕ) {c : List Shown} (ts : List Shown) → Flat c → outside d (c ++ ts) ≡ outside d ts
+unfolding outside
+outside-flat d ts flat-none = refl
+outside-flat d ts (flat-some {t} {ts = c} e h) = rw (extent-flat d t (c ++ ts) e) (outside-flat d ts h)
+
+-- ---- the steps
+
+-- what is to be shown of pieces, by where the walk is
+abbrev Masked : Mode → List (List ℕ) → Type 0
+Masked going ps = walk (shown (mask going ps)) ≡ walk (shown ps)
+Masked (passing d) ps = walk (outside 0 (shown (mask (passing d) ps))) ≡ walk (outside d (shown ps))
+Masked (reading d) ps = Same d (shown (mask (reading d) ps)) (shown ps)
+
+walk-none : (ts : List Shown) → aim ts ≡ Nothing → walk (Shown.opening ∷ ts) ≡ kept Shown.opening ∷ walk ts
+walk-none ts e = walk-one Shown.opening ts ∙ ap (λ (a : Aim). entered a ts ∷ walk (drop (enteredLength a ts) ts)) e
+
+walk-hide : (ts : List Shown) → aim ts ≡ Hide → walk (Shown.opening ∷ ts) ≡ hidden ∷ walk (outside 0 ts)
+unfolding outside
+walk-hide ts e = walk-one Shown.opening ts ∙ ap (λ (a : Aim). entered a ts ∷ walk (drop (enteredLength a ts) ts)) e
+
+walk-fonts : (late : Bool) (ts : List Shown) → aim ts ≡ Fonts late
+    → walk (Shown.opening ∷ ts) ≡ fontTable late (inside 0 ts) ∷ walk (outside 0 ts)
+unfolding inside outside
+walk-fonts late ts e = walk-one Shown.opening ts ∙ ap (λ (a : Aim). entered a ts ∷ walk (drop (enteredLength a ts) ts)) e
+
+walk-colours : (late : Bool) (ts : List Shown) → aim ts ≡ Colours late
+    → walk (Shown.opening ∷ ts) ≡ colourTable late (inside 0 ts) ∷ walk (outside 0 ts)
+unfolding inside outside
+walk-colours late ts e = walk-one Shown.opening ts ∙ ap (λ (a : Aim). entered a ts ∷ walk (drop (enteredLength a ts) ts)) e
+
+-- an opening bracket
+module _ {ps : List (List ℕ)} (h : Sorted ps) where
+  opened : (a : Aim) → aim (shown ps) ≡ a → ((m : Mode) → Masked m ps)
+      → walk (shown (cover going up a (123 ∷ []) ++ mask (enter a) ps)) ≡ walk (Shown.opening ∷ shown ps)
+  unfolding shown tokens mark escaped andThen items
+  opened Nothing e ih =
+      let ms : List Shown = shown (mask going ps) in
+      walk-none ms (aim-mask h goes false ∙ e) ∙ ap (λ (ss : List Step). kept Shown.opening ∷ ss) (ih going) ∙ sym (walk-none (shown ps) e)
+  opened Hide e ih =
+      let ms : List Shown = shown (mask (passing 0) ps) in
+      let f : aim (Shown.ignorable ∷ ms) ≡ Hide = (unfold aimFrom in refl) in
+      let g : outside 0 (Shown.ignorable ∷ ms) ≡ outside 0 ms = outside-flat 0 {c = Shown.ignorable ∷ []} ms (flat-some refl flat-none) in
+      walk-hide (Shown.ignorable ∷ ms) f ∙ ap (λ (ts : List Shown). hidden ∷ walk ts) g ∙ ap (λ (ss : List Step). hidden ∷ ss) (ih (passing 0)) ∙ sym (walk-hide (shown ps) e)
+  opened (Fonts late) e ih =
+      let ms : List Shown = shown (mask (reading 0) ps) in
+      walk-fonts late ms (aim-mask h (reads {d = 0}) false ∙ e)
+      ∙ ap (λ (ts : List Shown). fontTable late ts ∷ walk (outside 0 ms)) (ih (reading 0) .in-it)
+      ∙ ap (λ (ss : List Step). fontTable late (inside 0 (shown ps)) ∷ ss) (ih (reading 0) .behind-it)
+      ∙ sym (walk-fonts late (shown ps) e)
+  opened (Colours late) e ih =
+      let ms : List Shown = shown (mask (reading 0) ps) in
+      walk-colours late ms (aim-mask h (reads {d = 0}) false ∙ e)
+      ∙ ap (λ (ts : List Shown). colourTable late ts ∷ walk (outside 0 ms)) (ih (reading 0) .in-it)
+      ∙ ap (λ (ss : List Step). colourTable late (inside 0 (shown ps)) ∷ ss) (ih (reading 0) .behind-it)
+      ∙ sym (walk-colours late (shown ps) e)
+
+walk-close : (x y : List Shown) → walk x ≡ walk y → walk (Shown.closing ∷ x) ≡ walk (Shown.closing ∷ y)
+walk-close x y e =
+    walk-one Shown.closing x
+    ∙ ap (λ (ss : List Step). kept Shown.closing ∷ ss) e
+    ∙ sym (walk-one Shown.closing y)
+
+walk-masked : {ps : List (List ℕ)} → Sorted ps → (m : Mode) → Masked m ps
+unfolding mask shown tokens mark andThen items
+walk-masked none going = refl
+walk-masked none (passing d) = ap walk (outside-none 0 ∙ sym (outside-none d))
+walk-masked none (reading d) = same-none d
+walk-masked (opens {ps} h) going = opened h (aim (shown ps)) refl (walk-masked h)
+walk-masked (opens {ps} h) (passing d) = walk-masked h (passing (suc d)) ∙ ap walk (sym (outside-open d (shown ps)))
+walk-masked (opens {ps} h) (reading d) =
+    same-open d (shown (mask (reading (suc d)) ps)) (shown ps) (walk-masked h (reading (suc d)))
+walk-masked (closes {ps} h) going = walk-close (shown (mask going ps)) (shown ps) (walk-masked h going)
+walk-masked (closes {ps} h) (passing zero) =
+    ap walk (outside-close (shown (mask going ps))) ∙ walk-masked h going ∙ ap walk (sym (outside-close (shown ps)))
+walk-masked (closes {ps} h) (passing (suc d)) = walk-masked h (passing d) ∙ ap walk (sym (outside-closes d (shown ps)))
+walk-masked (closes {ps} h) (reading zero) = same-close (shown (mask going ps)) (shown ps) (walk-masked h going)
+walk-masked (closes {ps} h) (reading (suc d)) =
+    same-closes d (shown (mask (reading d) ps)) (shown ps) (walk-masked h (reading d))
+walk-masked (stays {p} {ps} e l h) going = rw e (flat-walk (shown (mask going ps)) (shown ps) l (walk-masked h going))
+walk-masked (stays {p} {ps} e l h) (passing d) = rw e (walk-masked h (passing d) ∙ ap walk (sym (outside-flat d (shown ps) l)))
+walk-masked (stays {p} {ps} e l h) (reading d) =
+    rw e (same-flat d (shown (mask (reading d) ps)) (shown ps) l (walk-masked h (reading d)))
+
+pub walk-mask : {ps : List (List ℕ)} → Sorted ps → walk (shown (mask going ps)) ≡ walk (shown ps)
+walk-mask h = walk-masked h going

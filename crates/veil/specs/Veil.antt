@@ -1,0 +1,158 @@
+-- 01, Cutting and Header walk: which bytes of a letter are hidden. The veil of a letter is the letter, trimmed, with the inside
+-- of each ignored group put as `\*`: of each group that the header walk comes to and passes over. Assumes nothing: these are
+-- definitions.
+use mathlib.Core.Path.{_≡_}
+use Prim.Native.Nat.{ℕ, zero, suc}
+use mathlib.Core.List.{List, [], _∷_, _++_}
+use mathlib.Core.Bool.{Bool, true, false, cond, not}
+use lib.ListN.{drop}
+use lib.Dec.{eqb}
+use Rattle.rooms.specs.Streams.{items}
+use Rattle.slices.specs.Slices.{slices}
+use Rattle.tokens.specs.Tokens.{Shown}
+use Rattle.tokenize.specs.Tokenize.{isMark, tokens}
+use Rattle.cutter.specs.Cutting.{trimStart, trimmed}
+use Rattle.walk.specs.declared.Aim.{Aim}
+use Rattle.walk.specs.declared.Aim.the-variants.{Nothing, Hide, Fonts, Colours}
+use Rattle.walk.specs.Walk.{aim}
+
+-- ---- pieces
+
+-- "`{`, `}` or a raw line feed: .. what follows that byte is cut again by these rules.": the pieces of a slice are such bytes,
+-- each by itself, and then the rest. So `}b`, which is one slice, is two pieces, of which the first may end a hidden group
+unfoldable pub part : List ℕ → List (List ℕ)
+part [] = []
+part (b ∷ s) = cond (isMark b) ((b ∷ []) ∷ part s) ((b ∷ s) ∷ [])
+
+unfoldable pub parts : List (List ℕ) → List (List ℕ)
+parts [] = []
+parts (s ∷ ss) = part s ++ parts ss
+
+-- the pieces of bytes
+unfoldable pub pieces : List ℕ → List (List ℕ)
+pieces s = parts (slices s)
+
+-- pieces one after the other
+unfoldable pub join : List (List ℕ) → List ℕ
+join [] = []
+join (p ∷ ps) = p ++ join ps
+
+-- what the tokens of pieces show, each piece cut by itself
+unfoldable pub shown : List (List ℕ) → List Shown
+shown [] = []
+shown (p ∷ ps) = items (tokens 0 p) ++ shown ps
+
+-- ---- where the walk is
+
+-- an opening bracket, a closing one, any other piece
+pub data Side : Type 0 where
+  up : Side
+  down : Side
+  flat : Side
+
+abbrev pub sideOf : List ℕ → Side
+sideOf [] = flat
+sideOf (b ∷ s) = cond (eqb b 123) up (cond (eqb b 125) down flat)
+
+-- "Else go one token on"; "pass over to the bracket that matches", where d groups more are open inside; "the same, and read it"
+pub data Mode : Type 0 where
+  going : Mode
+  passing : ℕ → Mode
+  reading : ℕ → Mode
+
+-- behind an opening bracket, by what the walk makes of its group
+abbrev pub enter : Aim → Mode
+enter Nothing = going
+enter Hide = passing 0
+enter (Fonts late) = reading 0
+enter (Colours late) = reading 0
+
+-- behind a piece
+abbrev pub next : Mode → Side → Aim → Mode
+next going up a = enter a
+next going down a = going
+next going flat a = going
+next (passing d) up a = passing (suc d)
+next (passing zero) down a = going
+next (passing (suc d)) down a = passing d
+next (passing d) flat a = passing d
+next (reading d) up a = reading (suc d)
+next (reading zero) down a = going
+next (reading (suc d)) down a = reading d
+next (reading d) flat a = reading d
+
+-- ---- the veil
+
+-- what an ignored group's inside is put as
+abbrev pub mute : List ℕ
+mute = 92 ∷ 42 ∷ []
+
+-- what is left of a piece: nothing inside an ignored group; `\*` behind such a group's opening bracket; else all of it, the
+-- bracket that matches too
+abbrev pub cover : Mode → Side → Aim → List ℕ → List (List ℕ)
+cover going up Nothing p = p ∷ []
+cover going up Hide p = p ∷ mute ∷ []
+cover going up (Fonts late) p = p ∷ []
+cover going up (Colours late) p = p ∷ []
+cover going down a p = p ∷ []
+cover going flat a p = p ∷ []
+cover (passing d) up a p = []
+cover (passing zero) down a p = p ∷ []
+cover (passing (suc d)) down a p = []
+cover (passing d) flat a p = []
+cover (reading d) s a p = p ∷ []
+
+-- "At an opening bracket look at the first token after the bracket that is not a line break."
+unfoldable pub mask : Mode → List (List ℕ) → List (List ℕ)
+mask m [] = []
+mask m (p ∷ ps) = cover m (sideOf p) (aim (shown ps)) p ++ mask (next m (sideOf p) (aim (shown ps))) ps
+
+-- the veil of a letter: `{a{\*x}b}` and `{a{\stylesheet{y}}b}` have the veil `{a{\*}b}`
+unfoldable pub veil : List ℕ → List ℕ
+veil src = join (mask going (pieces (trimmed src)))
+
+-- ---- the same, said of two letters: the same except inside ignored groups
+
+-- where the walk is behind pieces that an opening bracket follows
+unfoldable pub behind : Mode → List (List ℕ) → Mode
+behind m [] = m
+behind m (p ∷ ps) = behind (next m (sideOf p) (aim (shown ps))) ps
+
+-- each bracket among the pieces has its match among them, where d are open
+abbrev pub ownAt : Side → ℕ → (ℕ → Bool) → Bool
+ownAt up d go = go (suc d)
+ownAt down zero go = false
+ownAt down (suc d) go = go d
+ownAt flat d go = go d
+
+unfoldable pub own : ℕ → List (List ℕ) → Bool
+own zero [] = true
+own (suc d) [] = false
+own d (p ∷ ps) = ownAt (sideOf p) d (λ e. own e ps)
+
+-- the last byte, where b stands before them, is no backslash: a special byte that follows starts a new slice
+unfoldable pub endsBare : ℕ → List ℕ → Bool
+endsBare b [] = not (eqb b 92)
+endsBare b (c ∷ s) = endsBare c s
+
+-- a letter with a group in it: x, an opening bracket, the group's inside, a closing bracket, y
+abbrev pub grouped : List ℕ → List ℕ → List ℕ → List ℕ
+grouped x g y = x ++ (123 ∷ (g ++ (125 ∷ y)))
+
+-- behind x, the start of a letter, a group with the inside g is ignored, and the bracket that follows g closes it
+pub record Ignored (x g : List ℕ) : Type 0 where
+  -- no backslash stands before its two brackets
+  pub opened : endsBare 0 x ≡ true
+  pub closed : endsBare 123 g ≡ true
+  -- the second bracket matches the first
+  pub balanced : own 0 (pieces g) ≡ true
+  -- the walk, which begins behind the letter's white front, comes to the first
+  pub reached : behind going (pieces (drop (trimStart x) x)) ≡ going
+  -- "`\*`, or `stylesheet` without a number: pass over"
+  pub hidden : aim (shown (pieces g)) ≡ Hide
+
+-- letters that are the same except inside ignored groups: the inside of one such group after another is changed. The letters in
+-- between need not be letters that a reader takes
+pub data Alike : List ℕ → List ℕ → Type 0 where
+  same : (a : List ℕ) → Alike a a
+  other : (x g h y : List ℕ) {b : List ℕ} → Ignored x g → Ignored x h → Alike (grouped x h y) b → Alike (grouped x g y) b
