@@ -1,6 +1,7 @@
 -- Hidden stays hidden: letters that are the same except inside ignored groups say the same.
 --     hidden-stays-hidden   of letters with one veil
 --     alike-said            of letters that differ inside ignored groups, group by group
+--     promise-kept, literally-kept   demand 3, as specs/Promise says it whole
 -- It is about the definitions that the contracts of `reader::read` and `cutter::cut` cite. Assumes nothing.
 use mathlib.Core.Path.{_≡_, refl, sym, ap, _∙_}
 use mathlib.Core.List.{List}
@@ -20,6 +21,7 @@ use Rattle.styles.specs.declared.Reading.{Reading}
 use Rattle.reader.specs.Reading.{shownBy, Sizes, cut, letterOf}
 use Rattle.veil.specs.Veil.{veil, Alike}
 use Rattle.veil.specs.Said.{saidBy, said, SameRooms}
+use Rattle.veil.specs.Promise.{Promise, LiteralPromise}
 use Rattle.veil.proofs.Bare.{bareSteps}
 use Rattle.veil.proofs.Shows.{whole, answer-whole}
 use Rattle.veil.proofs.Veils.{walk-same}
@@ -94,3 +96,10 @@ pub alike-said : (rd : Reading) (a b : List ℕ) (z y : Sizes) → SameRooms z y
     → cutAnswer a (z .tokens) ≡ Done n → cutAnswer b (y .tokens) ≡ Done m → Alike a b
     → said rd a z ≡ said rd b y
 alike-said rd a b z y s u v k = hidden-stays-hidden rd a b z y s u v (alike-veil k)
+
+-- demand 3
+pub promise-kept : Promise
+promise-kept rd a b z y c e = hidden-stays-hidden rd a b z y (c .rooms) (c .first .1) (c .second .1) e
+
+pub literally-kept : LiteralPromise
+literally-kept rd a b z y c k = alike-said rd a b z y (c .rooms) (c .first .1) (c .second .1) k
