@@ -2,6 +2,7 @@
 
 use crate::lent::{Call, Lent};
 use crate::outside::{agrees, Outside, Tallies};
+use crate::parts::{Differences, Judging};
 use crate::seen::Seen;
 use crate::{ours, report, small};
 use common::bridge;
@@ -13,23 +14,48 @@ use model::{Answer, Kind, Rooms, KINDS};
 const SMALL_ROOMS: usize = 4;
 const TIMES: usize = 4;
 /// Bytes of calls that may wait; without the bridge nothing is gained by waiting.
-const BATCH: usize = if cfg!(bridge) { bridge::BATCH } else { 0 };
+pub const BATCH: usize = if cfg!(bridge) { bridge::BATCH } else { 0 };
+/// Bytes of a request before its letter.
+pub const HEAD: usize = 32;
+/// Bits that all junk has, so that no byte of it is zero.
+pub const JUNK: u32 = 0x8101_0101;
 
 pub struct Judge {
     pub letters: u64,
     pub calls: u64,
-    pub differences: u64,
     pub seen: Seen,
     pub outside: Tallies,
-    /// How many differences may still be printed.
-    pub to_print: u32,
+    differences: Differences,
     random: Random,
     lent: Lent,
-    /// Calls of our side that wait to be sent together, and the bytes of their letters.
+    /// Calls of our side that wait to be sent together, the answers expected, and the bytes of
+    /// the letters.
     waiting: Vec<Call>,
+    expected: Vec<Answer>,
     bytes: usize,
-    /// The last letter with a difference: a letter counts once.
-    differed: u64,
+}
+
+impl Judging for Judge {
+    const UNIT: &str = "letters";
+
+    fn compared(&self) -> [u64; 2] {
+        [self.letters, self.seen.successes()]
+    }
+
+    fn differences(&mut self) -> &mut Differences {
+        &mut self.differences
+    }
+
+    fn finish(&mut self) {
+        ours::send(&self.waiting);
+        let expected = std::mem::take(&mut self.expected);
+        for (call, expected) in std::mem::take(&mut self.waiting).iter().zip(&expected) {
+            if let Err(fault) = self.lent.made(call, expected) {
+                self.differences.found(call.number, || report::fault(call, expected, &fault));
+            }
+        }
+        self.bytes = 0;
+    }
 }
 
 impl Judge {
@@ -37,15 +63,14 @@ impl Judge {
         Judge {
             letters: 0,
             calls: 0,
-            differences: 0,
             seen: Seen::new(),
             outside: Tallies::default(),
-            to_print: 0,
+            differences: Differences::default(),
             random: Random::new(seed),
             lent: Lent::default(),
             waiting: Vec::new(),
+            expected: Vec::new(),
             bytes: 0,
-            differed: 0,
         }
     }
 
@@ -72,17 +97,6 @@ impl Judge {
         }
     }
 
-    /// Makes the calls that wait.
-    pub fn finish(&mut self) {
-        ours::send(&self.waiting);
-        for call in std::mem::take(&mut self.waiting) {
-            if let Err(fault) = self.lent.made(&call) {
-                self.differ(call.number, || report::fault(&call, &fault));
-            }
-        }
-        self.bytes = 0;
-    }
-
     /// The model's two answers in rooms that hold everything, after comparing all sides in such.
     fn judged(&mut self, letter: &[u8]) -> [Answer; 2] {
         self.letters += 1;
@@ -93,7 +107,7 @@ impl Judge {
         self.seen.letter(&plain, outside.is_none());
         let answers = [plain, paragraphs];
         if let Err(told) = self.with_crate(letter, &answers, outside) {
-            self.differ(self.letters, || told);
+            self.differences.found(self.letters, || told);
         }
         for kind in KINDS {
             let answer = &answers[kind as usize];
@@ -144,8 +158,7 @@ impl Judge {
 
     fn call(&mut self, letter: &[u8], kind: Kind, rooms: &Rooms, expected: Answer) {
         self.calls += 1;
-        // The head of a request has 32 bytes.
-        let bytes = letter.len() + 32;
+        let bytes = letter.len() + HEAD;
         if self.bytes + bytes > BATCH {
             self.finish();
         }
@@ -155,20 +168,8 @@ impl Judge {
             letter: letter.to_vec(),
             kind,
             rooms: *rooms,
-            expected,
-            junk: self.random.draw() as u32 | 0x8101_0101,
+            junk: self.random.draw() as u32 | JUNK,
         });
-    }
-
-    fn differ(&mut self, number: u64, told: impl FnOnce() -> String) {
-        if self.differed == number {
-            return;
-        }
-        self.differed = number;
-        self.differences += 1;
-        if self.to_print > 0 {
-            self.to_print -= 1;
-            println!("{}", told());
-        }
+        self.expected.push(expected);
     }
 }

@@ -3,6 +3,7 @@
 use crate::ours::{self, Slices};
 use common::bridge::WROTE_OUTSIDE;
 use common::room::{Room, Source};
+use common::whole::{Document, Whole};
 use model::{Answer, Kind, Rooms, ROOM_NAMES};
 
 /// The source and five rooms full of junk, between guards.
@@ -13,14 +14,13 @@ pub struct Lent {
     text: Room<u8>,
 }
 
-/// A call of our side, and the answer expected.
+/// A call of our side.
 pub struct Call {
     /// Which letter of the run.
     pub number: u64,
     pub letter: Vec<u8>,
     pub kind: Kind,
     pub rooms: Rooms,
-    pub expected: Answer,
     pub junk: u32,
 }
 
@@ -32,8 +32,47 @@ pub struct Fault {
 
 impl Lent {
     /// Makes a call that was sent ahead, and compares all that was answered and written.
-    pub fn made(&mut self, call: &Call) -> Result<(), Fault> {
-        let Call { letter, kind, rooms, expected, junk, .. } = call;
+    pub fn made(&mut self, call: &Call, expected: &Answer) -> Result<(), Fault> {
+        let numbers = self.answered(call);
+        match self.wrong(numbers, expected) {
+            None => Ok(()),
+            Some(what) => Err(Fault { numbers, what }),
+        }
+    }
+
+    /// Makes a call that was sent ahead, and tells what the rooms hold in the crate's form; or the
+    /// numbers, if there is no such answer.
+    pub fn told(&mut self, call: &Call) -> Result<Whole, [u32; 6]> {
+        let numbers = self.answered(call);
+        if !self.guards_hold() {
+            return Err(WROTE_OUTSIDE);
+        }
+        match numbers {
+            [0, counts @ ..] => self.document(&call.letter, counts).map(Whole::Read).ok_or(numbers),
+            [refusal, 0, 0, 0, 0, 0] => Ok(Whole::Refused(refusal)),
+            _ => Err(numbers),
+        }
+    }
+
+    /// None if the counts or a name's place lead out of a room or the letter.
+    fn document(&self, letter: &[u8], counts: [u32; 5]) -> Option<Document> {
+        let [tokens, fonts, colours, blocks, text] = counts.map(|count| count as usize);
+        let words = |room: usize| self.words[room].lent();
+        let fonts = words(1).as_chunks().0.get(..fonts)?.iter().map(|[key, place, length]| {
+            let name = letter.get(*place as usize..)?.get(..*length as usize)?;
+            Some((*key, name.to_vec()))
+        });
+        Some(Document {
+            tokens: words(0).as_chunks().0.get(..tokens)?.to_vec(),
+            fonts: fonts.collect::<Option<_>>()?,
+            colours: words(2).get(..colours)?.to_vec(),
+            blocks: words(3).as_chunks().0.get(..blocks)?.to_vec(),
+            text: self.text.lent().get(..text)?.to_vec(),
+        })
+    }
+
+    fn answered(&mut self, call: &Call) -> [u32; 6] {
+        let Call { letter, kind, rooms, junk, .. } = call;
         let junk = *junk;
         let [a, b, c, d] = &mut self.words;
         let words = [
@@ -43,16 +82,15 @@ impl Lent {
             d.lend(rooms[3], junk),
         ];
         let text = self.text.lend(rooms[4], junk as u8);
-        let numbers = ours::read(*kind, self.source.lend(letter), Slices { words, text });
-        match self.wrong(numbers, expected) {
-            None => Ok(()),
-            Some(what) => Err(Fault { numbers, what }),
-        }
+        ours::read(*kind, self.source.lend(letter), Slices { words, text })
+    }
+
+    fn guards_hold(&self) -> bool {
+        self.words.iter().all(Room::guards_hold) && self.text.guards_hold()
     }
 
     fn wrong(&self, numbers: [u32; 6], expected: &Answer) -> Option<String> {
-        let guards_hold = self.words.iter().all(Room::guards_hold) && self.text.guards_hold();
-        if !guards_hold || numbers == WROTE_OUTSIDE {
+        if !self.guards_hold() || numbers == WROTE_OUTSIDE {
             return Some("an element outside a room was written".to_string());
         }
         if numbers != expected.numbers() {

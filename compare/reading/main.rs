@@ -2,6 +2,9 @@
 //!
 //!   read      the parts of a comparison
 //!   judge     one letter on all sides
+//!   hidden    the parts of a comparison of pairs; pairs, how they are drawn; veil, their premise
+//!   alike     one pair on each side
+//!   parts     what both comparisons share
 //!   outside   what 01 leaves out of the equality with the crate, and what the crate does there
 //!   small     rooms that may not hold the answer
 //!   lent      what is lent for a call, and what it must hold
@@ -11,25 +14,30 @@
 //!   bench     both sides against the clock, on bench_letters
 //!   vectors   the file for a program that replays listings; listing, their form
 
+mod alike;
 mod bench;
 mod bench_letters;
+mod hidden;
 mod judge;
 mod lent;
 mod listing;
 mod ours;
 mod outside;
+mod pairs;
+mod parts;
 mod read;
 mod report;
 mod seen;
 mod small;
 mod vectors;
+mod veil;
 
 use common::program::{self, Plan};
 use std::process::ExitCode;
 
 const USAGE: &str = "\
 modes: read [--model] [--seed N] [--count N] [--depth N], read-bench [--model] [--rounds N],
-read-vectors FILE [--seed N] [--count N]";
+read-vectors FILE [--seed N] [--count N], hidden [--model] [--seed N] [--count N]";
 
 fn main() -> ExitCode {
     program::run(USAGE, mode)
@@ -39,6 +47,10 @@ fn mode(mode: &str, words: &[String]) -> Result<bool, String> {
     assert_eq!(common::cut::NAMES, model::NAMES, "the two tables of names");
     match mode {
         "read" => Ok(read::run(&Plan::of(words, 1_000_000, 4)?)),
+        "hidden" => {
+            let [seed, count] = common::options(words, [("--seed", 1), ("--count", 300_000)])?;
+            Ok(hidden::run(seed, count as usize))
+        }
         "read-bench" => Ok(bench::run(program::rounds(words, 101)?)),
         "read-vectors" => {
             let (path, words) = words.split_first().ok_or("no file")?;

@@ -2,14 +2,16 @@
 
 use crate::judge::Judge;
 use crate::ours;
+use crate::parts::{part, Judging};
 use common::cut::SOURCE_LIMIT;
 use common::program::Plan;
 use common::random::Random;
 use common::{fragments, grammar, letters, mutate, oracle, reading_grammar};
-use std::time::Instant;
 
-/// Differences that are printed in full for each part.
-const PRINTED: u32 = 3;
+const HEADING: &str = "\
+letters on which both builds of the crate were compared,
+letters that the model judged alone, calls in small rooms (by the model),
+the same for paragraph reading. A number with zeros only was not covered.";
 
 /// True if there is no difference.
 pub fn run(plan: &Plan) -> bool {
@@ -23,10 +25,11 @@ pub fn run(plan: &Plan) -> bool {
         drawn(&mut judge, seed, count);
         judge.outside.print();
     });
-    judge.seen.print();
+    judge.seen.print(HEADING, "model");
     println!("calls: {}", judge.calls);
-    println!("{} letters compared, {} differences", judge.letters, judge.differences);
-    judge.differences == 0
+    let differences = judge.differences().count;
+    println!("{} letters compared, {differences} differences", judge.letters);
+    differences == 0
 }
 
 fn sequences(judge: &mut Judge, depth: usize) {
@@ -57,7 +60,7 @@ fn listed(judge: &mut Judge) {
     }
 }
 
-fn telling() -> impl Iterator<Item = &'static str> {
+pub fn telling() -> impl Iterator<Item = &'static str> {
     fragments::SAMPLES.iter().chain(fragments::TELLING).copied()
 }
 
@@ -125,7 +128,8 @@ fn drawn(judge: &mut Judge, seed: u64, count: usize) {
     });
 }
 
-fn letter(random: &mut Random) -> Vec<u8> {
+/// A letter of the grammar, mostly short.
+pub fn letter(random: &mut Random) -> Vec<u8> {
     let size = size(random);
     let mut letter = reading_grammar::letter(random, size);
     letter.truncate(SOURCE_LIMIT);
@@ -140,20 +144,4 @@ fn size(random: &mut Random) -> usize {
         9_800..9_996 => random.between(500, 4_000),
         _ => random.between(4_000, SOURCE_LIMIT),
     }
-}
-
-fn part(judge: &mut Judge, name: &str, work: impl FnOnce(&mut Judge)) {
-    let (letters, differences) = (judge.letters, judge.differences);
-    let successes = judge.seen.successes();
-    judge.to_print = PRINTED;
-    let start = Instant::now();
-    work(judge);
-    judge.finish();
-    println!(
-        "{name:27} {:9} letters {:9} successes {:6} differences {:6.1} s",
-        judge.letters - letters,
-        judge.seen.successes() - successes,
-        judge.differences - differences,
-        start.elapsed().as_secs_f64()
-    );
 }

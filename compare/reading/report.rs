@@ -34,8 +34,8 @@ pub fn builds([off, on]: &[Reading<Whole>; 2]) -> String {
 }
 
 /// Our answer is not the model's.
-pub fn fault(call: &Call, fault: &Fault) -> String {
-    let Call { letter, kind, rooms, expected, .. } = call;
+pub fn fault(call: &Call, expected: &Answer, fault: &Fault) -> String {
+    let Call { letter, kind, rooms, .. } = call;
     let Fault { numbers, what } = fault;
     format!(
         "DIFFERENCE, {} against model, {kind:?}: {}\n  rooms of {rooms:?} elements: {what}\n  \
@@ -47,7 +47,7 @@ pub fn fault(call: &Call, fault: &Fault) -> String {
     )
 }
 
-fn reading(reading: &Reading<Whole>) -> String {
+pub fn reading(reading: &Reading<Whole>) -> String {
     match reading {
         Reading::Panicked(message) => format!("panic: {}", message.replace('\n', " ")),
         Reading::Answered(Whole::Refused(number)) => format!("refusal {number}"),
@@ -114,10 +114,10 @@ pub fn ours(letter: &[u8]) -> String {
     let told = KINDS.map(|kind| {
         let (expected, _) = model::read(letter, kind, &rooms);
         let (letter, junk) = (letter.to_vec(), 0xABAB_ABAB);
-        let call = Call { number: 0, letter, kind, rooms, expected, junk };
+        let call = Call { number: 0, letter, kind, rooms, junk };
         ours::send(std::slice::from_ref(&call));
-        match Lent::default().made(&call) {
-            Ok(()) => answer(&call.letter, &call.expected),
+        match Lent::default().made(&call, &expected) {
+            Ok(()) => answer(&call.letter, &expected),
             Err(fault) => format!("{:?}, not the model's answer: {}", fault.numbers, fault.what),
         }
     });

@@ -8,7 +8,7 @@ const REFUSALS: usize = 21;
 pub struct Seen {
     /// Letters whose answer both builds of the crate gave, by refusal number.
     with_crate: [u64; REFUSALS],
-    /// Letters outside the equality with the crate, where the model alone judged.
+    /// Letters outside the equality with the crate, which was not compared.
     by_model: [u64; REFUSALS],
     /// Calls in rooms that may not hold the answer, plain and by paragraphs.
     small: [[u64; REFUSALS]; 2],
@@ -46,11 +46,10 @@ impl Seen {
         self.with_crate[0] + self.by_model[0]
     }
 
-    pub fn print(&self) {
-        println!("\nBy refusal number: letters on which both builds of the crate were compared,");
-        println!("letters that the model judged alone, calls in small rooms (by the model),");
-        println!("the same for paragraph reading. A number with zeros only was not covered.");
-        let columns = ["crate", "model", "small", "paragraphs"].map(|name| format!("{name:>13}"));
+    /// The heading says what the columns count; the second is named `alone`.
+    pub fn print(&self, heading: &str, alone: &str) {
+        println!("\nBy refusal number: {heading}");
+        let columns = ["crate", alone, "small", "paragraphs"].map(|name| format!("{name:>13}"));
         println!(" no.{}", columns.concat());
         for number in 0..REFUSALS {
             let small = self.small.map(|counts| counts[number]);
