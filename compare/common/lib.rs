@@ -8,13 +8,10 @@
 //!   cut       the form of a cutter's answer
 //!   whole     the form of a reading's
 //!   room      what is lent for a call
-//!   clock     medians, for bench_letters
 //!   program   modes and options of the programs
 //!   bridge    our library on another processor
 
-pub mod bench_letters;
 pub mod bridge;
-pub mod clock;
 pub mod cut;
 pub mod fragments;
 pub mod grammar;

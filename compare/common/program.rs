@@ -21,12 +21,6 @@ impl Plan {
     }
 }
 
-/// How many rounds a clock takes, at least one.
-pub fn rounds(words: &[String], most: u64) -> Result<usize, String> {
-    let [rounds] = options(words, [("--rounds", most)])?;
-    Ok(rounds.max(1) as usize)
-}
-
 /// Runs the mode that the words name: 0 if it says yes, 1 if no, 2 for words that it does not know.
 pub fn run(usage: &str, mode: impl Fn(&str, &[String]) -> Result<bool, String>) -> ExitCode {
     // Which side answers is settled when a program is built: compare/run reads --model.

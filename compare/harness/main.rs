@@ -3,12 +3,10 @@
 //!   compare   the parts of a comparison
 //!   judge     one letter on both sides
 //!   limits    refusals 1 and 2
-//!   bench     both sides against the clock
 //!   ours      our library's C interface
 //!   seen      what the letters covered
 //!   report    how a difference is printed
 
-mod bench;
 mod compare;
 mod judge;
 mod limits;
@@ -19,7 +17,7 @@ mod seen;
 use common::program::{self, Plan};
 use std::process::ExitCode;
 
-const USAGE: &str = "modes: compare [--seed N] [--count N] [--depth N], bench [--rounds N]";
+const USAGE: &str = "modes: compare [--seed N] [--count N] [--depth N]";
 
 fn main() -> ExitCode {
     program::run(USAGE, mode)
@@ -28,7 +26,6 @@ fn main() -> ExitCode {
 fn mode(mode: &str, words: &[String]) -> Result<bool, String> {
     match mode {
         "compare" => Ok(compare::run(&Plan::of(words, 1_000_000, 6)?)),
-        "bench" => Ok(bench::run(program::rounds(words, 301)?)),
         other => Err(format!("no mode {other}")),
     }
 }

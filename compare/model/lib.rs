@@ -39,6 +39,8 @@ pub const WIDTHS: [usize; 5] = [6, 3, 1, 13, 1];
 
 /// Elements lent, record or not.
 pub type Rooms = [usize; 5];
+/// Records that the extractor's rooms hold.
+pub const EXTRACTOR: [usize; 5] = [1_024, 256, 256, 128, 8_192];
 
 /// The answer; nothing but the refusal number if that is not 0.
 #[derive(Debug, Clone, Default, PartialEq, Eq)]

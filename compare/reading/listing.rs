@@ -8,7 +8,7 @@ pub const INPUT: usize = 8_192;
 
 /// What the extractor lends, in elements.
 pub fn rooms() -> Rooms {
-    let mut rooms = crate::bench::EXTRACTOR;
+    let mut rooms = model::EXTRACTOR;
     rooms.iter_mut().zip(WIDTHS).for_each(|(room, width)| *room *= width);
     rooms
 }

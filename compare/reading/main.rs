@@ -11,12 +11,9 @@
 //!   ours      our library's C interface, or the model in its place
 //!   seen      what the letters covered
 //!   report    how answers are printed
-//!   bench     both sides against the clock, on bench_letters
 //!   vectors   the file for a program that replays listings; listing, their form
 
 mod alike;
-mod bench;
-mod bench_letters;
 mod hidden;
 mod judge;
 mod lent;
@@ -36,8 +33,8 @@ use common::program::{self, Plan};
 use std::process::ExitCode;
 
 const USAGE: &str = "\
-modes: read [--model] [--seed N] [--count N] [--depth N], read-bench [--model] [--rounds N],
-read-vectors FILE [--seed N] [--count N], hidden [--model] [--seed N] [--count N]";
+modes: read [--model] [--seed N] [--count N] [--depth N], read-vectors FILE [--seed N] [--count N],
+hidden [--model] [--seed N] [--count N]";
 
 fn main() -> ExitCode {
     program::run(USAGE, mode)
@@ -51,7 +48,6 @@ fn mode(mode: &str, words: &[String]) -> Result<bool, String> {
             let [seed, count] = common::options(words, [("--seed", 1), ("--count", 300_000)])?;
             Ok(hidden::run(seed, count as usize))
         }
-        "read-bench" => Ok(bench::run(program::rounds(words, 101)?)),
         "read-vectors" => {
             let (path, words) = words.split_first().ok_or("no file")?;
             let [seed, count] = common::options(words, [("--seed", 1), ("--count", 300)])?;

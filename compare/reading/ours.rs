@@ -4,7 +4,11 @@
 use crate::lent::Call;
 use model::Kind;
 
+#[cfg(archive)]
+pub use library::Slices;
+
 /// The four word rooms in their order, and the text room.
+#[cfg(not(archive))]
 pub struct Slices<'a> {
     pub words: [&'a mut [u32]; 4],
     pub text: &'a mut [u8],
@@ -16,35 +20,6 @@ pub const NAME: &str = "our library";
 pub const NAME: &str = "our library, under an emulator";
 #[cfg(not(any(archive, bridge)))]
 pub const NAME: &str = "the model in place of our library";
-
-#[cfg(archive)]
-mod library {
-    #[repr(C)]
-    pub struct ReadAnswer {
-        pub refusal: u32,
-        pub tokens: u32,
-        pub fonts: u32,
-        pub colours: u32,
-        pub blocks: u32,
-        pub text: u32,
-    }
-
-    macro_rules! exports {
-        ($($name:ident)*) => {
-            extern "C" {
-                $(pub fn $name(
-                    source: *const u8, source_len: usize,
-                    tokens: *mut u32, tokens_len: usize,
-                    fonts: *mut u32, fonts_len: usize,
-                    colours: *mut u32, colours_len: usize,
-                    blocks: *mut u32, blocks_len: usize,
-                    text: *mut u8, text_len: usize,
-                ) -> ReadAnswer;)*
-            }
-        };
-    }
-    exports!(elduvarn_read_plain elduvarn_read_paragraphs);
-}
 
 /// Sends calls ahead; each is then read, in the same order. Only the bridge has use for it.
 #[cfg(not(bridge))]
@@ -67,30 +42,10 @@ pub fn send(calls: &[Call]) {
 /// Reads a source of any length and bytes in rooms of any sizes: refusal number and counts.
 #[cfg(archive)]
 pub fn read(kind: Kind, source: &[u8], rooms: Slices) -> [u32; 6] {
-    let read = match kind {
-        Kind::Plain => library::elduvarn_read_plain,
-        Kind::Paragraphs => library::elduvarn_read_paragraphs,
-    };
-    let Slices { words: [tokens, fonts, colours, blocks], text } = rooms;
-    // Sound as far as the library keeps to the six slices, which is what its proof says.
-    let answer = unsafe {
-        read(
-            source.as_ptr(),
-            source.len(),
-            tokens.as_mut_ptr(),
-            tokens.len(),
-            fonts.as_mut_ptr(),
-            fonts.len(),
-            colours.as_mut_ptr(),
-            colours.len(),
-            blocks.as_mut_ptr(),
-            blocks.len(),
-            text.as_mut_ptr(),
-            text.len(),
-        )
-    };
-    let library::ReadAnswer { refusal, tokens, fonts, colours, blocks, text } = answer;
-    [refusal, tokens, fonts, colours, blocks, text]
+    match kind {
+        Kind::Plain => library::read_plain(source, rooms),
+        Kind::Paragraphs => library::read_paragraphs(source, rooms),
+    }
 }
 
 #[cfg(bridge)]

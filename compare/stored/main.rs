@@ -9,9 +9,7 @@
 //!   ours     our library's C interface, or the codec in its place
 //!   seen     what was covered
 //!   report   how calls and answers are printed
-//!   bench    both checks against the clock
 
-mod bench;
 mod call;
 mod damage;
 mod drawn;
@@ -26,8 +24,7 @@ mod seen;
 use common::program::{self, Plan};
 use std::process::ExitCode;
 
-const USAGE: &str = "\
-modes: stored [--model] [--seed N] [--count N] [--depth N], stored-bench [--model] [--rounds N]";
+const USAGE: &str = "modes: stored [--model] [--seed N] [--count N] [--depth N]";
 
 fn main() -> ExitCode {
     program::run(USAGE, mode)
@@ -36,7 +33,6 @@ fn main() -> ExitCode {
 fn mode(mode: &str, words: &[String]) -> Result<bool, String> {
     match mode {
         "stored" => Ok(parts::run(&Plan::of(words, 500_000, 5)?)),
-        "stored-bench" => Ok(bench::run(program::rounds(words, 301)?)),
         other => Err(format!("no mode {other}")),
     }
 }

@@ -9,7 +9,7 @@ pub const NAME: &str = "our library, under an emulator";
 pub const NAME: &str = "the codec in place of our library";
 
 #[cfg(archive)]
-pub use library::{check, read, write};
+pub use library::{check, read_list as read, write_list as write};
 
 #[cfg(bridge)]
 pub use bridged::{check, read, send, write};
@@ -20,76 +20,6 @@ pub use crate::call::by_codec::{check, read, write};
 /// Sends calls ahead; each is then made, in the same order. Only the bridge has use for it.
 #[cfg(not(bridge))]
 pub fn send(_calls: &[crate::call::Call]) {}
-
-#[cfg(archive)]
-mod library {
-    #[repr(C)]
-    struct StoredAnswer {
-        refusal: u32,
-        blocks: usize,
-        text: usize,
-    }
-
-    #[repr(C)]
-    struct WriteAnswer {
-        refusal: u32,
-        bytes: usize,
-    }
-
-    extern "C" {
-        fn elduvarn_stored_check(list: *const u8, list_len: usize) -> u32;
-        fn elduvarn_stored_read(
-            list: *const u8,
-            list_len: usize,
-            blocks: *mut u32,
-            blocks_len: usize,
-            text: *mut u8,
-            text_len: usize,
-        ) -> StoredAnswer;
-        fn elduvarn_stored_write(
-            blocks: *const u32,
-            blocks_len: usize,
-            text: *const u8,
-            text_len: usize,
-            list: *mut u8,
-            list_len: usize,
-        ) -> WriteAnswer;
-    }
-
-    // Each is sound as far as the library keeps to the slices, which is what its proof says.
-
-    pub fn check(list: &[u8]) -> u32 {
-        unsafe { elduvarn_stored_check(list.as_ptr(), list.len()) }
-    }
-
-    pub fn read(list: &[u8], blocks: &mut [u32], text: &mut [u8]) -> [u64; 3] {
-        let StoredAnswer { refusal, blocks, text } = unsafe {
-            elduvarn_stored_read(
-                list.as_ptr(),
-                list.len(),
-                blocks.as_mut_ptr(),
-                blocks.len(),
-                text.as_mut_ptr(),
-                text.len(),
-            )
-        };
-        [u64::from(refusal), blocks as u64, text as u64]
-    }
-
-    pub fn write(blocks: &[u32], text: &[u8], list: &mut [u8]) -> [u64; 3] {
-        let WriteAnswer { refusal, bytes } = unsafe {
-            elduvarn_stored_write(
-                blocks.as_ptr(),
-                blocks.len(),
-                text.as_ptr(),
-                text.len(),
-                list.as_mut_ptr(),
-                list.len(),
-            )
-        };
-        [u64::from(refusal), bytes as u64, 0]
-    }
-}
 
 /// The answers to calls that were sent ahead.
 #[cfg(bridge)]
