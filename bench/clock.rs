@@ -49,9 +49,9 @@ impl<const SIDES: usize> Times<SIDES> {
         self.0.len()
     }
 
-    /// The longest time of any side yet.
-    pub fn longest(&self) -> f64 {
-        self.0.iter().flatten().copied().fold(0.0, f64::max)
+    /// The shortest time of a side yet: a machine that was busy for a while does not lengthen it.
+    pub fn shortest(&self, side: usize) -> f64 {
+        self.0.iter().map(|sample| sample[side]).fold(f64::INFINITY, f64::min)
     }
 
     pub fn median(&self, side: usize) -> f64 {

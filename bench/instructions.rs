@@ -51,7 +51,7 @@ fn of_letter(place: usize, row: &Row) -> Vec<String> {
     let bytes = row.letter.bytes.len();
     let of_crate = per_byte(READ, bytes, row.is_slow(), &[place]);
     let mut cells = vec![row.letter.kind.to_string(), count(bytes), figure(of_crate)];
-    for sizes in [row.needed(), row.extractors()] {
+    for sizes in row.sizes() {
         let words = |sizes: Sizes| [&[place], sizes.as_slice()].concat();
         let ours = sizes.map_or(f64::NAN, |sizes| per_byte(READ, bytes, false, &words(sizes)));
         cells.extend([figure(ours), figure(of_crate / ours)]);

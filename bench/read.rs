@@ -14,7 +14,7 @@ pub const CRATE: usize = 0;
 pub const NEEDED: usize = 1;
 pub const EXTRACTORS: usize = 2;
 /// A letter on which a call takes longer than this, in nanoseconds, is timed in fewer rounds.
-pub const SLOW: f64 = 2e7;
+const SLOW: f64 = 2e7;
 const SLOW_ROUNDS: usize = 9;
 
 const HEADING: &str = "\
@@ -65,7 +65,7 @@ impl Row {
             panic!("the crate refuses {}", letter.kind);
         };
         let mut row = Row { rooms: [None, None], letter, document, times: Times::new() };
-        row.rooms = [row.needed(), row.extractors()].map(|sizes| Some(Lent::new(&sizes?)));
+        row.rooms = row.sizes().map(|sizes| Some(Lent::new(&sizes?)));
         let Row { rooms, letter, document, .. } = &mut row;
         if !rooms.iter_mut().flatten().all(|rooms| rooms.reads_as(&letter.bytes, document)) {
             eprintln!("bench: DIFFERENCE: {} of {} bytes", letter.kind, letter.bytes.len());
@@ -74,18 +74,16 @@ impl Row {
         Some(row)
     }
 
-    pub fn needed(&self) -> Option<Sizes> {
-        Some(needed(&self.document))
-    }
-
-    /// The extractor's rooms, if they are enough.
-    pub fn extractors(&self) -> Option<Sizes> {
+    /// Just enough, and the extractor's where they are enough.
+    pub fn sizes(&self) -> [Option<Sizes>; 2] {
         let needed = needed(&self.document);
-        needed.iter().zip(EXTRACTOR).all(|(count, room)| *count <= room).then_some(EXTRACTOR)
+        let fits = needed.iter().zip(EXTRACTOR).all(|(count, room)| *count <= room);
+        [Some(needed), fits.then_some(EXTRACTOR)]
     }
 
+    /// Of the crate: ours has no such letter.
     pub fn is_slow(&self) -> bool {
-        self.times.longest() > SLOW
+        self.times.shortest(CRATE) > SLOW
     }
 
     fn goes_on(&self) -> bool {

@@ -11,8 +11,8 @@ const OURS: usize = 1;
 const HEADING: &str = "\
 ## The check of stored lists
 
-Nanoseconds for each byte, and million bytes each second, of the check of `compare/stored/codec` (a
-codec written from document 01 alone, with Rust's `str::from_utf8` for the text) and of
+Nanoseconds for each byte, and million bytes each second, of the check of `compare/stored/codec` (which
+is plain Rust and shares no code with ours, with `std::str::from_utf8` for the text) and of
 `elduvarn_stored_check`; medians over the rounds. \"times\" is how many times the codec's speed, the
 median of the rounds' own ratios. Neither side needs rooms.
 ";
