@@ -9,8 +9,9 @@ const HEADING: &str = "\
 
 How many times longer a byte takes in the long letter of a kind than in the short one, in the table
 above: the median of the rounds' own ratios. A kind that takes the same time for each byte has 1; less
-than 1 where the short letter's fixed costs show. Ours is in rooms of just enough. Fonts are looked up
-among 33 in the short letter and among 256 in the long one.
+than 1 where the short letter's fixed costs show. Ours is in rooms of just enough. A table of 256 fonts
+all but fills its short letter, while the long one is nearly all look-ups or names: there the ratio is
+of two kinds of work, and with 32 fonts it is of one.
 ";
 
 /// A kind, with how many times longer its bytes take in its long letter.

@@ -50,8 +50,10 @@ pub fn all() -> Vec<Letter> {
     for (kind, unit) in units {
         pair(&mut letters, kind, |bytes| repeated(unit, bytes));
     }
-    pair(&mut letters, "fonts, look-ups", |bytes| look_ups("\\f", bytes));
-    pair(&mut letters, "fonts, new names", |bytes| look_ups("x;}{\\f", bytes));
+    pair(&mut letters, "256 fonts, look-ups", |bytes| look_ups(256, "\\f", bytes));
+    pair(&mut letters, "256 fonts, new names", |bytes| look_ups(256, "x;}{\\f", bytes));
+    pair(&mut letters, "32 fonts, look-ups", |bytes| look_ups(32, "\\f", bytes));
+    pair(&mut letters, "32 fonts, new names", |bytes| look_ups(32, "x;}{\\f", bytes));
     pair(&mut letters, "fonts, descending", descending);
     letters
 }
@@ -62,10 +64,9 @@ fn pair(letters: &mut Vec<Letter>, kind: &'static str, make: impl Fn(usize) -> V
     }
 }
 
-/// A font table, with 256 keys in the long letter and a key for each 60 bytes in the short one, then
-/// look-ups of all of them in an order that jumps about, each with `between` in front.
-fn look_ups(between: &str, size: usize) -> Vec<u8> {
-    let keys = (size / 60).min(256);
+/// A font table of so many keys, then look-ups of all of them in an order that jumps about, each with
+/// `between` in front. A table of 256 keys all but fills the short letter.
+fn look_ups(keys: usize, between: &str, size: usize) -> Vec<u8> {
     let mut letter = b"{{\\fonttbl{".to_vec();
     for key in 0..keys {
         letter.extend_from_slice(format!("\\f{key} F;").as_bytes());
