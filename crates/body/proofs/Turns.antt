@@ -1,5 +1,5 @@
 -- The loop over the tokens: a stack of states in an array, and what is left.
---     held-..                       the stack that an array holds, the top in front
+--     held-.., stack-..             the stack: its top, and what an array holds below it
 --     Loop, loop-start, loop-end    what is left, from the present states and page, leads where the whole leads
 --     turn-..                       one turn: a group, a token without a state, and each act
 -- Assumes nothing.
@@ -44,39 +44,51 @@ use Rattle.body.proofs.Items.{from-end, from-group, from-bare}
 abbrev pub zeroed : State
 zeroed = record { painter = record { colour = 0; font = 0; size = 0; flags = freshFlags }; paragraph = freshParagraph; skip = 0 }
 
--- the stack that an array holds, the top in front
+-- the states that an array holds below the top, from place 1 on, the last in front
 unfoldable pub held : List State → ℕ → List State
 held states zero = []
-held states (suc d) = getD states d zeroed ∷ held states d
+held states (suc d) = getD states (suc d) zeroed ∷ held states d
+
+-- the stack of so many states, the top by itself
+unfoldable pub stack : List State → State → ℕ → List State
+stack states top zero = []
+stack states top (suc d) = top ∷ held states d
 
 held-length : (states : List State) (d : ℕ) → length (held states d) ≡ d
 unfolding held
 held-length states zero = refl
 held-length states (suc d) = ap suc (held-length states d)
 
-held-set : (states : List State) (d i : ℕ) (s : State) → d ≤ i → held (set states i s) d ≡ held states d
+held-set : (states : List State) (d i : ℕ) (s : State) → d < i → held (set states i s) d ≡ held states d
 unfolding held
 held-set states zero i s h = refl
 held-set states (suc d) i s h =
-    let e : getD (set states i s) d zeroed ≡ getD states d zeroed = getD-set-other states i d s zeroed (λ q. omega arith) in
+    let e : getD (set states i s) (suc d) zeroed ≡ getD states (suc d) zeroed = getD-set-other states i (suc d) s zeroed (λ q. omega arith) in
     let r : held (set states i s) d ≡ held states d = held-set states d i s (omega arith) in
     rw (e, r)
 
 -- a store on top
-held-put : (states : List State) (d : ℕ) (s : State) → d < length states → held (set states d s) (d + 1) ≡ s ∷ held states d
-unfolding held
-held-put states d s h =
-    let q : d + 1 ≡ suc d = omega arith in
-    let e : getD (set states d s) d zeroed ≡ s = getD-set-same states d s zeroed h in
-    let r : held (set states d s) d ≡ held states d = held-set states d d s (omega arith) in
-    rw (q, e, r)
+stack-push : (states : List State) (d : ℕ) (top : State) → 0 < d → d < length states → stack (set states d top) top (d + 1) ≡ top ∷ top ∷ held states (d - 1)
+unfolding held stack
+stack-push states zero top z h = absurd (not-suc-le-zero z)
+stack-push states (suc d) top z h =
+    let q : suc d + 1 ≡ suc (suc d) = omega arith in
+    let y : suc d - 1 ≡ d = omega arith in
+    let e : getD (set states (suc d) top) (suc d) zeroed ≡ top = getD-set-same states (suc d) top zeroed h in
+    let r : held (set states (suc d) top) d ≡ held states d = held-set states d (suc d) top (omega arith) in
+    rw (q, y, e, r)
 
-held-top : (states : List State) (d : ℕ) → 0 < d → held states d ≡ getD states (d - 1) zeroed ∷ held states (d - 1)
-unfolding held
-held-top states zero h = absurd (not-suc-le-zero h)
-held-top states (suc d) h =
+stack-top : (states : List State) (top : State) (d : ℕ) → 0 < d → stack states top d ≡ top ∷ held states (d - 1)
+unfolding held stack
+stack-top states top zero h = absurd (not-suc-le-zero h)
+stack-top states top (suc d) h =
     let q : suc d - 1 ≡ d = omega arith in
     rw q
+
+stack-pop : (states : List State) (d : ℕ) → stack states (getD states d zeroed) d ≡ held states d
+unfolding held stack
+stack-pop states zero = refl
+stack-pop states (suc d) = refl
 
 -- a token where no state is left, by what the code says of it
 opens-refuses : {A : Type 0} {k : Refusal} → Opens ≡ Refuses k → A
@@ -110,13 +122,13 @@ pub ne-pos : {d : ℕ} → (d ≡ 0 → ⊥) → 0 < d
 ne-pos h = omega arith
 
 -- where the body leads from here
-abbrev leads : Reading → List ℕ → List ℕ → List ℕ → List State → ℕ → Page → List ℕ → ℕ → Laying
-leads rd src b t states depth p ws n = layAll (on p b t) (from rd (held states depth) (shownAll src n ws))
+abbrev leads : Reading → List ℕ → List ℕ → List ℕ → List State → ℕ → State → Page → List ℕ → ℕ → Laying
+leads rd src b t states depth top p ws n = layAll (on p b t) (from rd (stack states top depth) (shownAll src n ws))
 
 abbrev whole : Reading → List ℕ → List ℕ → List ℕ → List ℕ → ℕ → Laying
 whole rd src b₀ t₀ tokens count = layAll (on blank b₀ t₀) (from rd (fresh ∷ []) (shownAll src count tokens))
 
-pub record Loop (rd : Reading) (src b₀ t₀ tokens : List ℕ) (count : ℕ) (b t : List ℕ) (states : List State) (depth : ℕ) (p : Page) (ws : List ℕ) (n : ℕ) : Type 0 where
+pub record Loop (rd : Reading) (src b₀ t₀ tokens : List ℕ) (count : ℕ) (b t : List ℕ) (states : List State) (depth : ℕ) (top : State) (p : Page) (ws : List ℕ) (n : ℕ) : Type 0 where
   pub deep : depth ≤ 64
   pub all : length states ≡ 64
   pub words : n * 6 ≤ length ws
@@ -124,11 +136,11 @@ pub record Loop (rd : Reading) (src b₀ t₀ tokens : List ℕ) (count : ℕ) (
   pub long-b : length b ≡ length b₀
   pub long-t : length t ≡ length t₀
   pub ready : Ready p (length b) (length t)
-  pub left : leads rd src b t states depth p ws n ≡ whole rd src b₀ t₀ tokens count
+  pub left : leads rd src b t states depth top p ws n ≡ whole rd src b₀ t₀ tokens count
 
-pub loop-start : (rd : Reading) (src b t tokens : List ℕ) (count : ℕ) (states : List State) {p : Page} → p ≡ blank → length states ≡ 64 → getD states 0 zeroed ≡ fresh
-    → (count * 6 ≤ length tokens) × (count ≤ 65536) → Loop rd src b t tokens count b t states 1 p tokens count
-unfolding held
+pub loop-start : (rd : Reading) (src b t tokens : List ℕ) (count : ℕ) (states : List State) {p : Page} → p ≡ blank → length states ≡ 64 → {top : State} → top ≡ fresh
+    → (count * 6 ≤ length tokens) × (count ≤ 65536) → Loop rd src b t tokens count b t states 1 top p tokens count
+unfolding held stack
 loop-start rd src b t tokens count states q l e h = record {
   deep = omega arith;
   all = l;
@@ -144,8 +156,8 @@ loop-start rd src b t tokens count states q l e h = record {
 words-behind : (k n : ℕ) (ws : List ℕ) → n * 6 ≤ length ws → (n - k) * 6 ≤ length (rest ws (k * 6))
 words-behind k n ws h = simp (length-take, length-drop) (omega arith)
 
-module _ {rd : Reading} {src b₀ t₀ tokens : List ℕ} {count : ℕ} {b t : List ℕ} {states : List State} {depth : ℕ} {p : Page} {ws : List ℕ} {n : ℕ}
-    (l : Loop rd src b₀ t₀ tokens count b t states depth p ws n) where
+module _ {rd : Reading} {src b₀ t₀ tokens : List ℕ} {count : ℕ} {b t : List ℕ} {states : List State} {depth : ℕ} {top : State} {p : Page} {ws : List ℕ} {n : ℕ}
+    (l : Loop rd src b₀ t₀ tokens count b t states depth top p ws n) where
   -- what a refusal, and a page at the end, give
   still-full : (r : Refusal) → Still (Full r) (length b₀) (length t₀)
   still-full r = omega arith
@@ -153,15 +165,15 @@ module _ {rd : Reading} {src b₀ t₀ tokens : List ℕ} {count : ℕ} {b t : L
   pub loop-end : n ≤ 0 → (on p b t ≡ whole rd src b₀ t₀ tokens count) × Ready p (length b₀) (length t₀)
   loop-end z =
       let e : shownAll src n ws ≡ [] = shown-none src n ws z in
-      let f : from rd (held states depth) (shownAll src n ws) ≡ from rd (held states depth) [] = ap (from rd (held states depth)) e in
-      let q : on p b t ≡ leads rd src b t states depth p ws n = sym (lay-end (on p b t)) ∙ ap (layAll (on p b t)) (sym (from-end rd (held states depth)) ∙ sym f) in
+      let f : from rd (stack states top depth) (shownAll src n ws) ≡ from rd (stack states top depth) [] = ap (from rd (stack states top depth)) e in
+      let q : on p b t ≡ leads rd src b t states depth top p ws n = sym (lay-end (on p b t)) ∙ ap (layAll (on p b t)) (sym (from-end rd (stack states top depth)) ∙ sym f) in
       (q ∙ l .left, rw (l .long-b, l .long-t) at (l .ready))
 
   module _ (z : 0 < n) where
     abbrev front : List Shown
     front = shownOf src (itemAt ws) ∷ shownAll src (n - 1) (rest ws 6)
 
-    left-front : layAll (on p b t) (from rd (held states depth) front) ≡ whole rd src b₀ t₀ tokens count
+    left-front : layAll (on p b t) (from rd (stack states top depth) front) ≡ whole rd src b₀ t₀ tokens count
     left-front = rw (shown-some src n ws z) at (l .left)
 
     module _ {i : Item} (e : i ≡ itemAt ws) {h : ℕ} (q : (s : List ℕ) → h ≡ passedBy (shownOf s i) (shownAll s (n - 1) (rest ws 6))) where
@@ -169,13 +181,13 @@ module _ {rd : Reading} {src b₀ t₀ tokens : List ℕ} {count : ℕ} {b t : L
       passes = rw e at (q src)
 
       -- a group
-      pub turn-group : 0 < h → h ≤ n - 1 → Loop rd src b₀ t₀ tokens count b t states depth p (rest ws ((h + 1) * 6)) (n - (h + 1))
+      pub turn-group : 0 < h → h ≤ n - 1 → Loop rd src b₀ t₀ tokens count b t states depth top p (rest ws ((h + 1) * 6)) (n - (h + 1))
       turn-group y m =
           let k : h + 1 ≤ n = omega arith in
           let d : drop (h + 1) (shownAll src n ws) ≡ drop h (shownAll src (n - 1) (rest ws 6)) = rw (add-one h, shown-some src n ws z) in
-          let g : from rd (held states depth) (shownAll src (n - (h + 1)) (rest ws ((h + 1) * 6))) ≡ from rd (held states depth) front =
-          ap (from rd (held states depth)) (sym (shown-drop src (h + 1) n ws k) ∙ d ∙ ap (λ (j : ℕ). drop j (shownAll src (n - 1) (rest ws 6))) passes)
-          ∙ sym (from-group rd (held states depth) (shownOf src (itemAt ws)) (shownAll src (n - 1) (rest ws 6)) (rw passes at y)) in
+          let g : from rd (stack states top depth) (shownAll src (n - (h + 1)) (rest ws ((h + 1) * 6))) ≡ from rd (stack states top depth) front =
+          ap (from rd (stack states top depth)) (sym (shown-drop src (h + 1) n ws k) ∙ d ∙ ap (λ (j : ℕ). drop j (shownAll src (n - 1) (rest ws 6))) passes)
+          ∙ sym (from-group rd (stack states top depth) (shownOf src (itemAt ws)) (shownAll src (n - 1) (rest ws 6)) (rw passes at y)) in
           record {
             deep = l .deep;
             all = l .all;
@@ -193,7 +205,7 @@ module _ {rd : Reading} {src b₀ t₀ tokens : List ℕ} {count : ℕ} {b t : L
       -- a token where no state is left
       module _ (y : h ≤ 0) (d : depth ≡ 0) {r : Bare} (f : (s : List ℕ) → r ≡ bareOf (shownOf s i)) where
         bare-front : layAll (on p b t) (uttered (bareAsks (shownOf src (itemAt ws))) (from rd (statesOf (bareAsks (shownOf src (itemAt ws)))) (shownAll src (n - 1) (rest ws 6)))) ≡ whole rd src b₀ t₀ tokens count
-        unfolding held
+        unfolding held stack
         bare-front =
             let v : passedBy (shownOf src (itemAt ws)) (shownAll src (n - 1) (rest ws 6)) ≡ 0 = let u : h ≡ 0 = omega arith in sym passes ∙ u in
             let g : layAll (on p b t) (from rd [] front) ≡ whole rd src b₀ t₀ tokens count = rw d at left-front in
@@ -206,30 +218,26 @@ module _ {rd : Reading} {src b₀ t₀ tokens : List ℕ} {count : ℕ} {b t : L
         turn-refused {k} g =
             (sym (bare-refuses rd p b t (shownOf src (itemAt ws)) (shownAll src (n - 1) (rest ws 6)) k (sym said ∙ g)) ∙ bare-front, still-full k)
 
-        pub turn-opened : r ≡ Opens → (s : State) → s ≡ fresh → Loop rd src b₀ t₀ tokens count b t (set states 0 s) 1 p (rest ws 6) (n - 1)
-        unfolding held
-        turn-opened g s m =
-            let a : length states ≡ 64 = l .all in
-            record {
-              deep = omega arith;
-              all = simp length-set a;
-              words = words-less n ws (l .words);
-              few = let u : n ≤ 65536 = l .few in omega arith;
-              long-b = l .long-b;
-              long-t = l .long-t;
-              ready = l .ready;
-              left =
-                  rw (getD-set-same states 0 s zeroed (omega arith), m)
-                  (sym (bare-opens rd p b t (shownOf src (itemAt ws)) (shownAll src (n - 1) (rest ws 6)) (sym said ∙ g)) ∙ bare-front);
-            }
+        pub turn-opened : r ≡ Opens → (s : State) → s ≡ fresh → Loop rd src b₀ t₀ tokens count b t states 1 s p (rest ws 6) (n - 1)
+        unfolding held stack
+        turn-opened g s m = record {
+          deep = omega arith;
+          all = l .all;
+          words = words-less n ws (l .words);
+          few = let u : n ≤ 65536 = l .few in omega arith;
+          long-b = l .long-b;
+          long-t = l .long-t;
+          ready = l .ready;
+          left = rw m (sym (bare-opens rd p b t (shownOf src (itemAt ws)) (shownAll src (n - 1) (rest ws 6)) (sym said ∙ g)) ∙ bare-front);
+        }
 
     -- a token where there is a state
-    module _ (d : 0 < depth) {top : State} (f : top ≡ getD states (depth - 1) zeroed) {a : Act} {b′ t′ : List ℕ}
+    module _ (d : 0 < depth) {a : Act} {b′ t′ : List ℕ}
         (h : OnwardFrom rd a top p b t b′ t′ n (shownAll src n ws)) (lb : length b′ ≡ length b) (lt : length t′ ≡ length t) where
       acted : onward rd a top (held states (depth - 1)) p b′ t′ (shownAll src n ws) ≡ whole rd src b₀ t₀ tokens count
       acted =
           sym (h .goes (held states (depth - 1)))
-          ∙ ap (λ (st : List State). layAll (on p b t) (from rd st (shownAll src n ws))) (rw f (sym (held-top states depth d)))
+          ∙ ap (λ (st : List State). layAll (on p b t) (from rd st (shownAll src n ws))) (sym (stack-top states top depth d))
           ∙ l .left
 
       -- the tokens behind the first
@@ -253,12 +261,11 @@ module _ {rd : Reading} {src b₀ t₀ tokens : List ℕ} {count : ℕ} {b t : L
         pub turn-deep : {k : Refusal} → depth ≡ 64 → k ≡ refusal TooDeep → (off k ≡ whole rd src b₀ t₀ tokens count) × Still (Full k) (length b₀) (length t₀)
         turn-deep {k} g m = (rw m (rw (eq-eqb _ 64 (size ∙ g)) at pushed), still-full k)
 
-        pub turn-push : (depth ≡ 64 → ⊥) → Loop rd src b₀ t₀ tokens count b′ t′ (set states depth top) (depth + 1) p (rest ws 6) (n - 1)
+        pub turn-push : (depth ≡ 64 → ⊥) → Loop rd src b₀ t₀ tokens count b′ t′ (set states depth top) (depth + 1) top p (rest ws 6) (n - 1)
         turn-push g =
             let v : depth ≤ 64 = l .deep in
             let u : length states ≡ 64 = l .all in
-            let w : held (set states depth top) (depth + 1) ≡ top ∷ top ∷ held states (depth - 1) =
-            held-put states depth top (omega arith) ∙ ap (λ (st : List State). top ∷ st) (held-top states depth d ∙ rw f) in
+            let w : stack (set states depth top) top (depth + 1) ≡ top ∷ top ∷ held states (depth - 1) = stack-push states depth top d (omega arith) in
             record {
               deep = omega arith;
               all = simp length-set u;
@@ -270,7 +277,7 @@ module _ {rd : Reading} {src b₀ t₀ tokens : List ℕ} {count : ℕ} {b t : L
               left = rw w (rw (ne-eqb _ 64 (λ q. g (sym size ∙ q))) at pushed);
             }
 
-      pub turn-pop : a ≡ Pop → Loop rd src b₀ t₀ tokens count b′ t′ states (depth - 1) p (rest ws 6) (n - 1)
+      pub turn-pop : a ≡ Pop → Loop rd src b₀ t₀ tokens count b′ t′ states (depth - 1) (getD states (depth - 1) zeroed) p (rest ws 6) (n - 1)
       turn-pop e = record {
         deep = let v : depth ≤ 64 = l .deep in omega arith;
         all = l .all;
@@ -279,25 +286,20 @@ module _ {rd : Reading} {src b₀ t₀ tokens : List ℕ} {count : ℕ} {b t : L
         long-b = lb ∙ l .long-b;
         long-t = lt ∙ l .long-t;
         ready = ready′;
-        left = rw behind-one at (rw e at acted);
+        left = rw (stack-pop states (depth - 1)) (rw behind-one at (rw e at acted));
       }
 
-      pub turn-keep : {s : State} → a ≡ Keep s → Loop rd src b₀ t₀ tokens count b′ t′ (set states (depth - 1) s) depth p (rest ws 6) (n - 1)
-      turn-keep {s} e =
-          let v : depth ≤ 64 = l .deep in
-          let u : length states ≡ 64 = l .all in
-          let y : depth - 1 + 1 ≡ depth = omega arith in
-          let w : held (set states (depth - 1) s) depth ≡ s ∷ held states (depth - 1) = rw y at (held-put states (depth - 1) s (omega arith)) in
-          record {
-            deep = v;
-            all = simp length-set u;
-            words = words-less n ws (l .words);
-            few = let x : n ≤ 65536 = l .few in omega arith;
-            long-b = lb ∙ l .long-b;
-            long-t = lt ∙ l .long-t;
-            ready = ready′;
-            left = rw w (rw behind-one at (rw e at acted));
-          }
+      pub turn-keep : {s : State} → a ≡ Keep s → Loop rd src b₀ t₀ tokens count b′ t′ states depth s p (rest ws 6) (n - 1)
+      turn-keep {s} e = record {
+        deep = l .deep;
+        all = l .all;
+        words = words-less n ws (l .words);
+        few = let x : n ≤ 65536 = l .few in omega arith;
+        long-b = lb ∙ l .long-b;
+        long-t = lt ∙ l .long-t;
+        ready = ready′;
+        left = rw (stack-top states s depth d) (rw behind-one at (rw e at acted));
+      }
 
       -- what an act says of its page
       kept-page : {q : Page} {k : ℕ} → a ≡ Said q k → Ready q (length b) (length t) × (0 < k) × (k ≤ n)
@@ -306,7 +308,7 @@ module _ {rd : Reading} {src b₀ t₀ tokens : List ℕ} {count : ℕ} {b t : L
       pub said-fits : {q : Page} {k : ℕ} → a ≡ Said q k → (0 < k) × (k ≤ n)
       said-fits e = (kept-page e .1, kept-page e .2)
 
-      pub turn-said : {q : Page} {k : ℕ} → a ≡ Said q k → Loop rd src b₀ t₀ tokens count b′ t′ states depth q (rest ws (k * 6)) (n - k)
+      pub turn-said : {q : Page} {k : ℕ} → a ≡ Said q k → Loop rd src b₀ t₀ tokens count b′ t′ states depth top q (rest ws (k * 6)) (n - k)
       turn-said {q} {k} e = record {
         deep = l .deep;
         all = l .all;
@@ -316,7 +318,7 @@ module _ {rd : Reading} {src b₀ t₀ tokens : List ℕ} {count : ℕ} {b t : L
         long-t = lt ∙ l .long-t;
         ready = rw (lb, lt) (kept-page e .0);
         left =
-            ap (λ (st : List State). layAll (on q b′ t′) (from rd st (shownAll src (n - k) (rest ws (k * 6))))) (held-top states depth d ∙ rw f)
+            ap (λ (st : List State). layAll (on q b′ t′) (from rd st (shownAll src (n - k) (rest ws (k * 6))))) (stack-top states top depth d)
             ∙ ap (λ (ts : List Shown). layAll (on q b′ t′) (from rd (top ∷ held states (depth - 1)) ts)) (sym (shown-drop src k n ws (kept-page e .2)))
             ∙ (rw e at acted);
       }

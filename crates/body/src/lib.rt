@@ -7,7 +7,7 @@
 //   bare_token  one token, where there is none
 //   lay_body    all tokens, over a stack of 64 states
 //
-// Each token is read once, and no state is copied but the top one.
+// Each token is read once. The top state stands by itself: what is below it is kept in an array and copied at brackets alone.
 use answers::Refusal;
 use answers::Why;
 use items::Item;
@@ -213,6 +213,7 @@ pub fn lay_body(
     let first = State::fresh();
     let mut states = [first; 64];
     let mut depth: usize = 1;
+    let mut top = first;
     let mut page = Page::blank();
     let mut t = tokens;
     let mut n = count;
@@ -232,12 +233,11 @@ pub fn lay_body(
                     return Laid::Full(refusal);
                 }
                 Bare::Opens => {
-                    states[0] = first;
+                    top = first;
                     depth = 1;
                 }
             }
         } else {
-            let top = states[depth - 1];
             let a = take_token(source, reading, t, n, top, page, blocks, text);
             match a {
                 Act::Push => {
@@ -251,11 +251,12 @@ pub fn lay_body(
                 }
                 Act::Pop => {
                     depth -= 1;
+                    top = states[depth];
                     t = &t[6..];
                     n -= 1;
                 }
                 Act::Keep(s) => {
-                    states[depth - 1] = s;
+                    top = s;
                     t = &t[6..];
                     n -= 1;
                 }

@@ -3,7 +3,7 @@
 //   Class    a class of bytes by name, so that one loop serves every class
 //   lead_of  how many bytes of a class a slice starts with
 //   body_of  a slice's length without the bytes of a class that it ends with
-//   has_high, has_special   whether a byte is above 127, or special
+//   has_high whether a byte is above 127
 //
 // Every function is total. Tests join by `|` and `&`, which ask no proof by cases.
 ghost use mathlib.Core.Path.{_≡_};
@@ -114,20 +114,6 @@ pub fn has_high(s: &[u8]) -> bool
     while i < s.len() {
         let b = s[i];
         found = found | (127 < b);
-        i += 1;
-    }
-    found
-}
-
-// Whether a byte of s is special; every byte is looked at, as above.
-pub fn has_special(s: &[u8]) -> bool
-    ensures { λ r. ⌜ r ≡ any isSpecial (now (s .entry)) ⌝ }
-{
-    let mut found = false;
-    let mut i = 0;
-    while i < s.len() {
-        let b = s[i];
-        found = found | is_special(b);
         i += 1;
     }
     found

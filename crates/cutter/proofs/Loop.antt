@@ -53,14 +53,11 @@ module _ (p e : ℕ) (s : List ℕ) (h : 0 < length s) (q : e ≡ sliceLength s)
       let f : slices s ≡ s ∷ [] = slices-first s h ∙ rw (z, take-length, drop-length) in
       ap (allSlices p) f
 
--- t stands at p and is left, n tokens are written, and t's first slice has e bytes
-pub record Loop (place : ℕ) (s room₀ room t : List ℕ) (p n e : ℕ) : Type 0 where
+-- t stands at p and is left, and n tokens are written
+pub record Loop (place : ℕ) (s room₀ room t : List ℕ) (p n : ℕ) : Type 0 where
   pub some : 0 < length t
   pub fits : p + length t ≤ 65536
   pub below : n ≤ p
-  pub first : e ≡ sliceLength t
-  pub ahead : 0 < e
-  pub within : e ≤ length t
   pub long : length room ≡ length room₀
   pub left : Left tokenLayout (allSlices place (slices s)) room₀ (allSlices p (slices t)) n room
 
@@ -68,17 +65,16 @@ pub record Loop (place : ℕ) (s room₀ room t : List ℕ) (p n e : ℕ) : Type
 abbrev pub First : List ℕ → ℕ → Type 0
 First t e = (e ≡ sliceLength t) × ((e ≤ length t) × (0 < length t → 0 < e))
 
-pub loop-start : (place e : ℕ) (s room : List ℕ) → (length s ≡ 0 → ⊥) → place + length s ≤ 65536 → First s e → Loop place s room room s place 0 e
-loop-start place e s room h f w =
-    let z : 0 < length s = omega arith in
-    record { some = z; fits = f; below = omega arith; first = w .0; ahead = w .1 .1 z; within = w .1 .0; long = refl; left = left-start tokenLayout }
+pub loop-start : (place : ℕ) (s room : List ℕ) → (length s ≡ 0 → ⊥) → place + length s ≤ 65536 → Loop place s room room s place 0
+loop-start place s room h f =
+    record { some = omega arith; fits = f; below = omega arith; long = refl; left = left-start tokenLayout }
 
-module _ {place : ℕ} {s room₀ room t : List ℕ} {p n e : ℕ} (l : Loop place s room₀ room t p n e) where
+module _ {place : ℕ} {s room₀ room t : List ℕ} {p n e : ℕ} (l : Loop place s room₀ room t p n) (f : First t e) where
   pub loop-falls : e < length t → length (part t e) < length t
-  loop-falls h = simp (length-take, length-drop) (omega (arith, l .ahead))
+  loop-falls h = simp (length-take, length-drop) (omega (arith, f .1 .1 (l .some)))
 
   pub loop-last : length t ≤ e → {r : Outcome} {room′ : List ℕ} → Wrote tokenLayout n room (last p t) r room′ → Wrote tokenLayout 0 room₀ (allSlices place (slices s)) r room′
-  loop-last h w = left-end tokenLayout (l .left) (all-last p e t (l .some) (l .first) (omega (arith, l .within))) w
+  loop-last h w = left-end tokenLayout (l .left) (all-last p e t (l .some) (f .0) (omega (arith, f .1 .0))) w
 
   module _ (h : e < length t) {r : Outcome} {room′ : List ℕ} (w : Wrote shownLayout n room (tokens p (take e t)) r room′) where
     slice-wrote : Wrote tokenLayout n room (located p (take e t)) r room′
@@ -86,21 +82,17 @@ module _ {place : ℕ} {s room₀ room t : List ℕ} {p n e : ℕ} (l : Loop pla
     slice-wrote = wrote-each shownLayout tokenLayout (locate p (length (take e t))) refl (λ x. refl) w
 
     pub loop-stop : {k : Refusal} → r ≡ Refused k → Wrote tokenLayout 0 room₀ (allSlices place (slices s)) (Refused k) room′
-    loop-stop d = left-stop tokenLayout (l .left) (allSlices (p + e) (slices (part t e))) (all-first p e t (l .some) (l .first) h) slice-wrote d
+    loop-stop d = left-stop tokenLayout (l .left) (allSlices (p + e) (slices (part t e))) (all-first p e t (l .some) (f .0) h) slice-wrote d
 
-    pub loop-next : {m e′ : ℕ} → r ≡ Done m → First (part t e) e′ → Loop place s room₀ room′ (part t e) (p + e) m e′
-    loop-next {m} {e′} d v =
+    pub loop-next : {m : ℕ} → r ≡ Done m → Loop place s room₀ room′ (part t e) (p + e) m
+    loop-next {m} d =
         let q : length (part t e) ≡ length t - e = simp (length-take, length-drop) (omega arith) in
         let b : m ≤ n + length (take e t) = tokens-next p (take e t) w d in
         let c : length (take e t) ≡ e = simp length-take (omega arith) in
-        let z : 0 < length (part t e) = omega arith in
         record {
-          some = z;
+          some = omega arith;
           fits = omega (arith, l .fits);
           below = omega (arith, l .below);
-          first = v .0;
-          ahead = v .1 .1 z;
-          within = v .1 .0;
           long = ap length (slice-wrote .holds) ∙ length-putAll tokenLayout (located p (take e t)) room n ∙ l .long;
-          left = left-more tokenLayout (l .left) (allSlices (p + e) (slices (part t e))) (all-first p e t (l .some) (l .first) h) slice-wrote d;
+          left = left-more tokenLayout (l .left) (allSlices (p + e) (slices (part t e))) (all-first p e t (l .some) (f .0) h) slice-wrote d;
         }

@@ -13,9 +13,9 @@ use bytes::body_of;
 use bytes::has_high;
 use bytes::lead_of;
 use names::Table;
+use quick::slice_tokens;
 use rooms::clear_from;
 use slices::slice_end;
-use tokenize::tokenize;
 use tokens::Record;
 use tokens::TOKEN_WORDS;
 use tokens::put;
@@ -54,9 +54,12 @@ fn all_slices(s: &[u8], place: usize, names: &Table, room: &mut [u32]) -> Outcom
     let mut t = s;
     let mut p = place;
     let mut n = 0;
-    let mut e = slice_end(t);
-    while e < t.len() {
-        let one = tokenize(&t[..e], p, names, room, n);
+    loop {
+        let e = slice_end(t);
+        if t.len() <= e {
+            break;
+        }
+        let one = slice_tokens(&t[..e], p, names, room, n);
         match one {
             Outcome::Refused(refusal) => {
                 return Outcome::Refused(refusal);
@@ -67,7 +70,6 @@ fn all_slices(s: &[u8], place: usize, names: &Table, room: &mut [u32]) -> Outcom
         }
         t = &t[e..];
         p = p + e;
-        e = slice_end(t);
     }
     last(t, p, room, n)
 }

@@ -7,10 +7,13 @@ use native.Mathlib.Nat.{not-suc-le-zero, le-of-suc-le-suc}
 use native.Mathlib.Numerals.{add-one}
 use native.Mathlib.Omega.{arith}
 use lib.ListN.{length, getD, take, drop, length-take, length-drop, drop-of-length-le}
-use lib.Seq.{drop-cons, drop-drop, getD-take, getD-drop, take-add}
-use Rattle.slices.specs.Slices.{startsSlice, upTo, sliceLength, Plain}
-use Rattle.bytes.specs.Bytes.{isSpecial, any}
-use Rattle.bytes.proofs.Runs.{or-left, or-right, any-append}
+use lib.Seq.{drop-cons, drop-drop, getD-take, getD-drop, take-take}
+use Rattle.slices.specs.Slices.{startsSlice, upTo, sliceLength}
+use Rattle.bytes.specs.Bytes.{isSpecial, any, lead}
+use Rattle.bytes.proofs.Runs.{or-left, or-right}
+use borrow.Author.Tests.{ne-eqb}
+use Rattle.eights.specs.Eights.{packed, marked, isPlain}
+use Rattle.eights.proofs.Marking.{unmarked, some-marked, lead-plain, lead-special}
 use Rattle.slices.proofs.Slices.{lastByte, lastByte-at}
 
 pub end-none : (s : List ℕ) → length s ≡ 0 → 0 ≡ sliceLength s
@@ -28,10 +31,24 @@ upTo-plain (suc k) before (b ∷ s) e h =
     let y : any isSpecial (take k s) ≡ false = or-right (isSpecial b) (any isSpecial (take k s)) e in
     rw x (omega (arith, upTo-plain k b s y (le-of-suc-le-suc h)))
 
--- what is counted from i on, behind the byte `before`
-module _ (s : List ℕ) where
+upTo-within : (before : ℕ) (s : List ℕ) → upTo before s ≤ length s
+unfolding upTo
+upTo-within before [] = omega arith
+upTo-within before (b ∷ s) = go (startsSlice before b) (upTo-within b s)
+  where
+    go : (t : Bool) → upTo b s ≤ length s → cond t zero (suc (upTo b s)) ≤ suc (length s)
+    go true h = omega arith
+    go false h = omega arith
+
+pub slice-within : (s : List ℕ) → sliceLength s ≤ length s
+unfolding sliceLength
+slice-within [] = omega arith
+slice-within (b ∷ s) = omega (arith, upTo-within b s)
+
+-- what is counted from i on, behind the byte `before`, where `total` is what is counted in all
+module _ (s : List ℕ) (total : ℕ) where
   abbrev pub Ends : ℕ → ℕ → Type 0
-  Ends before i = sliceLength s ≡ i + upTo before (drop i s)
+  Ends before i = total ≡ i + upTo before (drop i s)
 
   upTo-at : (before i : ℕ) → i < length s → upTo before (drop i s) ≡ cond (startsSlice before (getD s i 0)) zero (suc (upTo (getD s i 0) (drop (suc i) s)))
   unfolding upTo
@@ -43,7 +60,7 @@ module _ (s : List ℕ) where
         let l : upTo before (drop i s) ≡ suc (upTo (getD s i 0) (drop (i + 1) s)) = rw add-one (rw (sym q ∙ t) at (upTo-at before i h)) in
         omega arith
 
-    pub ends-here : r ≡ true → i ≡ sliceLength s
+    pub ends-here : r ≡ true → i ≡ total
     ends-here t =
         let l : upTo before (drop i s) ≡ 0 = rw (sym q ∙ t) at (upTo-at before i h) in
         omega arith
@@ -58,40 +75,81 @@ module _ (s : List ℕ) where
       lastByte-at (getD s i 0) (take (suc k) (drop (i + 1) s)) (omega (arith, n))
       ∙ rw (n, y) (getD-take (suc k) (drop (i + 1) s) k 0 (omega arith) ∙ getD-drop (i + 1) s k 0 ∙ ap (λ (m : ℕ). getD s m 0) z)
 
-  -- a run without a special byte, behind a byte that starts no slice
-  pub ends-far : (before i j : ℕ) (t : Bool) → t ≡ startsSlice before (getD s i 0) → i < length s → Ends before i → t ≡ false → Plain s (i + 1) j → Ends (getD s (j - 1) 0) j
-  ends-far before i j t q h e f p =
-      let o : Ends (getD s i 0) (i + 1) = ends-more before i t q h e f in
-      let k : ℕ = j - (i + 1) in
-      let u : upTo (getD s i 0) (drop (i + 1) s) ≡ k + upTo (lastByte (getD s i 0) (take k (drop (i + 1) s))) (drop k (drop (i + 1) s)) = upTo-plain k (getD s i 0) (drop (i + 1) s) (p .none) (simp length-drop (omega (arith, p .within))) in
-      let z : i + 1 + k ≡ j = omega (arith, p .ahead) in
-      let d : drop k (drop (i + 1) s) ≡ drop j s = drop-drop k (i + 1) s ∙ ap (λ (m : ℕ). drop m s) z in
-      let l : lastByte (getD s i 0) (take k (drop (i + 1) s)) ≡ getD s (j - 1) 0 = last-taken i k (omega (arith, p .within, p .ahead)) ∙ ap (λ (m : ℕ). getD s m 0) (omega (arith, z)) in
-      rw (← l, ← d) (omega (arith, o, u, z))
-
-  pub ends-last : (before i : ℕ) → length s ≤ i → Ends before i → i ≡ sliceLength s
+  pub ends-last : (before i : ℕ) → length s ≤ i → Ends before i → i ≡ total
   unfolding upTo
   ends-last before i h e =
       let l : upTo before (drop i s) ≡ 0 = rw (drop-of-length-le s h) in
       omega arith
 
-pub ends-start : (s : List ℕ) → (length s ≡ 0 → ⊥) → Ends s (getD s 0 0) 1
+pub ends-start : (s : List ℕ) → (length s ≡ 0 → ⊥) → Ends s (sliceLength s) (getD s 0 0) 1
 unfolding sliceLength
 ends-start [] h = absurd (h refl)
 ends-start (b ∷ s) h = omega arith
 
--- whole blocks without a special byte, from a place on
-module _ (s : List ℕ) (from : ℕ) where
-  pub plain-start : from ≤ length s → Plain s from from
-  unfolding any
-  plain-start h =
-      let z : from - from ≡ 0 = omega arith in
-      record { ahead = omega arith; within = h; none = rw z }
+-- i bytes of the first slice are passed
+module _ (s : List ℕ) (total : ℕ) where
+  pub record At (i : ℕ) : Type 0 where
+    pub some : 0 < i
+    pub within : i ≤ length s
+    pub ends : Ends s total (getD s (i - 1) 0) i
 
-  pub plain-more : (i j : ℕ) (r : Bool) → r ≡ any isSpecial (take (j - i) (drop i s)) → r ≡ false → i ≤ j → j ≤ length s → Plain s from i → Plain s from j
-  plain-more i j r q f h l p =
-      let z : j - from ≡ i - from + (j - i) = omega (arith, p .ahead) in
-      let a : from + (i - from) ≡ i = omega (arith, p .ahead) in
-      let d : drop (i - from) (drop from s) ≡ drop i s = drop-drop (i - from) from s ∙ ap (λ (m : ℕ). drop m s) a in
-      let t : take (j - from) (drop from s) ≡ take (i - from) (drop from s) ++ take (j - i) (drop i s) = rw (z, take-add, d) in
-      record { ahead = omega (arith, p .ahead); within = l; none = rw (t, any-append isSpecial, p .none) (sym q ∙ f) }
+  -- none of them special
+  pub at-pass : {i j : ℕ} → At i → i ≤ j → j ≤ length s → any isSpecial (take (j - i) (drop i s)) ≡ false → At j
+  at-pass {i} {j} a h l n =
+      let k : ℕ = j - i in
+      let z : i + k ≡ j = omega arith in
+      let y : i - 1 + 1 ≡ i = omega (arith, a .some) in
+      let u : upTo (getD s (i - 1) 0) (drop i s) ≡ k + upTo (lastByte (getD s (i - 1) 0) (take k (drop i s))) (drop k (drop i s)) = upTo-plain k (getD s (i - 1) 0) (drop i s) n (simp length-drop (omega arith)) in
+      let d : drop k (drop i s) ≡ drop j s = drop-drop k i s ∙ ap (λ (m : ℕ). drop m s) z in
+      let e : lastByte (getD s (i - 1) 0) (take k (drop i s)) ≡ getD s (i - 1 + k) 0 = rw y at (last-taken s total (i - 1) k (omega (arith, a .some, a .within))) in
+      let f : i - 1 + k ≡ j - 1 = omega (arith, a .some) in
+      let g : lastByte (getD s (i - 1) 0) (take k (drop i s)) ≡ getD s (j - 1) 0 = e ∙ ap (λ (m : ℕ). getD s m 0) f in
+      record { some = omega (arith, a .some); within = l; ends = rw (← g, ← d) (omega (arith, a .ends, u, z)) }
+
+  -- the slice goes up to a special byte, or beyond it
+  pub record Found (i : ℕ) : Type 0 where
+    pub at : At i
+    pub within : i < length s
+    pub special : isSpecial (getD s i 0) ≡ true
+
+  module _ {i : ℕ} (a : At i) (l : i + 8 ≤ length s) where
+    eight : length (take (i + 8 - i) (drop i s)) ≡ 8
+    eight = simp (length-take, length-drop) (omega arith)
+
+    -- eight bytes without a mark
+    pub passed : (m : ℕ) → m ≡ packed (marked (take (i + 8 - i) (drop i s))) → m ≡ 0 → At (i + 8)
+    passed m q z = at-pass a (omega arith) l (unmarked (take (i + 8 - i) (drop i s)) (sym q ∙ z))
+
+    -- eight bytes with a mark
+    module _ (m k : ℕ) (q : m ≡ packed (marked (take (i + 8 - i) (drop i s)))) (n : m ≡ 0 → ⊥) (f : (t : List ℕ) → length t ≡ 8 → m ≡ packed (marked t) → k ≡ lead isPlain t) where
+      first : k ≡ lead isPlain (take (i + 8 - i) (drop i s))
+      first = f (take (i + 8 - i) (drop i s)) eight q
+
+      few : k < 8
+      few = let h = some-marked (take (i + 8 - i) (drop i s)) (λ z. n (q ∙ z)) in omega (arith, h, eight, first)
+
+      pub found : Found (i + k)
+      found =
+          let z : i + k - i ≡ k = omega arith in
+          let t : take k (take (i + 8 - i) (drop i s)) ≡ take k (drop i s) = take-take k (i + 8 - i) (drop i s) (omega (arith, few)) in
+          let p : any isSpecial (take k (take (i + 8 - i) (drop i s))) ≡ false = rw (← first) at (lead-plain (take (i + 8 - i) (drop i s))) in
+          let u : isSpecial (getD (take (i + 8 - i) (drop i s)) k 0) ≡ true = rw (← first) at (lead-special (take (i + 8 - i) (drop i s)) (omega (arith, first, few, eight))) in
+          let g : getD (take (i + 8 - i) (drop i s)) k 0 ≡ getD s (i + k) 0 = getD-take (i + 8 - i) (drop i s) k 0 (omega (arith, few)) ∙ getD-drop i s k 0 in
+          record { at = at-pass a (omega arith) (omega (arith, few)) (rw (z, ← t) p); within = omega (arith, few); special = rw (← g) u }
+
+  -- it starts the next slice, unless a backslash stands before it
+  pub found-ends : {i : ℕ} → Found i → (getD s (i - 1) 0 ≡ 92 → ⊥) → i ≡ total
+  found-ends {i} f n =
+      let q : true ≡ startsSlice (getD s (i - 1) 0) (getD s i 0) = rw (f .special, ne-eqb (getD s (i - 1) 0) 92 n) in
+      ends-here s total (getD s (i - 1) 0) i true q (f .within) (f .at .ends) refl
+
+  -- a byte that starts no slice
+  pub at-more : {i : ℕ} (r : Bool) → r ≡ startsSlice (getD s (i - 1) 0) (getD s i 0) → At i → i < length s → r ≡ false → At (i + 1)
+  at-more {i} r q a h t =
+      let z : i + 1 - 1 ≡ i = omega arith in
+      record { some = omega arith; within = omega arith; ends = rw z (ends-more s total (getD s (i - 1) 0) i r q h (a .ends) t) }
+
+  pub found-more : {i : ℕ} → Found i → getD s (i - 1) 0 ≡ 92 → At (i + 1)
+  found-more {i} f e =
+      let q : false ≡ startsSlice (getD s (i - 1) 0) (getD s i 0) = rw (f .special, e) in
+      at-more false q (f .at) (f .within) refl

@@ -1,11 +1,9 @@
 -- 01, Cutting: a letter's slices. Assumes nothing: these are definitions.
-use Prim.Native.Nat.{ℕ, zero, suc, _-_, _≤_}
-use mathlib.Core.Path.{_≡_}
+use Prim.Native.Nat.{ℕ, zero, suc}
 use mathlib.Core.List.{List, [], _∷_}
-use mathlib.Core.Bool.{Bool, false, cond, not, _&&_}
+use mathlib.Core.Bool.{Bool, cond, not, _&&_}
 use lib.Dec.{eqb}
-use lib.ListN.{length, take, drop}
-use Rattle.bytes.specs.Bytes.{isSpecial, any}
+use Rattle.bytes.specs.Bytes.{isSpecial}
 
 -- "`{`, `}`, `\` and line feed start a new slice unless the byte before is `\`."
 abbrev pub startsSlice : ℕ → ℕ → Bool
@@ -37,9 +35,3 @@ upTo before (b ∷ s) = cond (startsSlice before b) zero (suc (upTo b s))
 unfoldable pub sliceLength : List ℕ → ℕ
 sliceLength [] = zero
 sliceLength (b ∷ s) = suc (upTo b s)
-
--- no special byte stands from one place of a source up to another, at or behind it
-pub record Plain (s : List ℕ) (i j : ℕ) : Type 0 where
-  pub ahead : i ≤ j
-  pub within : j ≤ length s
-  pub none : any isSpecial (take (j - i) (drop i s)) ≡ false

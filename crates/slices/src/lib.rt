@@ -1,8 +1,10 @@
 // Slices: where a letter is cut apart (01, Cutting; the loop of `Lexer::scan` in the crate).
+use eights::first_mark;
+use eights::marks_of;
 ghost use mathlib.Core.Path.{_≡_};
-ghost use Prim.Native.Nat.{_≤_, _<_};
-ghost use lib.ListN.{length};
-ghost use Rattle.slices.specs.Slices.{startsSlice, sliceLength, Plain};
+ghost use Prim.Native.Nat.{_+_, _-_, _≤_, _<_};
+ghost use lib.ListN.{length, getD, drop};
+ghost use Rattle.slices.specs.Slices.{startsSlice, upTo, sliceLength};
 
 // Whether b starts a new slice behind the byte `before`.
 pub fn starts_slice(before: u8, b: u8) -> bool
@@ -11,28 +13,24 @@ pub fn starts_slice(before: u8, b: u8) -> bool
     bytes::is_special(b) & (before != b'\\')
 }
 
-// How many bytes a block has that is looked at as a whole.
-const BLOCK: usize = 16;
-
-// The place, at or after `from`, behind the whole blocks without a special byte that stand there.
-fn plain_blocks(s: &[u8], from: usize) -> usize
-    requires { ⌜ from ≤ length (now s) ⌝ }
-    ensures { λ r. ⌜ Plain (now (s .entry)) from r ⌝ }
+// The end of the first slice, byte by byte from a place on that is in it.
+fn end_from(s: &[u8], from: usize) -> usize
+    requires { ⌜ (0 < from) × (from ≤ length (now s)) ⌝ }
+    ensures { λ r. ⌜ r ≡ from + upTo (getD (now (s .entry)) (from - 1) 0) (drop from (now (s .entry))) ⌝ }
 {
-    let mut at = from;
-    while BLOCK <= s.len() - at {
-        let next = at + BLOCK;
-        if bytes::has_special(&s[at..next]) {
-            return at;
+    let mut i = from;
+    while i < s.len() {
+        if starts_slice(s[i - 1], s[i]) {
+            return i;
         }
-        at = next;
+        i += 1;
     }
-    at
+    i
 }
 
-// The length of the first slice of s; 0 if s is empty. Nothing is reset after `\\`: the second backslash is the byte
-// before what follows, as in the crate. A long run of text is passed over block by block, from each place that is a
-// multiple of a block's size.
+// The length of the first slice of s; 0 if s is empty. Eight bytes are looked at as one number, and a special byte among
+// them by itself: the byte before it tells whether it starts a slice. Nothing is reset after `\\`: the second backslash is
+// the byte before what follows, as in the crate.
 pub fn slice_end(s: &[u8]) -> usize
     ensures length { λ r. ⌜ r ≡ sliceLength (now (s .entry)) ⌝ }
     ensures within { λ r. ⌜ r ≤ length (now (s .entry)) ⌝ }
@@ -41,23 +39,19 @@ pub fn slice_end(s: &[u8]) -> usize
     if s.len() == 0 {
         return 0;
     }
-    let mut before = s[0];
-    let mut i = 1;
-    while i < s.len() {
-        let b = s[i];
-        if starts_slice(before, b) {
-            return i;
-        }
-        let next = i + 1;
-        if next % BLOCK != 0 {
-            before = b;
+    let mut i: usize = 1;
+    while 8 <= s.len() - i {
+        let next = i + 8;
+        let marks = marks_of(&s[i..next]);
+        if marks == 0 {
             i = next;
-            continue;
+        } else {
+            i = i + first_mark(marks);
+            if s[i - 1] != b'\\' {
+                return i;
+            }
+            i += 1;
         }
-        let far = plain_blocks(s, next);
-        let last = far - 1;
-        before = s[last];
-        i = far;
     }
-    i
+    end_from(s, i)
 }

@@ -29,7 +29,7 @@ use Rattle.tokenize.specs.Tokenize.{isMark, isEscape, mark, plain, hexVa
 abbrev pub part : ℕ → List ℕ → List ℕ
 part k s = take (length s - k) (drop k s)
 
-part-drop : (k : ℕ) (s : List ℕ) → part k s ≡ drop k s
+pub part-drop : (k : ℕ) (s : List ℕ) → part k s ≡ drop k s
 part-drop k s = take-all (length s - k) (drop k s) (simp length-drop (omega arith))
 
 no-byte : (s : List ℕ) → length s ≡ 0 → s ≡ []

@@ -4,6 +4,8 @@
 //   escaped    what a backslash makes of the bytes behind it
 //   word       a control word, and the text behind it
 //
+// `quick` gives the same for the slices that letters mostly hold, and calls these for the rest.
+//
 // Each function writes its records from place n of the room on, and answers the next place or a refusal. The table of
 // names is lent by the caller, who takes it once. A slice stands at `place` of a source of at most 65,536 bytes, and
 // so far at most one record was written for each byte before it.
@@ -31,7 +33,7 @@ ghost use Rattle.tokens.specs.Tokens.{shownLayout, textRecord, recordOf};
 ghost use Rattle.tokenize.specs.Tokenize.{isMark, isEscape, plain as plainOf, wordTail, bareLength, shownWord, named as namedOf, word as wordOf, hexEscape, lineBreakAnd, other as otherOf, escaped as escapedOf, mark as markOf, tokens as tokensOf};
 
 // `{`, `}` or a line feed.
-fn is_mark(b: u8) -> bool
+pub fn is_mark(b: u8) -> bool
     ensures { λ r. ⌜ r ≡ isMark b ⌝ }
 {
     (b == b'{') | (b == b'}') | (b == b'\n')
@@ -52,7 +54,7 @@ fn text(place: usize, length: usize) -> Record
 }
 
 // A plain tail: one text token, unless it is all white space.
-fn plain(s: &[u8], place: usize, room: &mut [u32], n: usize) -> Outcome
+pub fn plain(s: &[u8], place: usize, room: &mut [u32], n: usize) -> Outcome
     requires { ⌜ (place + length (now s) ≤ 65536) × (n ≤ place) ⌝ }
     ensures { λ r. ⌜ Wrote shownLayout n (now (room .entry)) (plainOf place (now (s .entry))) r (now (room .exit)) ⌝ }
 {
@@ -66,7 +68,7 @@ fn plain(s: &[u8], place: usize, room: &mut [u32], n: usize) -> Outcome
 
 // What follows a word and the white space that ends it: text even if it is all such white space. A tail of other white
 // space, that is with a byte 11 in it, is lost, as in the crate.
-fn word_tail(s: &[u8], place: usize, room: &mut [u32], n: usize) -> Outcome
+pub fn word_tail(s: &[u8], place: usize, room: &mut [u32], n: usize) -> Outcome
     requires { ⌜ (place + length (now s) ≤ 65536) × (n ≤ place) ⌝ }
     ensures { λ r. ⌜ Wrote shownLayout n (now (room .entry)) (wordTail place (now (s .entry))) r (now (room .exit)) ⌝ }
 {
@@ -98,7 +100,7 @@ fn bare_length(w: &[u8]) -> usize
 }
 
 // The record of a word whose backslash stands at `place`.
-fn word_record(name: &[u8], property: Property, place: usize, names: &Table) -> Record
+pub fn word_record(name: &[u8], property: Property, place: usize, names: &Table) -> Record
     requires { ⌜ (place + (1 + length (now name)) ≤ 65536) × (now names ≡ rows) ⌝ }
     ensures { λ r. ⌜ r ≡ recordOf (shownWord place (now (name .entry)) property) ⌝ }
 {
@@ -135,7 +137,7 @@ fn named(w: &[u8], place: usize, names: &Table, room: &mut [u32], n: usize) -> O
 }
 
 // A word and the text behind it; s follows the backslash at `place`.
-fn word(s: &[u8], place: usize, names: &Table, room: &mut [u32], n: usize) -> Outcome
+pub fn word(s: &[u8], place: usize, names: &Table, room: &mut [u32], n: usize) -> Outcome
     requires { ⌜ (place + (1 + length (now s)) ≤ 65536) × (n ≤ place) × (now names ≡ rows) ⌝ }
     ensures { λ r. ⌜ Wrote shownLayout n (now (room .entry)) (wordOf place (now (s .entry))) r (now (room .exit)) ⌝ }
 {
@@ -224,7 +226,7 @@ fn escaped(s: &[u8], place: usize, names: &Table, room: &mut [u32], n: usize) ->
 }
 
 // An opening or a closing bracket has a token, a line feed none. The next place in the room.
-fn mark(b: u8, room: &mut [u32], n: usize) -> usize
+pub fn mark(b: u8, room: &mut [u32], n: usize) -> usize
     requires { ⌜ n < 65536 ⌝ }
     ensures { λ r. ⌜ Wrote shownLayout n (now (room .entry)) (markOf b) (Outcome.Done r) (now (room .exit)) ⌝ }
 {

@@ -17,10 +17,10 @@ use Rattle.pages.proofs.Page.blank.Reads as blank-reads
 use Rattle.styles.proofs.State.fresh.Reads as fresh-reads
 
 abbrev Inv-loop : tie.InvT-loop
-Inv-loop source reading tokens count blocks₀ text₀ first states₀ depth₀ page₀ t₀ n₀ blocks text states depth page t n = Loop reading source blocks₀ text₀ tokens count blocks text states depth page t n
+Inv-loop source reading tokens count blocks₀ text₀ first states₀ depth₀ top₀ page₀ t₀ n₀ blocks text states depth top page t n = Loop reading source blocks₀ text₀ tokens count blocks text states depth top page t n
 
 abbrev μ-loop : tie.MeasureT-loop
-μ-loop source reading tokens count blocks₀ text₀ first states₀ depth₀ page₀ t₀ n₀ blocks text states depth page t n = n
+μ-loop source reading tokens count blocks₀ text₀ first states₀ depth₀ top₀ page₀ t₀ n₀ blocks text states depth top page t n = n
 
 fresh-requires : tie.Need-fresh-requires Inv-loop μ-loop
 fresh-requires c κs = search needs
@@ -109,26 +109,14 @@ returns c = turn-refused (c .before .before .before .before .before .before .bef
 enum-told : tie.Need-enum-told Inv-loop μ-loop
 enum-told c = search needs
 
-array-set-from-states : tie.Need-array-set-from-states Inv-loop μ-loop
-array-set-from-states c = let a = c .before .before .before .before .before .before .before .before .before .before .loop .inv .all in omega arith
-
 loop-less-2 : tie.Need-loop-less-2 Inv-loop μ-loop
 loop-less-2 c = omega arith
 
 loop-again-2 : tie.Need-loop-again-2 Inv-loop μ-loop
 loop-again-2 c = turn-opened (c .before .before .before .before .before .before .before .before .before .before .loop .inv) (c .before .before .before .before .before .before .before .before .before .loop-test .taken) (c .before .before .before .before .before .before .before .before .item-at .ensures) (c .before .before .before .before .before .before .passed .ensures .0) (c .before .before .before .before .before .if1 .left) (c .before .before .before .before .if2 .taken) (c .before .before .bare-token .ensures) (c .enum-told .given .1) _ (c .before .before .before .before .before .before .before .before .before .before .before .before .fresh .ensures)
 
-sub-top : tie.Need-sub-top Inv-loop μ-loop
-sub-top c = search needs
-
-mul-top : tie.Need-mul-top Inv-loop μ-loop
-mul-top c = search needs
-
-array-copy-out-top : tie.Need-array-copy-out-top Inv-loop μ-loop
-array-copy-out-top c = search needs
-
 take-token-requires : tie.Need-take-token-requires Inv-loop μ-loop
-take-token-requires c κs = ((c .before .before .before .before .before .before .before .before .loop-test .taken, c .before .before .before .before .before .before .before .before .before .loop .inv .words, not-passed (c .before .before .before .before .before .before .before .before .before .loop .inv) (c .before .before .before .before .before .before .before .before .loop-test .taken) (c .before .before .before .before .before .before .before .item-at .ensures) (c .before .before .before .before .before .passed .ensures .0) (c .before .before .before .before .if1 .left)), c .before .before .before .before .before .before .before .before .before .loop .inv .ready)
+take-token-requires c κs = ((c .before .before .before .before .before .before .before .loop-test .taken, c .before .before .before .before .before .before .before .before .loop .inv .words, not-passed (c .before .before .before .before .before .before .before .before .loop .inv) (c .before .before .before .before .before .before .before .loop-test .taken) (c .before .before .before .before .before .before .item-at .ensures) (c .before .before .before .before .passed .ensures .0) (c .before .before .before .if1 .left)), c .before .before .before .before .before .before .before .before .loop .inv .ready)
 
 enum-told-2 : tie.Need-enum-told-2 Inv-loop μ-loop
 enum-told-2 c = search needs
@@ -137,46 +125,52 @@ of-requires : tie.Need-of-requires Inv-loop μ-loop
 of-requires c κs = search needs
 
 same-length-3 : tie.Need-same-length-3 Inv-loop μ-loop
-same-length-3 c = c .before .before .before .before .before .before .before .before .take-token .kept .1 .1 .1 .1 .1 .1 .0 ∙ c .before .before .before .before .before .before .before .before .before .before .before .before .before .before .before .before .before .before .loop .inv .long-b
+same-length-3 c = c .before .before .before .before .before .before .before .before .take-token .kept .1 .1 .1 .1 .1 .1 .0 ∙ c .before .before .before .before .before .before .before .before .before .before .before .before .before .before .before .before .before .loop .inv .long-b
 
 same-length-4 : tie.Need-same-length-4 Inv-loop μ-loop
-same-length-4 c = c .before .before .before .before .before .before .before .before .take-token .kept .1 .1 .1 .1 .1 .1 .1 .0 ∙ c .before .before .before .before .before .before .before .before .before .before .before .before .before .before .before .before .before .before .loop .inv .long-t
+same-length-4 c = c .before .before .before .before .before .before .before .before .take-token .kept .1 .1 .1 .1 .1 .1 .1 .0 ∙ c .before .before .before .before .before .before .before .before .before .before .before .before .before .before .before .before .before .loop .inv .long-t
 
 returns-2 : tie.Need-returns-2 Inv-loop μ-loop
-returns-2 c = turn-deep (c .before .before .before .before .before .before .before .before .before .before .before .before .before .before .before .before .before .before .loop .inv) (c .before .before .before .before .before .before .before .before .before .before .before .before .before .before .before .before .before .loop-test .taken) (ne-pos (c .before .before .before .before .before .before .before .before .before .before .before .before .if2 .left)) refl (c .before .before .before .before .before .before .before .before .take-token .ensures) (c .before .before .before .before .before .before .before .before .take-token .kept .1 .1 .1 .1 .1 .1 .0) (c .before .before .before .before .before .before .before .before .take-token .kept .1 .1 .1 .1 .1 .1 .1 .0) (c .before .before .enum-told2 .given .1) (c .before .if3 .taken) (c .of .ensures)
+returns-2 c = turn-deep (c .before .before .before .before .before .before .before .before .before .before .before .before .before .before .before .before .before .loop .inv) (c .before .before .before .before .before .before .before .before .before .before .before .before .before .before .before .before .loop-test .taken) (ne-pos (c .before .before .before .before .before .before .before .before .before .before .before .if2 .left)) (c .before .before .before .before .before .before .before .before .take-token .ensures) (c .before .before .before .before .before .before .before .before .take-token .kept .1 .1 .1 .1 .1 .1 .0) (c .before .before .before .before .before .before .before .before .take-token .kept .1 .1 .1 .1 .1 .1 .1 .0) (c .before .before .enum-told2 .given .1) (c .before .if3 .taken) (c .of .ensures)
 
 mul-states : tie.Need-mul-states Inv-loop μ-loop
 mul-states c = search needs
 
-array-set-from-states-2 : tie.Need-array-set-from-states-2 Inv-loop μ-loop
-array-set-from-states-2 c = search needs
+array-set-from-states : tie.Need-array-set-from-states Inv-loop μ-loop
+array-set-from-states c = let a = c .before .before .before .before .before .before .before .before .before .before .before .before .before .before .before .before .loop .inv .all in omega arith
 
 add-depth : tie.Need-add-depth Inv-loop μ-loop
 add-depth c = search needs
 
 sub-t-3 : tie.Need-sub-t-3 Inv-loop μ-loop
-sub-t-3 c = let z = c .before .before .before .before .before .before .before .before .before .before .before .before .before .before .before .before .loop-test .taken in let w = c .before .before .before .before .before .before .before .before .before .before .before .before .before .before .before .before .before .loop .inv .words in let v = c .before .before .before .before .before .before .before .before .before .before .before .before .before .before .before .before .before .loop .inv .few in omega arith
+sub-t-3 c = let z = c .before .before .before .before .before .before .before .before .before .before .before .before .before .before .before .loop-test .taken in let w = c .before .before .before .before .before .before .before .before .before .before .before .before .before .before .before .before .loop .inv .words in let v = c .before .before .before .before .before .before .before .before .before .before .before .before .before .before .before .before .loop .inv .few in omega arith
 
 part-t-start-3 : tie.Need-part-t-start-3 Inv-loop μ-loop
-part-t-start-3 c = let z = c .before .before .before .before .before .before .before .before .before .before .before .before .before .before .before .before .loop-test .taken in let w = c .before .before .before .before .before .before .before .before .before .before .before .before .before .before .before .before .before .loop .inv .words in let v = c .before .before .before .before .before .before .before .before .before .before .before .before .before .before .before .before .before .loop .inv .few in omega arith
+part-t-start-3 c = let z = c .before .before .before .before .before .before .before .before .before .before .before .before .before .before .before .loop-test .taken in let w = c .before .before .before .before .before .before .before .before .before .before .before .before .before .before .before .before .loop .inv .words in let v = c .before .before .before .before .before .before .before .before .before .before .before .before .before .before .before .before .loop .inv .few in omega arith
 
 part-t-end-3 : tie.Need-part-t-end-3 Inv-loop μ-loop
 part-t-end-3 c = omega arith
 
 sub-n-3 : tie.Need-sub-n-3 Inv-loop μ-loop
-sub-n-3 c = let z = c .before .before .before .before .before .before .before .before .before .before .before .before .before .before .before .before .before .loop-test .taken in let w = c .before .before .before .before .before .before .before .before .before .before .before .before .before .before .before .before .before .before .loop .inv .words in let v = c .before .before .before .before .before .before .before .before .before .before .before .before .before .before .before .before .before .before .loop .inv .few in omega arith
+sub-n-3 c = let z = c .before .before .before .before .before .before .before .before .before .before .before .before .before .before .before .before .loop-test .taken in let w = c .before .before .before .before .before .before .before .before .before .before .before .before .before .before .before .before .before .loop .inv .words in let v = c .before .before .before .before .before .before .before .before .before .before .before .before .before .before .before .before .before .loop .inv .few in omega arith
 
 loop-less-3 : tie.Need-loop-less-3 Inv-loop μ-loop
 loop-less-3 c = omega arith
 
 loop-again-3 : tie.Need-loop-again-3 Inv-loop μ-loop
-loop-again-3 c = turn-push (c .before .before .before .before .before .before .before .before .before .before .before .before .before .before .before .before .before .before .loop .inv) (c .before .before .before .before .before .before .before .before .before .before .before .before .before .before .before .before .before .loop-test .taken) (ne-pos (c .before .before .before .before .before .before .before .before .before .before .before .before .if2 .left)) refl (c .before .before .before .before .before .before .before .before .take-token .ensures) (c .before .before .before .before .before .before .before .before .take-token .kept .1 .1 .1 .1 .1 .1 .0) (c .before .before .before .before .before .before .before .before .take-token .kept .1 .1 .1 .1 .1 .1 .1 .0) (c .before .before .enum-told2 .given .1) (c .before .if3 .left)
+loop-again-3 c = turn-push (c .before .before .before .before .before .before .before .before .before .before .before .before .before .before .before .before .before .loop .inv) (c .before .before .before .before .before .before .before .before .before .before .before .before .before .before .before .before .loop-test .taken) (ne-pos (c .before .before .before .before .before .before .before .before .before .before .before .if2 .left)) (c .before .before .before .before .before .before .before .before .take-token .ensures) (c .before .before .before .before .before .before .before .before .take-token .kept .1 .1 .1 .1 .1 .1 .0) (c .before .before .before .before .before .before .before .before .take-token .kept .1 .1 .1 .1 .1 .1 .1 .0) (c .before .before .enum-told2 .given .1) (c .before .if3 .left)
 
 enum-told-3 : tie.Need-enum-told-3 Inv-loop μ-loop
 enum-told-3 c = search needs
 
 sub-depth : tie.Need-sub-depth Inv-loop μ-loop
 sub-depth c = search needs
+
+mul-top : tie.Need-mul-top Inv-loop μ-loop
+mul-top c = search needs
+
+array-copy-out-top : tie.Need-array-copy-out-top Inv-loop μ-loop
+array-copy-out-top c = search needs
 
 sub-t-4 : tie.Need-sub-t-4 Inv-loop μ-loop
 sub-t-4 c = let z = c .before .before .before .before .before .before .before .before .before .before .before .before .before .before .before .loop-test .taken in let w = c .before .before .before .before .before .before .before .before .before .before .before .before .before .before .before .before .loop .inv .words in let v = c .before .before .before .before .before .before .before .before .before .before .before .before .before .before .before .before .loop .inv .few in omega arith
@@ -194,76 +188,67 @@ loop-less-4 : tie.Need-loop-less-4 Inv-loop μ-loop
 loop-less-4 c = omega arith
 
 loop-again-4 : tie.Need-loop-again-4 Inv-loop μ-loop
-loop-again-4 c = turn-pop (c .before .before .before .before .before .before .before .before .before .before .before .before .before .before .before .before .before .loop .inv) (c .before .before .before .before .before .before .before .before .before .before .before .before .before .before .before .before .loop-test .taken) (ne-pos (c .before .before .before .before .before .before .before .before .before .before .before .if2 .left)) refl (c .before .before .before .before .before .before .before .take-token .ensures) (c .before .before .before .before .before .before .before .take-token .kept .1 .1 .1 .1 .1 .1 .0) (c .before .before .before .before .before .before .before .take-token .kept .1 .1 .1 .1 .1 .1 .1 .0) (c .before .enum-told3 .given .1)
+loop-again-4 c = turn-pop (c .before .before .before .before .before .before .before .before .before .before .before .before .before .before .before .before .before .loop .inv) (c .before .before .before .before .before .before .before .before .before .before .before .before .before .before .before .before .loop-test .taken) (ne-pos (c .before .before .before .before .before .before .before .before .before .before .before .if2 .left)) (c .before .before .before .before .before .before .before .before .take-token .ensures) (c .before .before .before .before .before .before .before .before .take-token .kept .1 .1 .1 .1 .1 .1 .0) (c .before .before .before .before .before .before .before .before .take-token .kept .1 .1 .1 .1 .1 .1 .1 .0) (c .before .before .enum-told3 .given .1)
 
 enum-known-a : tie.Need-enum-known-a Inv-loop μ-loop
 enum-known-a c = search needs
 
-sub-states : tie.Need-sub-states Inv-loop μ-loop
-sub-states c = search needs
-
-mul-states-2 : tie.Need-mul-states-2 Inv-loop μ-loop
-mul-states-2 c = let d = c .before .before .before .before .before .before .before .before .before .before .before .before .before .before .before .before .before .loop .inv .deep in omega arith
-
-array-set-from-states-3 : tie.Need-array-set-from-states-3 Inv-loop μ-loop
-array-set-from-states-3 c = let d = c .before .before .before .before .before .before .before .before .before .before .before .before .before .before .before .before .before .loop .inv .deep in let a = c .before .before .before .before .before .before .before .before .before .before .before .before .before .before .before .before .before .loop .inv .all in omega arith
-
 sub-t-5 : tie.Need-sub-t-5 Inv-loop μ-loop
-sub-t-5 c = let z = c .before .before .before .before .before .before .before .before .before .before .before .before .before .before .before .before .loop-test .taken in let w = c .before .before .before .before .before .before .before .before .before .before .before .before .before .before .before .before .before .loop .inv .words in let v = c .before .before .before .before .before .before .before .before .before .before .before .before .before .before .before .before .before .loop .inv .few in omega arith
+sub-t-5 c = let z = c .before .before .before .before .before .before .before .before .before .before .before .before .before .before .before .loop-test .taken in let w = c .before .before .before .before .before .before .before .before .before .before .before .before .before .before .before .before .loop .inv .words in let v = c .before .before .before .before .before .before .before .before .before .before .before .before .before .before .before .before .loop .inv .few in omega arith
 
 part-t-start-5 : tie.Need-part-t-start-5 Inv-loop μ-loop
-part-t-start-5 c = let z = c .before .before .before .before .before .before .before .before .before .before .before .before .before .before .before .before .loop-test .taken in let w = c .before .before .before .before .before .before .before .before .before .before .before .before .before .before .before .before .before .loop .inv .words in let v = c .before .before .before .before .before .before .before .before .before .before .before .before .before .before .before .before .before .loop .inv .few in omega arith
+part-t-start-5 c = let z = c .before .before .before .before .before .before .before .before .before .before .before .before .before .before .before .loop-test .taken in let w = c .before .before .before .before .before .before .before .before .before .before .before .before .before .before .before .before .loop .inv .words in let v = c .before .before .before .before .before .before .before .before .before .before .before .before .before .before .before .before .loop .inv .few in omega arith
 
 part-t-end-5 : tie.Need-part-t-end-5 Inv-loop μ-loop
 part-t-end-5 c = omega arith
 
 sub-n-5 : tie.Need-sub-n-5 Inv-loop μ-loop
-sub-n-5 c = let z = c .before .before .before .before .before .before .before .before .before .before .before .before .before .before .before .before .before .loop-test .taken in let w = c .before .before .before .before .before .before .before .before .before .before .before .before .before .before .before .before .before .before .loop .inv .words in let v = c .before .before .before .before .before .before .before .before .before .before .before .before .before .before .before .before .before .before .loop .inv .few in omega arith
+sub-n-5 c = let z = c .before .before .before .before .before .before .before .before .before .before .before .before .before .before .before .before .loop-test .taken in let w = c .before .before .before .before .before .before .before .before .before .before .before .before .before .before .before .before .before .loop .inv .words in let v = c .before .before .before .before .before .before .before .before .before .before .before .before .before .before .before .before .before .loop .inv .few in omega arith
 
 loop-less-5 : tie.Need-loop-less-5 Inv-loop μ-loop
-loop-less-5 c = let z = c .before .before .before .before .before .before .before .before .before .before .before .before .before .before .before .before .before .loop-test .taken in omega arith
+loop-less-5 c = let z = c .before .before .before .before .before .before .before .before .before .before .before .before .before .before .before .before .loop-test .taken in omega arith
 
 loop-again-5 : tie.Need-loop-again-5 Inv-loop μ-loop
-loop-again-5 c = turn-keep (c .before .before .before .before .before .before .before .before .before .before .before .before .before .before .before .before .before .before .loop .inv) (c .before .before .before .before .before .before .before .before .before .before .before .before .before .before .before .before .before .loop-test .taken) (ne-pos (c .before .before .before .before .before .before .before .before .before .before .before .before .if2 .left)) refl (c .before .before .before .before .before .before .before .before .take-token .ensures) (c .before .before .before .before .before .before .before .before .take-token .kept .1 .1 .1 .1 .1 .1 .0) (c .before .before .before .before .before .before .before .before .take-token .kept .1 .1 .1 .1 .1 .1 .1 .0) (c .before .before .a .given .1)
+loop-again-5 c = turn-keep (c .before .before .before .before .before .before .before .before .before .before .before .before .before .before .before .before .before .loop .inv) (c .before .before .before .before .before .before .before .before .before .before .before .before .before .before .before .before .loop-test .taken) (ne-pos (c .before .before .before .before .before .before .before .before .before .before .before .if2 .left)) (c .before .before .before .before .before .before .before .before .take-token .ensures) (c .before .before .before .before .before .before .before .before .take-token .kept .1 .1 .1 .1 .1 .1 .0) (c .before .before .before .before .before .before .before .before .take-token .kept .1 .1 .1 .1 .1 .1 .1 .0) (c .before .before .a .given .1)
 
 enum-known-a-2 : tie.Need-enum-known-a-2 Inv-loop μ-loop
 enum-known-a-2 c = search needs
 
 mul-at-2 : tie.Need-mul-at-2 Inv-loop μ-loop
-mul-at-2 c = let z = c .before .before .before .before .before .before .before .before .before .before .before .before .before .before .before .before .loop-test .taken in let w = c .before .before .before .before .before .before .before .before .before .before .before .before .before .before .before .before .before .loop .inv .words in let v = c .before .before .before .before .before .before .before .before .before .before .before .before .before .before .before .before .before .loop .inv .few in let u = said-fits (c .before .before .before .before .before .before .before .before .before .before .before .before .before .before .before .before .before .loop .inv) (c .before .before .before .before .before .before .before .before .before .before .before .before .before .before .before .before .loop-test .taken) (ne-pos (c .before .before .before .before .before .before .before .before .before .before .before .if2 .left)) refl (c .before .before .before .before .before .before .before .take-token .ensures) (c .before .before .before .before .before .before .before .take-token .kept .1 .1 .1 .1 .1 .1 .0) (c .before .before .before .before .before .before .before .take-token .kept .1 .1 .1 .1 .1 .1 .1 .0) (c .before .a2 .given .1) in omega arith
+mul-at-2 c = let z = c .before .before .before .before .before .before .before .before .before .before .before .before .before .before .before .loop-test .taken in let w = c .before .before .before .before .before .before .before .before .before .before .before .before .before .before .before .before .loop .inv .words in let v = c .before .before .before .before .before .before .before .before .before .before .before .before .before .before .before .before .loop .inv .few in let u = said-fits (c .before .before .before .before .before .before .before .before .before .before .before .before .before .before .before .before .loop .inv) (c .before .before .before .before .before .before .before .before .before .before .before .before .before .before .before .loop-test .taken) (ne-pos (c .before .before .before .before .before .before .before .before .before .before .if2 .left)) (c .before .before .before .before .before .before .before .take-token .ensures) (c .before .before .before .before .before .before .before .take-token .kept .1 .1 .1 .1 .1 .1 .0) (c .before .before .before .before .before .before .before .take-token .kept .1 .1 .1 .1 .1 .1 .1 .0) (c .before .a2 .given .1) in omega arith
 
 mul-t-2 : tie.Need-mul-t-2 Inv-loop μ-loop
-mul-t-2 c = let z = c .before .before .before .before .before .before .before .before .before .before .before .before .before .before .before .before .loop-test .taken in let w = c .before .before .before .before .before .before .before .before .before .before .before .before .before .before .before .before .before .loop .inv .words in let v = c .before .before .before .before .before .before .before .before .before .before .before .before .before .before .before .before .before .loop .inv .few in let u = said-fits (c .before .before .before .before .before .before .before .before .before .before .before .before .before .before .before .before .before .loop .inv) (c .before .before .before .before .before .before .before .before .before .before .before .before .before .before .before .before .loop-test .taken) (ne-pos (c .before .before .before .before .before .before .before .before .before .before .before .if2 .left)) refl (c .before .before .before .before .before .before .before .take-token .ensures) (c .before .before .before .before .before .before .before .take-token .kept .1 .1 .1 .1 .1 .1 .0) (c .before .before .before .before .before .before .before .take-token .kept .1 .1 .1 .1 .1 .1 .1 .0) (c .before .a2 .given .1) in omega arith
+mul-t-2 c = let z = c .before .before .before .before .before .before .before .before .before .before .before .before .before .before .before .loop-test .taken in let w = c .before .before .before .before .before .before .before .before .before .before .before .before .before .before .before .before .loop .inv .words in let v = c .before .before .before .before .before .before .before .before .before .before .before .before .before .before .before .before .loop .inv .few in let u = said-fits (c .before .before .before .before .before .before .before .before .before .before .before .before .before .before .before .before .loop .inv) (c .before .before .before .before .before .before .before .before .before .before .before .before .before .before .before .loop-test .taken) (ne-pos (c .before .before .before .before .before .before .before .before .before .before .if2 .left)) (c .before .before .before .before .before .before .before .take-token .ensures) (c .before .before .before .before .before .before .before .take-token .kept .1 .1 .1 .1 .1 .1 .0) (c .before .before .before .before .before .before .before .take-token .kept .1 .1 .1 .1 .1 .1 .1 .0) (c .before .a2 .given .1) in omega arith
 
 sub-t-6 : tie.Need-sub-t-6 Inv-loop μ-loop
-sub-t-6 c = let z = c .before .before .before .before .before .before .before .before .before .before .before .before .before .before .before .before .loop-test .taken in let w = c .before .before .before .before .before .before .before .before .before .before .before .before .before .before .before .before .before .loop .inv .words in let v = c .before .before .before .before .before .before .before .before .before .before .before .before .before .before .before .before .before .loop .inv .few in let u = said-fits (c .before .before .before .before .before .before .before .before .before .before .before .before .before .before .before .before .before .loop .inv) (c .before .before .before .before .before .before .before .before .before .before .before .before .before .before .before .before .loop-test .taken) (ne-pos (c .before .before .before .before .before .before .before .before .before .before .before .if2 .left)) refl (c .before .before .before .before .before .before .before .take-token .ensures) (c .before .before .before .before .before .before .before .take-token .kept .1 .1 .1 .1 .1 .1 .0) (c .before .before .before .before .before .before .before .take-token .kept .1 .1 .1 .1 .1 .1 .1 .0) (c .before .a2 .given .1) in omega arith
+sub-t-6 c = let z = c .before .before .before .before .before .before .before .before .before .before .before .before .before .before .before .loop-test .taken in let w = c .before .before .before .before .before .before .before .before .before .before .before .before .before .before .before .before .loop .inv .words in let v = c .before .before .before .before .before .before .before .before .before .before .before .before .before .before .before .before .loop .inv .few in let u = said-fits (c .before .before .before .before .before .before .before .before .before .before .before .before .before .before .before .before .loop .inv) (c .before .before .before .before .before .before .before .before .before .before .before .before .before .before .before .loop-test .taken) (ne-pos (c .before .before .before .before .before .before .before .before .before .before .if2 .left)) (c .before .before .before .before .before .before .before .take-token .ensures) (c .before .before .before .before .before .before .before .take-token .kept .1 .1 .1 .1 .1 .1 .0) (c .before .before .before .before .before .before .before .take-token .kept .1 .1 .1 .1 .1 .1 .1 .0) (c .before .a2 .given .1) in omega arith
 
 part-t-start-6 : tie.Need-part-t-start-6 Inv-loop μ-loop
-part-t-start-6 c = let z = c .before .before .before .before .before .before .before .before .before .before .before .before .before .before .before .before .loop-test .taken in let w = c .before .before .before .before .before .before .before .before .before .before .before .before .before .before .before .before .before .loop .inv .words in let v = c .before .before .before .before .before .before .before .before .before .before .before .before .before .before .before .before .before .loop .inv .few in let u = said-fits (c .before .before .before .before .before .before .before .before .before .before .before .before .before .before .before .before .before .loop .inv) (c .before .before .before .before .before .before .before .before .before .before .before .before .before .before .before .before .loop-test .taken) (ne-pos (c .before .before .before .before .before .before .before .before .before .before .before .if2 .left)) refl (c .before .before .before .before .before .before .before .take-token .ensures) (c .before .before .before .before .before .before .before .take-token .kept .1 .1 .1 .1 .1 .1 .0) (c .before .before .before .before .before .before .before .take-token .kept .1 .1 .1 .1 .1 .1 .1 .0) (c .before .a2 .given .1) in omega arith
+part-t-start-6 c = let z = c .before .before .before .before .before .before .before .before .before .before .before .before .before .before .before .loop-test .taken in let w = c .before .before .before .before .before .before .before .before .before .before .before .before .before .before .before .before .loop .inv .words in let v = c .before .before .before .before .before .before .before .before .before .before .before .before .before .before .before .before .loop .inv .few in let u = said-fits (c .before .before .before .before .before .before .before .before .before .before .before .before .before .before .before .before .loop .inv) (c .before .before .before .before .before .before .before .before .before .before .before .before .before .before .before .loop-test .taken) (ne-pos (c .before .before .before .before .before .before .before .before .before .before .if2 .left)) (c .before .before .before .before .before .before .before .take-token .ensures) (c .before .before .before .before .before .before .before .take-token .kept .1 .1 .1 .1 .1 .1 .0) (c .before .before .before .before .before .before .before .take-token .kept .1 .1 .1 .1 .1 .1 .1 .0) (c .before .a2 .given .1) in omega arith
 
 part-t-end-6 : tie.Need-part-t-end-6 Inv-loop μ-loop
 part-t-end-6 c = omega arith
 
 sub-n-6 : tie.Need-sub-n-6 Inv-loop μ-loop
-sub-n-6 c = let z = c .before .before .before .before .before .before .before .before .before .before .before .before .before .before .before .before .before .loop-test .taken in let w = c .before .before .before .before .before .before .before .before .before .before .before .before .before .before .before .before .before .before .loop .inv .words in let v = c .before .before .before .before .before .before .before .before .before .before .before .before .before .before .before .before .before .before .loop .inv .few in let u = said-fits (c .before .before .before .before .before .before .before .before .before .before .before .before .before .before .before .before .before .before .loop .inv) (c .before .before .before .before .before .before .before .before .before .before .before .before .before .before .before .before .before .loop-test .taken) (ne-pos (c .before .before .before .before .before .before .before .before .before .before .before .before .if2 .left)) refl (c .before .before .before .before .before .before .before .before .take-token .ensures) (c .before .before .before .before .before .before .before .before .take-token .kept .1 .1 .1 .1 .1 .1 .0) (c .before .before .before .before .before .before .before .before .take-token .kept .1 .1 .1 .1 .1 .1 .1 .0) (c .before .before .a2 .given .1) in omega arith
+sub-n-6 c = let z = c .before .before .before .before .before .before .before .before .before .before .before .before .before .before .before .before .loop-test .taken in let w = c .before .before .before .before .before .before .before .before .before .before .before .before .before .before .before .before .before .loop .inv .words in let v = c .before .before .before .before .before .before .before .before .before .before .before .before .before .before .before .before .before .loop .inv .few in let u = said-fits (c .before .before .before .before .before .before .before .before .before .before .before .before .before .before .before .before .before .loop .inv) (c .before .before .before .before .before .before .before .before .before .before .before .before .before .before .before .before .loop-test .taken) (ne-pos (c .before .before .before .before .before .before .before .before .before .before .before .if2 .left)) (c .before .before .before .before .before .before .before .before .take-token .ensures) (c .before .before .before .before .before .before .before .before .take-token .kept .1 .1 .1 .1 .1 .1 .0) (c .before .before .before .before .before .before .before .before .take-token .kept .1 .1 .1 .1 .1 .1 .1 .0) (c .before .before .a2 .given .1) in omega arith
 
 loop-less-6 : tie.Need-loop-less-6 Inv-loop μ-loop
-loop-less-6 c = let u = said-fits (c .before .before .before .before .before .before .before .before .before .before .before .before .before .before .before .before .before .before .loop .inv) (c .before .before .before .before .before .before .before .before .before .before .before .before .before .before .before .before .before .loop-test .taken) (ne-pos (c .before .before .before .before .before .before .before .before .before .before .before .before .if2 .left)) refl (c .before .before .before .before .before .before .before .before .take-token .ensures) (c .before .before .before .before .before .before .before .before .take-token .kept .1 .1 .1 .1 .1 .1 .0) (c .before .before .before .before .before .before .before .before .take-token .kept .1 .1 .1 .1 .1 .1 .1 .0) (c .before .before .a2 .given .1) in omega arith
+loop-less-6 c = let u = said-fits (c .before .before .before .before .before .before .before .before .before .before .before .before .before .before .before .before .before .loop .inv) (c .before .before .before .before .before .before .before .before .before .before .before .before .before .before .before .before .loop-test .taken) (ne-pos (c .before .before .before .before .before .before .before .before .before .before .before .if2 .left)) (c .before .before .before .before .before .before .before .before .take-token .ensures) (c .before .before .before .before .before .before .before .before .take-token .kept .1 .1 .1 .1 .1 .1 .0) (c .before .before .before .before .before .before .before .before .take-token .kept .1 .1 .1 .1 .1 .1 .1 .0) (c .before .before .a2 .given .1) in omega arith
 
 loop-again-6 : tie.Need-loop-again-6 Inv-loop μ-loop
-loop-again-6 c = turn-said (c .before .before .before .before .before .before .before .before .before .before .before .before .before .before .before .before .before .before .loop .inv) (c .before .before .before .before .before .before .before .before .before .before .before .before .before .before .before .before .before .loop-test .taken) (ne-pos (c .before .before .before .before .before .before .before .before .before .before .before .before .if2 .left)) refl (c .before .before .before .before .before .before .before .before .take-token .ensures) (c .before .before .before .before .before .before .before .before .take-token .kept .1 .1 .1 .1 .1 .1 .0) (c .before .before .before .before .before .before .before .before .take-token .kept .1 .1 .1 .1 .1 .1 .1 .0) (c .before .before .a2 .given .1)
+loop-again-6 c = turn-said (c .before .before .before .before .before .before .before .before .before .before .before .before .before .before .before .before .before .loop .inv) (c .before .before .before .before .before .before .before .before .before .before .before .before .before .before .before .before .loop-test .taken) (ne-pos (c .before .before .before .before .before .before .before .before .before .before .before .if2 .left)) (c .before .before .before .before .before .before .before .before .take-token .ensures) (c .before .before .before .before .before .before .before .before .take-token .kept .1 .1 .1 .1 .1 .1 .0) (c .before .before .before .before .before .before .before .before .take-token .kept .1 .1 .1 .1 .1 .1 .1 .0) (c .before .before .a2 .given .1)
 
 enum-known-a-3 : tie.Need-enum-known-a-3 Inv-loop μ-loop
 enum-known-a-3 c = search needs
 
 same-length-5 : tie.Need-same-length-5 Inv-loop μ-loop
-same-length-5 c = c .before .before .before .before .before .before .before .take-token .kept .1 .1 .1 .1 .1 .1 .0 ∙ c .before .before .before .before .before .before .before .before .before .before .before .before .before .before .before .before .before .loop .inv .long-b
+same-length-5 c = c .before .before .before .before .before .before .before .take-token .kept .1 .1 .1 .1 .1 .1 .0 ∙ c .before .before .before .before .before .before .before .before .before .before .before .before .before .before .before .before .loop .inv .long-b
 
 same-length-6 : tie.Need-same-length-6 Inv-loop μ-loop
-same-length-6 c = c .before .before .before .before .before .before .before .take-token .kept .1 .1 .1 .1 .1 .1 .1 .0 ∙ c .before .before .before .before .before .before .before .before .before .before .before .before .before .before .before .before .before .loop .inv .long-t
+same-length-6 c = c .before .before .before .before .before .before .before .take-token .kept .1 .1 .1 .1 .1 .1 .1 .0 ∙ c .before .before .before .before .before .before .before .before .before .before .before .before .before .before .before .before .loop .inv .long-t
 
 returns-3 : tie.Need-returns-3 Inv-loop μ-loop
-returns-3 c = turn-bad (c .before .before .before .before .before .before .before .before .before .before .before .before .before .before .before .before .before .loop .inv) (c .before .before .before .before .before .before .before .before .before .before .before .before .before .before .before .before .loop-test .taken) (ne-pos (c .before .before .before .before .before .before .before .before .before .before .before .if2 .left)) refl (c .before .before .before .before .before .before .before .take-token .ensures) (c .before .before .before .before .before .before .before .take-token .kept .1 .1 .1 .1 .1 .1 .0) (c .before .before .before .before .before .before .before .take-token .kept .1 .1 .1 .1 .1 .1 .1 .0) (c .before .a3 .given .1)
+returns-3 c = turn-bad (c .before .before .before .before .before .before .before .before .before .before .before .before .before .before .before .before .loop .inv) (c .before .before .before .before .before .before .before .before .before .before .before .before .before .before .before .loop-test .taken) (ne-pos (c .before .before .before .before .before .before .before .before .before .before .if2 .left)) (c .before .before .before .before .before .before .before .take-token .ensures) (c .before .before .before .before .before .before .before .take-token .kept .1 .1 .1 .1 .1 .1 .0) (c .before .before .before .before .before .before .before .take-token .kept .1 .1 .1 .1 .1 .1 .1 .0) (c .before .a3 .given .1)
 
 same-length-7 : tie.Need-same-length-7 Inv-loop μ-loop
 same-length-7 c = c .before .loop .inv .long-b
@@ -309,12 +294,8 @@ lay-body-spec =
     same-length-2
     returns
     enum-told
-    array-set-from-states
     loop-less-2
     loop-again-2
-    sub-top
-    mul-top
-    array-copy-out-top
     take-token-requires
     enum-told-2
     of-requires
@@ -322,7 +303,7 @@ lay-body-spec =
     same-length-4
     returns-2
     mul-states
-    array-set-from-states-2
+    array-set-from-states
     add-depth
     sub-t-3
     part-t-start-3
@@ -332,6 +313,8 @@ lay-body-spec =
     loop-again-3
     enum-told-3
     sub-depth
+    mul-top
+    array-copy-out-top
     sub-t-4
     part-t-start-4
     part-t-end-4
@@ -339,9 +322,6 @@ lay-body-spec =
     loop-less-4
     loop-again-4
     enum-known-a
-    sub-states
-    mul-states-2
-    array-set-from-states-3
     sub-t-5
     part-t-start-5
     part-t-end-5

@@ -1,49 +1,54 @@
 -- `all_slices` meets its contract. The invariant: whoever cuts what is left has cut all; the bytes left are the measure.
-use borrow.Author.Needs.{needs}
 use mathlib.Core.Path.{_∙_}
 use native.Mathlib.Omega.{arith}
 use lib.ListN.{length, length-take}
+use borrow.Author.Needs.{needs}
 use Rattle.rooms.proofs.Rooms.{wrote-none}
 use Rattle.tokens.specs.Tokens.{tokenLayout}
 use Rattle.cutter.proofs.Loop.{Loop, all-none, loop-start, loop-falls, loop-stop, loop-next, loop-last}
 use Rattle.cutter.proofs.all_slices.Statement.{statement}
 use Rattle.cutter.proofs.all_slices.Tie as tie
+use Rattle.cutter.proofs.all_slices.Reads as reads
+use Rattle.cutter.proofs.all_slices.Lts as lts
+use Rattle.cutter.proofs.last.Reads as last-reads
+use Rattle.quick.proofs.slice_tokens.Reads as slice-tokens-reads
+use Rattle.slices.proofs.slice_end.Reads as slice-end-reads
 
 abbrev Inv-loop : tie.InvT-loop
-Inv-loop s place names room₀ t₀ p₀ n₀ e₀ room t p n e = Loop place s room₀ room t p n e
+Inv-loop s place names room₀ t₀ p₀ n₀ room t p n = Loop place s room₀ room t p n
 
 abbrev μ-loop : tie.MeasureT-loop
-μ-loop s place names room₀ t₀ p₀ n₀ e₀ room t p n e = length t
+μ-loop s place names room₀ t₀ p₀ n₀ room t p n = length t
 
 returns : tie.Need-returns Inv-loop μ-loop
 returns c = wrote-none tokenLayout (all-none _ _ (c .if1 .taken))
 
+loop-holds : tie.Need-loop-holds Inv-loop μ-loop
+loop-holds c = loop-start _ _ _ (c .if1 .left) (c .before .before .before .pre .0)
+
 slice-end-requires : tie.Need-slice-end-requires Inv-loop μ-loop
 slice-end-requires c κs = search needs
 
-loop-holds : tie.Need-loop-holds Inv-loop μ-loop
-loop-holds c = loop-start _ _ _ _ (c .before .if1 .left) (c .before .before .before .before .pre .0) (c .slice-end .ensures)
+slice-aggregate-slice-tokens : tie.Need-slice-aggregate-slice-tokens Inv-loop μ-loop
+slice-aggregate-slice-tokens c = simp length-take (omega arith)
 
-slice-aggregate-tokenize : tie.Need-slice-aggregate-tokenize Inv-loop μ-loop
-slice-aggregate-tokenize c = simp length-take (omega arith)
-
-tokenize-requires : tie.Need-tokenize-requires Inv-loop μ-loop
-tokenize-requires c κs = (simp length-take (omega arith), search needs, c .before .before .before .before .before .before .before .before .pre .1)
+slice-tokens-requires : tie.Need-slice-tokens-requires Inv-loop μ-loop
+slice-tokens-requires c κs = (simp length-take (omega (arith, c .before .before .before .before .loop .inv .fits, c .before .before .if2 .left)), c .before .before .before .before .loop .inv .below, c .before .before .before .before .before .before .before .before .pre .1)
 
 enum-known-one : tie.Need-enum-known-one Inv-loop μ-loop
 enum-known-one c = search needs
 
 same-length : tie.Need-same-length Inv-loop μ-loop
-same-length c = c .before .before .before .before .before .tokenize .kept .1 .1 .1 .0 ∙ c .before .before .before .before .before .before .before .before .before .loop .inv .long
+same-length c = c .before .before .before .before .before .slice-tokens .kept .1 .1 .1 .0 ∙ c .before .before .before .before .before .before .before .before .before .before .loop .inv .long
 
 returns-2 : tie.Need-returns-2 Inv-loop μ-loop
-returns-2 c = loop-stop (c .before .before .before .before .before .before .before .before .before .loop .inv) (c .before .before .before .before .before .before .before .before .loop-test .taken) (c .before .before .before .before .before .tokenize .ensures) (c .before .one .given .1)
+returns-2 c = loop-stop (c .before .before .before .before .before .before .before .before .before .before .loop .inv) (c .before .before .before .before .before .before .before .before .before .slice-end .ensures) (c .before .before .before .before .before .before .before .before .if2 .left) (c .before .before .before .before .before .slice-tokens .ensures) (c .before .one .given .1)
 
 enum-known-one-2 : tie.Need-enum-known-one-2 Inv-loop μ-loop
 enum-known-one-2 c = search needs
 
 sub-t : tie.Need-sub-t Inv-loop μ-loop
-sub-t c = search needs
+sub-t c = omega (arith, c .before .before .before .before .before .before .before .before .if2 .left)
 
 part-t-start : tie.Need-part-t-start Inv-loop μ-loop
 part-t-start c = search needs
@@ -52,25 +57,22 @@ part-t-end : tie.Need-part-t-end Inv-loop μ-loop
 part-t-end c = search needs
 
 add-p : tie.Need-add-p Inv-loop μ-loop
-add-p c = search needs
-
-slice-end-requires-2 : tie.Need-slice-end-requires-2 Inv-loop μ-loop
-slice-end-requires-2 c κs = search needs
+add-p c = omega (arith, c .before .before .before .before .before .before .before .before .before .before .before .loop .inv .fits, c .before .before .before .before .before .before .before .before .before .if2 .left)
 
 loop-less : tie.Need-loop-less Inv-loop μ-loop
-loop-less c = loop-falls (c .before .before .before .before .before .before .before .before .before .before .before .loop .inv) (c .before .before .before .before .before .before .before .before .before .before .loop-test .taken)
+loop-less c = loop-falls (c .before .before .before .before .before .before .before .before .before .before .before .loop .inv) (c .before .before .before .before .before .before .before .before .before .before .slice-end .ensures) (c .before .before .before .before .before .before .before .before .before .if2 .left)
 
 loop-again : tie.Need-loop-again Inv-loop μ-loop
-loop-again c = loop-next (c .before .before .before .before .before .before .before .before .before .before .before .loop .inv) (c .before .before .before .before .before .before .before .before .before .before .loop-test .taken) (c .before .before .before .before .before .before .before .tokenize .ensures) (c .before .before .before .one2 .given .1) (c .slice-end2 .ensures)
+loop-again c = loop-next (c .before .before .before .before .before .before .before .before .before .before .before .loop .inv) (c .before .before .before .before .before .before .before .before .before .before .slice-end .ensures) (c .before .before .before .before .before .before .before .before .before .if2 .left) (c .before .before .before .before .before .before .slice-tokens .ensures) (c .before .before .one2 .given .1)
 
 last-requires : tie.Need-last-requires Inv-loop μ-loop
-last-requires c κs = omega arith
+last-requires c κs = omega (arith, c .before .before .before .loop .inv .fits, c .before .before .before .loop .inv .some, c .before .before .before .loop .inv .below)
 
 same-length-2 : tie.Need-same-length-2 Inv-loop μ-loop
-same-length-2 c = c .before .before .last .kept .1 .1 .0 ∙ c .before .before .before .before .before .loop .inv .long
+same-length-2 c = c .before .before .last .kept .1 .1 .0 ∙ c .before .before .before .before .before .before .loop .inv .long
 
 returns-3 : tie.Need-returns-3 Inv-loop μ-loop
-returns-3 c = loop-last (c .before .before .before .before .before .loop .inv) (c .before .before .before .before .loop-test .left) (c .before .before .last .ensures)
+returns-3 c = loop-last (c .before .before .before .before .before .before .loop .inv) (c .before .before .before .before .before .slice-end .ensures) (c .before .before .before .before .if2 .taken) (c .before .before .last .ensures)
 
 pub all-slices-spec : {M : Type 1} → statement M
 all-slices-spec =
@@ -79,10 +81,10 @@ all-slices-spec =
     Inv-loop
     μ-loop
     returns
-    slice-end-requires
     loop-holds
-    slice-aggregate-tokenize
-    tokenize-requires
+    slice-end-requires
+    slice-aggregate-slice-tokens
+    slice-tokens-requires
     enum-known-one
     same-length
     returns-2
@@ -91,7 +93,6 @@ all-slices-spec =
     part-t-start
     part-t-end
     add-p
-    slice-end-requires-2
     loop-less
     loop-again
     last-requires

@@ -1,64 +1,90 @@
--- `slice_end` meets its contract. The invariant: i bytes, and those from i on up to the next start behind the byte before,
--- are the first slice. The measure is what is left.
-use borrow.Author.Needs.{needs}
-use Prim.Native.Nat.{_≤_, _<_, _-_}
+-- `slice_end` meets its contract. The invariant: i bytes of the first slice are passed. The measure is what is left.
+use mathlib.Core.Path.{_≡_, refl, sym, _∙_}
+use Prim.Native.Nat.{_+_, _-_, _≤_, _<_}
 use native.Mathlib.Omega.{arith}
 use lib.ListN.{length}
-use Rattle.slices.proofs.Ends.{Ends, end-none, ends-start, ends-more, ends-far, ends-here, ends-last}
+use borrow.Author.Needs.{needs}
+use Rattle.slices.specs.Slices.{sliceLength}
+use Rattle.slices.proofs.Ends.{end-none, ends-start, slice-within, At, passed, Found, found, found-ends, found-more}
 use Rattle.slices.proofs.slice_end.Statement.{statement}
 use Rattle.slices.proofs.slice_end.Tie as tie
+use Rattle.slices.proofs.slice_end.Reads as reads
+use Rattle.slices.proofs.slice_end.Lts as lts
+use Rattle.eights.proofs.first_mark.Reads as first-mark-reads
+use Rattle.eights.proofs.marks_of.Reads as marks-of-reads
+use Rattle.slices.proofs.end_from.Reads as end-from-reads
 
 abbrev Inv-loop : tie.InvT-loop
-Inv-loop s before₀ i₀ before i = (0 < i) × (i ≤ length s) × Ends s before i
+Inv-loop s i₀ i = At s (sliceLength s) i
 
 abbrev μ-loop : tie.MeasureT-loop
-μ-loop s before₀ i₀ before i = length s - i
+μ-loop s i₀ i = length s - i
 
 returns : tie.Need-returns Inv-loop μ-loop
 returns c = search (end-none, needs)
 
-shared-slice-read-before : tie.Need-shared-slice-read-before Inv-loop μ-loop
-shared-slice-read-before c = search needs
-
 loop-holds : tie.Need-loop-holds Inv-loop μ-loop
-loop-holds c = (search needs, omega arith, ends-start _ (c .before .if1 .left))
+loop-holds c = record { some = omega arith; within = omega arith; ends = ends-start _ (c .if1 .left) }
 
-shared-slice-read-b : tie.Need-shared-slice-read-b Inv-loop μ-loop
-shared-slice-read-b c = search needs
-
-starts-slice-requires : tie.Need-starts-slice-requires Inv-loop μ-loop
-starts-slice-requires c κs = search needs
-
-returns-2 : tie.Need-returns-2 Inv-loop μ-loop
-returns-2 c = search (ends-here, needs)
+sub-loop : tie.Need-sub-loop Inv-loop μ-loop
+sub-loop c = c .loop .inv .within
 
 add-next : tie.Need-add-next Inv-loop μ-loop
 add-next c = search needs
 
+sub-marks-of : tie.Need-sub-marks-of Inv-loop μ-loop
+sub-marks-of c = search needs
+
+part-marks-of-start : tie.Need-part-marks-of-start Inv-loop μ-loop
+part-marks-of-start c = search needs
+
+part-marks-of-end : tie.Need-part-marks-of-end Inv-loop μ-loop
+part-marks-of-end c = omega (arith, c .before .loop .inv .within)
+
+marks-of-requires : tie.Need-marks-of-requires Inv-loop μ-loop
+marks-of-requires c κs = search needs
+
 loop-less : tie.Need-loop-less Inv-loop μ-loop
-loop-less c = search needs
+loop-less c = omega (arith, c .before .before .before .before .loop .inv .within)
 
 loop-again : tie.Need-loop-again Inv-loop μ-loop
-loop-again c = (omega arith, omega arith, ends-more _ _ _ _ (c .before .before .starts-slice .ensures) (c .before .before .before .before .loop-test .taken) (c .before .before .before .before .before .loop .inv .2) (c .before .if2 .left))
+loop-again c = passed _ _ (c .before .before .before .before .loop .inv) (omega (arith, c .before .before .before .before .loop .inv .within)) _ (c .before .marks-of .ensures) (c .if2 .taken)
 
-plain-blocks-requires : tie.Need-plain-blocks-requires Inv-loop μ-loop
-plain-blocks-requires c κs = omega arith
+first-mark-requires : tie.Need-first-mark-requires Inv-loop μ-loop
+first-mark-requires c κs = search needs
 
-sub-last : tie.Need-sub-last Inv-loop μ-loop
-sub-last c = omega (arith, c .plain-blocks .ensures .ahead)
+add-i : tie.Need-add-i Inv-loop μ-loop
+add-i c = let f = found _ _ (c .before .before .before .before .before .loop .inv) (omega (arith, c .before .before .before .before .before .loop .inv .within)) _ _ (c .before .before .marks-of .ensures) (c .before .if2 .left) (c .first-mark .ensures) in omega (arith, f .within)
 
-shared-slice-read-before-2 : tie.Need-shared-slice-read-before-2 Inv-loop μ-loop
-shared-slice-read-before-2 c = omega (arith, c .before .plain-blocks .ensures .ahead, c .before .plain-blocks .ensures .within)
+sub-if3 : tie.Need-sub-if3 Inv-loop μ-loop
+sub-if3 c = let f = found _ _ (c .before .before .before .before .before .loop .inv) (omega (arith, c .before .before .before .before .before .loop .inv .within)) _ _ (c .before .before .marks-of .ensures) (c .before .if2 .left) (c .first-mark .ensures) in omega (arith, f .at .some)
+
+shared-slice-read-if3 : tie.Need-shared-slice-read-if3 Inv-loop μ-loop
+shared-slice-read-if3 c = let f = found _ _ (c .before .before .before .before .before .before .loop .inv) (omega (arith, c .before .before .before .before .before .before .loop .inv .within)) _ _ (c .before .before .before .marks-of .ensures) (c .before .before .if2 .left) (c .before .first-mark .ensures) in omega (arith, f .within)
+
+returns-2 : tie.Need-returns-2 Inv-loop μ-loop
+returns-2 c =
+    let f = found _ _ (c .before .before .before .before .before .before .before .loop .inv) (omega (arith, c .before .before .before .before .before .before .before .loop .inv .within)) _ _ (c .before .before .before .before .marks-of .ensures) (c .before .before .before .if2 .left) (c .before .before .first-mark .ensures) in
+    let e = found-ends _ _ f (c .if3 .taken) in
+    (e, (omega (arith, f .within), λ h. f .at .some))
+
+add-i-2 : tie.Need-add-i-2 Inv-loop μ-loop
+add-i-2 c = let f = found _ _ (c .before .before .before .before .before .before .before .loop .inv) (omega (arith, c .before .before .before .before .before .before .before .loop .inv .within)) _ _ (c .before .before .before .before .marks-of .ensures) (c .before .before .before .if2 .left) (c .before .before .first-mark .ensures) in omega (arith, f .within)
 
 loop-less-2 : tie.Need-loop-less-2 Inv-loop μ-loop
-loop-less-2 c = omega (arith, c .before .plain-blocks .ensures .ahead)
+loop-less-2 c = let f = found _ _ (c .before .before .before .before .before .before .before .loop .inv) (omega (arith, c .before .before .before .before .before .before .before .loop .inv .within)) _ _ (c .before .before .before .before .marks-of .ensures) (c .before .before .before .if2 .left) (c .before .before .first-mark .ensures) in omega (arith, f .within)
 
 loop-again-2 : tie.Need-loop-again-2 Inv-loop μ-loop
-loop-again-2 c =
-    (omega (arith, c .before .plain-blocks .ensures .ahead), c .before .plain-blocks .ensures .within, ends-far _ _ _ _ _ (c .before .before .before .before .starts-slice .ensures) (c .before .before .before .before .before .before .loop-test .taken) (c .before .before .before .before .before .before .before .loop .inv .2) (c .before .before .before .if2 .left) (c .before .plain-blocks .ensures))
+loop-again-2 c = let f = found _ _ (c .before .before .before .before .before .before .before .loop .inv) (omega (arith, c .before .before .before .before .before .before .before .loop .inv .within)) _ _ (c .before .before .before .before .marks-of .ensures) (c .before .before .before .if2 .left) (c .before .before .first-mark .ensures) in found-more _ _ f (c .if3 .left)
+
+end-from-requires : tie.Need-end-from-requires Inv-loop μ-loop
+end-from-requires c κs = (c .before .loop .inv .some, c .before .loop .inv .within)
 
 returns-3 : tie.Need-returns-3 Inv-loop μ-loop
-returns-3 c = search (ends-last, needs)
+returns-3 c =
+    let w = slice-within (c .before .before .before .before .before .args .s .now) in
+    let q = sym (c .end-from .ensures ∙ sym (c .before .before .loop .inv .ends)) in
+    (sym q, (omega (arith, w, q), λ h. omega (arith, q, c .before .before .loop .inv .some)))
 
 pub slice-end-spec : {M : Type 1} → statement M
 slice-end-spec =
@@ -67,17 +93,22 @@ slice-end-spec =
     Inv-loop
     μ-loop
     returns
-    shared-slice-read-before
     loop-holds
-    shared-slice-read-b
-    starts-slice-requires
-    returns-2
+    sub-loop
     add-next
+    sub-marks-of
+    part-marks-of-start
+    part-marks-of-end
+    marks-of-requires
     loop-less
     loop-again
-    plain-blocks-requires
-    sub-last
-    shared-slice-read-before-2
+    first-mark-requires
+    add-i
+    sub-if3
+    shared-slice-read-if3
+    returns-2
+    add-i-2
     loop-less-2
     loop-again-2
+    end-from-requires
     returns-3)
