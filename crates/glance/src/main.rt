@@ -1,0 +1,66 @@
+// A letter's text for people: the letter comes by standard input, its text goes to standard output, each `\par` a line feed. A
+// refusal is one line on standard error, and no text. Its rooms hold what any letter of up to 65,536 bytes needs, but for
+// a block every second byte.
+use io::write_all;
+use libc::STDERR_FILENO;
+use libc::STDIN_FILENO;
+use libc::STDOUT_FILENO;
+use reader::Answer;
+use reader::read;
+use styles::Reading;
+
+// The longest letter, and a byte more, so that a longer one is seen to be longer.
+const LETTER_BYTES: usize = 65537;
+
+// 65,536 tokens, 256 fonts, 256 colours, 32,768 blocks, and three bytes of text for each of the letter's.
+const TOKEN_WORDS: usize = 393216;
+
+const FONT_WORDS: usize = 768;
+
+const COLOUR_WORDS: usize = 256;
+
+const BLOCK_WORDS: usize = 425984;
+
+const TEXT_BYTES: usize = 196608;
+
+fn digit(n: u32) -> u8 {
+    b'0' + ((n % 10) as u8)
+}
+
+fn refuse(number: u32) {
+    write_all(STDERR_FILENO, b"refused by ");
+    let line = [digit(number / 10), digit(number), b'\n'];
+    write_all(STDERR_FILENO, &line);
+}
+
+fn say(answer: Answer, text: &[u8]) {
+    match answer {
+        Answer::Refuses(refusal) => refuse(refusal.number()),
+        Answer::Read(counts) => {
+            let count = counts.text;
+            if count <= text.len() {
+                write_all(STDOUT_FILENO, &text[..count]);
+            }
+        }
+    }
+}
+
+fn main() {
+    let mut letter = [0u8; LETTER_BYTES];
+    let n = io::read_full(STDIN_FILENO, &mut letter);
+    let mut tokens = [0u32; TOKEN_WORDS];
+    let mut fonts = [0u32; FONT_WORDS];
+    let mut colours = [0u32; COLOUR_WORDS];
+    let mut blocks = [0u32; BLOCK_WORDS];
+    let mut text = [0u8; TEXT_BYTES];
+    let answer = read(
+        &letter[..n],
+        Reading::Paragraphs,
+        &mut tokens,
+        &mut fonts,
+        &mut colours,
+        &mut blocks,
+        &mut text,
+    );
+    say(answer, &text);
+}
