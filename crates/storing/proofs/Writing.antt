@@ -112,12 +112,12 @@ module _ (x : Piece) (p : ℕ) (ws : List ℕ) where
   unfolding blockRecord
   record-rest = refl
 
-rows-good : (xs : List Piece) (l : Last) (p : ℕ) (tx : List ℕ) → p + length (textOf xs) ≡ length tx → drop p tx ≡ textOf xs
-    → Good l xs ≡ true
+rows-good : (xs : List Piece) (l : Last) (p : ℕ) (tx : List ℕ) → length tx ≤ 2147483647 → p + length (textOf xs) ≡ length tx
+    → drop p tx ≡ textOf xs → Good l xs ≡ true
     → bytesOf (piecesFrom (length xs) l p (records p xs) tx) ≡ streamed (blocksBytes xs)
 unfolding textOf records piecesFrom bytesOf blocksBytes streamed
-rows-good [] l p tx e d h = rw (eq-eqb p (length tx) (omega arith))
-rows-good (x ∷ xs) l p tx e d h =
+rows-good [] l p tx z e d h = rw (eq-eqb p (length tx) (omega arith))
+rows-good (x ∷ xs) l p tx z e d h =
     let g = good-one l x xs h in
     let c : ℕ = length (x .bytes) in
     let rest : List ℕ = records (p + c) xs in
@@ -128,6 +128,8 @@ rows-good (x ∷ xs) l p tx e d h =
     let t : take (lengthAt ws) (drop p tx) ≡ x .bytes = rw (ec, d) (take-at (x .bytes) (textOf xs) c refl) in
     let f : Fit l p ws tx = record {
       range = rw es (g .range);
+      place = omega (arith, record-place x p rest);
+      count = omega (arith, ec);
       some = rw ec (g .some);
       change = rw es (g .change);
       here = record-place x p rest;
@@ -137,7 +139,7 @@ rows-good (x ∷ xs) l p tx e d h =
     let d′ : drop (p + c) tx ≡ textOf xs = sym (drop-drop c p tx) ∙ ap (drop c) d ∙ drop-at (x .bytes) (textOf xs) c refl in
     row-more (length xs) l p ws tx (fit-all l p ws tx f)
     ∙ rw (t, es, ec, record-rest x p rest)
-    (ap (andThen (streamed (blockBytes x))) (rows-good xs (last (x .style)) (p + c) tx (omega arith) d′ (g .rest)))
+    (ap (andThen (streamed (blockBytes x))) (rows-good xs (last (x .style)) (p + c) tx z (omega arith) d′ (g .rest)))
     ∙ blocks-cons x xs
 
 -- the count, and then the blocks
@@ -147,14 +149,14 @@ list-as : (ws tx : List ℕ) (xs : List Piece) → length ws / 13 ≡ length xs
 unfolding listStream listBytes
 list-as ws tx xs k e q = rw (e, k, q) (sym (streamed-append (written (length xs)) (blocksBytes xs)))
 
-pub stream-good : (xs : List Piece) → Good none xs ≡ true → length (textOf xs) < 4294967296
+pub stream-good : (xs : List Piece) → Good none xs ≡ true → length (textOf xs) ≤ 2147483647
     → listStream (records 0 xs) (textOf xs) ≡ streamed (listBytes xs)
 stream-good xs h s =
     let ws : List ℕ = records 0 xs in
     let l : length ws ≡ length xs * 13 = length-records xs 0 in
     let k : length ws / 13 ≡ length xs = omega arith in
     list-as ws (textOf xs) xs k (pieces-some ws (textOf xs) (omega arith) (omega (arith, good-count xs none h)))
-    (rows-good xs none 0 (textOf xs) (omega arith) refl h)
+    (rows-good xs none 0 (textOf xs) s (omega arith) refl h)
 
 -- ---- and back
 
@@ -292,7 +294,7 @@ stream-ends ws tx {n} a =
 
 -- ---- the answer and the room
 
-module _ (xs : List Piece) (total : ℕ) (h : Good none xs ≡ true) (s : length (textOf xs) < 4294967296)
+module _ (xs : List Piece) (total : ℕ) (h : Good none xs ≡ true) (s : length (textOf xs) ≤ 2147483647)
     (f : length (listBytes xs) ≤ total) where
   good-answer : writeAnswer total (records 0 xs) (textOf xs) ≡ Done (length (listBytes xs))
   unfolding writeAnswer

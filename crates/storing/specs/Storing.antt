@@ -39,11 +39,18 @@ placeAt ws = getD ws 11 0
 abbrev pub lengthAt : List ℕ → ℕ
 lengthAt ws = getD ws 12 0
 
--- whether words start with the record of a block that may stand behind a block l, where p bytes of the text came before
+-- "Block, 13 signed 32-bit words": place and length are not negative
+abbrev pub signs : List ℕ → Bool
+signs ws = leb (placeAt ws) 2147483647 && leb (lengthAt ws) 2147483647
+
+-- whether a record says what it may behind a block l, where p bytes of the text came before
+abbrev pub says : Last → ℕ → List ℕ → Bool
+says l p ws =
+    inRange (styleAt ws) && (signs ws && (ltb 0 (lengthAt ws) && (starts l (styleAt ws) && eqb (placeAt ws) p)))
+
+-- whether words start with such a record, and its text is there
 unfoldable pub fits : Last → ℕ → List ℕ → List ℕ → Bool
-fits l p ws tx =
-    inRange (styleAt ws) && (ltb 0 (lengthAt ws) && (starts l (styleAt ws) && (eqb (placeAt ws) p && (leb (lengthAt ws) (length tx - p)
-    && isUtf8 (take (lengthAt ws) (drop p tx))))))
+fits l p ws tx = says l p ws && (leb (lengthAt ws) (length tx - p) && isUtf8 (take (lengthAt ws) (drop p tx)))
 
 -- the blocks of k records
 unfoldable pub piecesFrom : ℕ → Last → ℕ → List ℕ → List ℕ → Stream Piece

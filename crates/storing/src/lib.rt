@@ -127,16 +127,8 @@ fn fits(begun: bool, before: Style, p: usize, words: &[u32], text: &[u8]) -> boo
     let s = style_at(words);
     let place = wide(words[11]);
     let count = wide(words[12]);
-    if !in_range(s) {
-        return false;
-    }
-    if count == 0 {
-        return false;
-    }
-    if !follows(begun, before, s) {
-        return false;
-    }
-    if place != p {
+    let signs = (place <= 2147483647) & (count <= 2147483647);
+    if !(in_range(s) & (signs & ((0 < count) & (follows(begun, before, s) & (place == p))))) {
         return false;
     }
     if text.len() - p < count {

@@ -1,6 +1,6 @@
--- `fits` meets its contract: a law for each test.
-use native.Mathlib.Omega.{arith}
-use Rattle.storing.proofs.Fitting.{no-range, no-text, no-change, no-place, no-rest, text-decides}
+-- `fits` meets its contract: a law for each way through it.
+use Rattle.fields.specs.Fields.{lastOf}
+use Rattle.storing.proofs.Fitting.{no-says, no-rest, text-decides}
 use borrow.Author.Needs.{needs}
 use Rattle.storing.proofs.fits.Statement.{statement}
 use Rattle.storing.proofs.fits.Tie as tie
@@ -23,79 +23,35 @@ wide-requires-2 c κs = search needs
 in-range-requires : tie.Need-in-range-requires
 in-range-requires c κs = search needs
 
+follows-requires : tie.Need-follows-requires
+follows-requires c κs = search needs
+
 returns : tie.Need-returns
 returns c =
-    let at-in-range = c .before in
-    let at-style-at = at-in-range .before .before .before .before .before in
+    let at-in-range = c .before .before in
+    let at-wide2 = at-in-range .before in
+    let at-wide = at-wide2 .before .before in
+    let at-style-at = at-wide .before .before in
     let start = at-style-at .before .before .before in
-    no-range (start .args .begun) (start .args .before) _ _ _
-    (at-style-at .style-at .ensures) (at-in-range .in-range .ensures)
-    (c .if1 .taken)
+    no-says (lastOf (start .args .begun) (start .args .before)) _ _ _
+    (at-style-at .style-at .ensures) (at-wide .wide .ensures) (at-wide2 .wide2 .ensures)
+    (at-in-range .in-range .ensures) (c .before .follows .ensures) (c .if1 .taken)
+
+sub-if2 : tie.Need-sub-if2
+sub-if2 c = search needs
 
 returns-2 : tie.Need-returns-2
 returns-2 c =
     let at-if1 = c .before in
-    let at-in-range = at-if1 .before in
-    let at-wide2 = at-in-range .before in
-    let at-style-at = at-wide2 .before .before .before .before in
-    let start = at-style-at .before .before .before in
-    no-text (start .args .begun) (start .args .before) _ _ _
-    (at-style-at .style-at .ensures) (at-in-range .in-range .ensures)
-    (at-if1 .if1 .left) (at-wide2 .wide2 .ensures) (omega (arith, c .if2 .taken))
-
-follows-requires : tie.Need-follows-requires
-follows-requires c κs = search needs
-
-returns-3 : tie.Need-returns-3
-returns-3 c =
-    let at-follows = c .before in
-    let at-if2 = at-follows .before in
-    let at-if1 = at-if2 .before in
-    let at-in-range = at-if1 .before in
-    let at-wide2 = at-in-range .before in
-    let at-style-at = at-wide2 .before .before .before .before in
-    let start = at-style-at .before .before .before in
-    no-change (start .args .begun) (start .args .before) _ _ _
-    (at-style-at .style-at .ensures) (at-in-range .in-range .ensures)
-    (at-if1 .if1 .left) (at-wide2 .wide2 .ensures) (λ e. omega (arith, at-if2 .if2 .left))
-    (at-follows .follows .ensures) (c .if3 .taken)
-
-returns-4 : tie.Need-returns-4
-returns-4 c =
-    let at-if3 = c .before in
-    let at-follows = at-if3 .before in
-    let at-if2 = at-follows .before in
-    let at-if1 = at-if2 .before in
-    let at-in-range = at-if1 .before in
+    let at-follows = at-if1 .before in
+    let at-in-range = at-follows .before in
     let at-wide2 = at-in-range .before in
     let at-wide = at-wide2 .before .before in
     let at-style-at = at-wide .before .before in
     let start = at-style-at .before .before .before in
-    no-place (start .args .begun) (start .args .before) _ _ _
-    (at-style-at .style-at .ensures) (at-in-range .in-range .ensures)
-    (at-if1 .if1 .left) (at-wide2 .wide2 .ensures) (λ e. omega (arith, at-if2 .if2 .left))
-    (at-follows .follows .ensures) (at-if3 .if3 .left) (at-wide .wide .ensures) (λ e. omega (arith, c .if4 .taken))
-
-sub-if5 : tie.Need-sub-if5
-sub-if5 c = search needs
-
-returns-5 : tie.Need-returns-5
-returns-5 c =
-    let at-if4 = c .before in
-    let at-if3 = at-if4 .before in
-    let at-follows = at-if3 .before in
-    let at-if2 = at-follows .before in
-    let at-if1 = at-if2 .before in
-    let at-in-range = at-if1 .before in
-    let at-wide2 = at-in-range .before in
-    let at-wide = at-wide2 .before .before in
-    let at-style-at = at-wide .before .before in
-    let start = at-style-at .before .before .before in
-    no-rest (start .args .begun) (start .args .before) _ _ _
-    (at-style-at .style-at .ensures) (at-in-range .in-range .ensures)
-    (at-if1 .if1 .left) (at-wide2 .wide2 .ensures) (λ e. omega (arith, at-if2 .if2 .left))
-    (at-follows .follows .ensures) (at-if3 .if3 .left) (at-wide .wide .ensures)
-    (omega (arith, at-if4 .if4 .left)) (omega (arith, c .if5 .taken))
+    no-rest (lastOf (start .args .begun) (start .args .before)) _ _ _
+    (at-style-at .style-at .ensures) (at-wide .wide .ensures) (at-wide2 .wide2 .ensures)
+    (at-in-range .in-range .ensures) (at-follows .follows .ensures) (at-if1 .if1 .left) (c .if2 .taken)
 
 add-end : tie.Need-add-end
 add-end c = search needs
@@ -112,24 +68,20 @@ part-is-utf8-end c = search needs
 is-utf8-requires : tie.Need-is-utf8-requires
 is-utf8-requires c κs = search needs
 
-returns-6 : tie.Need-returns-6
-returns-6 c =
-    let at-if5 = c .before .before in
-    let at-if4 = at-if5 .before in
-    let at-if3 = at-if4 .before in
-    let at-follows = at-if3 .before in
-    let at-if2 = at-follows .before in
+returns-3 : tie.Need-returns-3
+returns-3 c =
+    let at-if2 = c .before .before in
     let at-if1 = at-if2 .before in
-    let at-in-range = at-if1 .before in
+    let at-follows = at-if1 .before in
+    let at-in-range = at-follows .before in
     let at-wide2 = at-in-range .before in
     let at-wide = at-wide2 .before .before in
     let at-style-at = at-wide .before .before in
     let start = at-style-at .before .before .before in
-    text-decides (start .args .begun) (start .args .before) _ _ _
-    (at-style-at .style-at .ensures) (at-in-range .in-range .ensures)
-    (at-if1 .if1 .left) (at-wide2 .wide2 .ensures) (λ e. omega (arith, at-if2 .if2 .left))
-    (at-follows .follows .ensures) (at-if3 .if3 .left) (at-wide .wide .ensures) (omega (arith, at-if4 .if4 .left))
-    (omega (arith, at-if5 .if5 .left)) (c .is-utf8 .ensures)
+    text-decides (lastOf (start .args .begun) (start .args .before)) _ _ _
+    (at-style-at .style-at .ensures) (at-wide .wide .ensures) (at-wide2 .wide2 .ensures)
+    (at-in-range .in-range .ensures) (at-follows .follows .ensures) (at-if1 .if1 .left) (at-if2 .if2 .left)
+    (c .is-utf8 .ensures)
 
 pub fits-spec : {M : Type 1} → statement M
 fits-spec =
@@ -141,16 +93,13 @@ fits-spec =
     shared-slice-read-wide-2
     wide-requires-2
     in-range-requires
-    returns
-    returns-2
     follows-requires
-    returns-3
-    returns-4
-    sub-if5
-    returns-5
+    returns
+    sub-if2
+    returns-2
     add-end
     sub-is-utf8
     part-is-utf8-start
     part-is-utf8-end
     is-utf8-requires
-    returns-6)
+    returns-3)
