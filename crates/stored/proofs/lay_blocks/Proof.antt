@@ -3,16 +3,10 @@ use borrow.Author.Needs.{needs}
 use native.Mathlib.Omega.{arith}
 use mathlib.Core.Path.{sym, refl, _∙_}
 use lib.ListN.{length-take, length-drop}
-use Rattle.stored.proofs.Entries.{entry-is}
-use Rattle.stored.proofs.Loops.{Going, going-start, going-bad, going-full, going-more, going-left, going-end}
+use Rattle.entries.proofs.Entries.{entry-is}
+use Rattle.stored.proofs.Laying.{Going, going-start, going-bad, going-full, going-more, going-left, going-end}
 use Rattle.stored.proofs.lay_blocks.Statement.{statement}
 use Rattle.stored.proofs.lay_blocks.Tie as tie
-use Rattle.stored.proofs.lay_blocks.Reads as reads
-use Rattle.stored.proofs.lay_blocks.Lts as lts
-use Rattle.answers.proofs.Refusal.of.Reads as of-reads
-use Rattle.pages.proofs.Page.blank.Reads as blank-reads
-use Rattle.pages.proofs.add.Reads as add-reads
-use Rattle.stored.proofs.block_at.Reads as block-at-reads
 
 abbrev Inv-loop : tie.InvT-loop
 Inv-loop list k blocks₀ text₀ t₀ n₀ page₀ begun₀ before₀ blocks text t n page begun before = Going k list blocks₀ text₀ t n page begun before blocks text

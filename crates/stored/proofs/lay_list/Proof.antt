@@ -6,12 +6,6 @@ use Rattle.sevens.proofs.Sevens.{number-within}
 use Rattle.stored.proofs.Whole.{lay-is, lay-bad, lay-short}
 use Rattle.stored.proofs.lay_list.Statement.{statement}
 use Rattle.stored.proofs.lay_list.Tie as tie
-use Rattle.stored.proofs.lay_list.Reads as reads
-use Rattle.stored.proofs.lay_list.Lts as lts
-use Rattle.answers.proofs.Refusal.of.Reads as of-reads
-use Rattle.sevens.proofs.number_at.Reads as number-at-reads
-use Rattle.stored.proofs.lay_blocks.Reads as lay-blocks-reads
-use Rattle.stored.proofs.wide.Reads as wide-reads
 
 number-at-requires : tie.Need-number-at-requires
 number-at-requires c κs = search needs

@@ -10,14 +10,6 @@ use Rattle.pages.proofs.Settling.{blocks-small, count-words}
 use Rattle.stored.proofs.Whole.{list-full, list-laid}
 use Rattle.stored.proofs.read_list.Statement.{statement}
 use Rattle.stored.proofs.read_list.Tie as tie
-use Rattle.stored.proofs.read_list.Reads as reads
-use Rattle.stored.proofs.read_list.Lts as lts
-use Rattle.pages.proofs.Page.count.Reads as count-reads
-use Rattle.pages.proofs.finish.Reads as finish-reads
-use Rattle.rooms.proofs.clear_bytes_from.Reads as clear-bytes-from-reads
-use Rattle.rooms.proofs.clear_from.Reads as clear-from-reads
-use Rattle.stored.proofs.lay_list.Reads as lay-list-reads
-use Rattle.stored.proofs.refuse.Reads as refuse-reads
 
 lay-list-requires : tie.Need-lay-list-requires
 lay-list-requires c κs = search needs

@@ -4,10 +4,6 @@ use mathlib.Core.Path.{refl}
 use Rattle.rooms.proofs.Clearing.{cleared}
 use Rattle.stored.proofs.refuse.Statement.{statement}
 use Rattle.stored.proofs.refuse.Tie as tie
-use Rattle.stored.proofs.refuse.Reads as reads
-use Rattle.stored.proofs.refuse.Lts as lts
-use Rattle.rooms.proofs.clear_bytes_from.Reads as clear-bytes-from-reads
-use Rattle.rooms.proofs.clear_from.Reads as clear-from-reads
 
 clear-from-requires : tie.Need-clear-from-requires
 clear-from-requires c κs = search needs

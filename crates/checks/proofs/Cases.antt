@@ -1,4 +1,4 @@
--- Telling lists, as theorems on the definitions: each is computed through the whole of reading. Assumes nothing.
+-- Telling lists, as theorems on the definitions: each is computed through the whole of reading, and of the check. Assumes nothing.
 use mathlib.Core.Path.{_≡_, refl}
 use mathlib.Core.List.{List, [], _∷_, _++_}
 use mathlib.Core.Bool.{Bool, true, false, cond, _&&_}
@@ -10,8 +10,9 @@ use Rattle.sevens.specs.Sevens.{high, sumFrom, valueOf, isLong, numberOf}
 use Rattle.wellformed.specs.WellFormed.{behind, goesOn}
 use Rattle.fields.specs.Fields.{unfolded, inRange}
 use Rattle.pages.specs.Pages.{blocks, textOf, blockRecord, records, roomy, blocksFrom as joinedFrom}
-use Rattle.stored.specs.Blocks.{numbersFrom, ruled, entry}
-use Rattle.stored.specs.Stored.{blocksFrom, stored, placed, storedAnswer, storedBlocks, storedText, answerNumber, checked}
+use Rattle.entries.specs.Entries.{numbersFrom, ruled, entry}
+use Rattle.stored.specs.Stored.{blocksFrom, stored, placed, storedAnswer, storedBlocks, storedText, answerNumber}
+use Rattle.checks.specs.Checks.{checked}
 
 -- a list, the words of a block room and the bytes of a text room, the answer's number, what the rooms hold, the check's number
 record Case : Type 0 where

@@ -3,15 +3,10 @@ use borrow.Author.Needs.{needs}
 use native.Mathlib.Omega.{arith}
 use mathlib.Core.Path.{sym, _∙_}
 use Rattle.fields.specs.Fields.{lastOf}
-use Rattle.stored.proofs.Entries.{entry-is}
-use Rattle.stored.proofs.Loops.{Checking, checking-start, checking-bad, checking-text, checking-more, checking-left, checking-end}
-use Rattle.stored.proofs.check_blocks.Statement.{statement}
-use Rattle.stored.proofs.check_blocks.Tie as tie
-use Rattle.stored.proofs.check_blocks.Reads as reads
-use Rattle.stored.proofs.check_blocks.Lts as lts
-use Rattle.answers.proofs.Refusal.of.Reads as of-reads
-use Rattle.pages.proofs.Page.blank.Reads as blank-reads
-use Rattle.stored.proofs.block_at.Reads as block-at-reads
+use Rattle.entries.proofs.Entries.{entry-is}
+use Rattle.checks.proofs.Checking.{Checking, checking-start, checking-bad, checking-text, checking-more, checking-left, checking-end}
+use Rattle.checks.proofs.check_blocks.Statement.{statement}
+use Rattle.checks.proofs.check_blocks.Tie as tie
 
 abbrev Inv-loop : tie.InvT-loop
 Inv-loop list k t₀ n₀ left₀ begun₀ before₀ t n left begun before = Checking k list t n left begun before

@@ -21,11 +21,12 @@ use Rattle.sevens.specs.declared.Numeral.{Numeral}
 use Rattle.sevens.specs.declared.Numeral.the-variants.{Is as Numbered, Bad as BadNumber, Short}
 use Rattle.sevens.specs.Sevens.{numberOf}
 use Rattle.pages.specs.Pages.{Piece, Last, none, last, starts, roomy, textCapacity}
-use Rattle.stored.specs.declared.Entry.{Entry}
-use Rattle.stored.specs.declared.Entry.the-variants.{Is, Bad}
-use Rattle.stored.specs.Blocks.{entry}
-use Rattle.stored.specs.Stored.{over, entered, blocksFrom, counted, stored, placed, answered, storedAnswer, answerNumber, checked}
-use Rattle.stored.proofs.Entries.{entry-is}
+use Rattle.entries.specs.declared.Entry.{Entry}
+use Rattle.entries.specs.declared.Entry.the-variants.{Is, Bad}
+use Rattle.entries.specs.Entries.{entry}
+use Rattle.stored.specs.Stored.{over, entered, blocksFrom, counted, stored, placed, answered, storedAnswer, answerNumber}
+use Rattle.checks.specs.Checks.{checked}
+use Rattle.entries.proofs.Entries.{entry-is}
 
 count-over : (s : List ℕ) → count (over s) ≤ length s
 unfolding count

@@ -1,4 +1,5 @@
 -- One block of a stored list.
+--     part                     the rest of a list, behind its first bytes
 --     Sized, numbers-sized     numbers have at least a byte each, and stand in the list
 --     Entered, entry-is        what holds of a block that is accepted
 -- Assumes nothing.
@@ -9,6 +10,7 @@ use Prim.Native.Nat.{ℕ, zero, suc, _+_, _-_, _≤_, _<_}
 use native.Mathlib.Omega.{arith}
 use borrow.Author.Tests.{ltb-true, leb-true}
 use lib.ListN.{length, take, drop, getD, length-drop, length-append}
+use lib.Seq.{take-all}
 use lib.Dec.{leb, ltb}
 use Rattle.answers.specs.declared.Why.the-variants.{StoredShort, StoredField}
 use Rattle.answers.specs.Answers.{refusal, Found, found, refused}
@@ -21,9 +23,13 @@ use Rattle.wellformed.specs.WellFormed.{isUtf8}
 use Rattle.styles.specs.declared.Style.{Style}
 use Rattle.pages.specs.Pages.{Last, starts}
 use Rattle.fields.specs.Fields.{inRange, styleFrom}
-use Rattle.stored.specs.declared.Entry.{Entry}
-use Rattle.stored.specs.declared.Entry.the-variants.{Is, Bad}
-use Rattle.stored.specs.Blocks.{Numbers, behind, andMore, numbersFrom, ruled, entryOf, entry}
+use Rattle.entries.specs.declared.Entry.{Entry}
+use Rattle.entries.specs.declared.Entry.the-variants.{Is, Bad}
+use Rattle.entries.specs.Entries.{Numbers, behind, andMore, numbersFrom, ruled, entryOf, entry}
+
+-- the rest of a slice, as the code has it
+pub part : (n : ℕ) (t : List ℕ) → take (length t - n) (drop n t) ≡ drop n t
+part n t = take-all (length t - n) (drop n t) (simp length-drop (omega arith))
 
 -- k numbers that n bytes start with
 abbrev pub Sized : ℕ → ℕ → Found Numbers → Type 0

@@ -8,8 +8,7 @@ use mathlib.Core.Bool.{Bool, true, false, not, _&&_}
 use Prim.Native.Nat.{ℕ, _-_, _≤_, _<_}
 use native.Mathlib.Omega.{arith}
 use borrow.Author.Tests.{le-leb, lt-leb}
-use lib.ListN.{length, take, drop, getD, length-drop}
-use lib.Seq.{take-all}
+use lib.ListN.{length, take, drop, getD}
 use lib.Dec.{leb, ltb}
 use Rattle.answers.specs.declared.Refusal.{Refusal}
 use Rattle.answers.specs.declared.Outcome.{Outcome}
@@ -21,9 +20,10 @@ use Rattle.wellformed.specs.WellFormed.{isUtf8}
 use Rattle.styles.specs.declared.Style.{Style}
 use Rattle.pages.specs.Pages.{Last, starts}
 use Rattle.fields.specs.Fields.{inRange, styleFrom}
-use Rattle.stored.specs.declared.Entry.{Entry}
-use Rattle.stored.specs.declared.Entry.the-variants.{Is, Bad}
-use Rattle.stored.specs.Blocks.{Numbers, numbersFrom, NumbersIn, ruled, entryOf, entry}
+use Rattle.entries.specs.declared.Entry.{Entry}
+use Rattle.entries.specs.declared.Entry.the-variants.{Is, Bad}
+use Rattle.entries.specs.Entries.{Numbers, numbersFrom, NumbersIn, ruled, entryOf, entry}
+use Rattle.entries.proofs.Entries.{part}
 
 not-true : (b : Bool) → not b ≡ true → b ≡ false
 not-true true e = sym e
@@ -51,10 +51,6 @@ module _ (l : Last) (st : Style) (n m : ℕ) (s : List ℕ) {a d : Bool} (p : a 
       pub ruled-bytes : u ≡ false → {r : Refusal} → r ≡ refusal StoredField → Bad r ≡ ruled l st n m s
       unfolding ruled
       ruled-bytes t f = rw (f, ← p, ← q, not-false (a && (ltb 0 n && d)) e, le-leb n (length s) h, ← k, t)
-
--- the rest of a slice, as the code has it
-pub part : (n : ℕ) (t : List ℕ) → take (length t - n) (drop n t) ≡ drop n t
-part n t = take-all (length t - n) (drop n t) (simp length-drop (omega arith))
 
 -- by what came of the numbers
 module _ (l : Last) (s ws : List ℕ) {k : ℕ} (r : Outcome) (z : k ≡ 12) (h : NumbersIn (numbersFrom k s) (length s) r ws) where

@@ -5,13 +5,9 @@ use mathlib.Core.Path.{sym, _∙_}
 use Prim.Native.Nat.{_-_}
 use lib.ListN.{length, length-set}
 use Rattle.sevens.proofs.Sevens.{number-within}
-use Rattle.stored.proofs.Loops.{Reading, reading-start, reading-more, reading-bad, reading-short, reading-end}
-use Rattle.stored.proofs.numbers_at.Statement.{statement}
-use Rattle.stored.proofs.numbers_at.Tie as tie
-use Rattle.stored.proofs.numbers_at.Reads as reads
-use Rattle.stored.proofs.numbers_at.Lts as lts
-use Rattle.answers.proofs.Refusal.of.Reads as of-reads
-use Rattle.sevens.proofs.number_at.Reads as number-at-reads
+use Rattle.entries.proofs.Reading.{Reading, reading-start, reading-more, reading-bad, reading-short, reading-end}
+use Rattle.entries.proofs.numbers_at.Statement.{statement}
+use Rattle.entries.proofs.numbers_at.Tie as tie
 
 abbrev Inv-loop : tie.InvT-loop
 Inv-loop s words₀ t₀ i₀ words t i = Reading s (length words₀) i t words

@@ -3,15 +3,9 @@ use borrow.Author.Needs.{needs}
 use native.Mathlib.Omega.{arith}
 use mathlib.Core.Path.{sym, _∙_}
 use Rattle.sevens.proofs.Sevens.{number-within}
-use Rattle.stored.proofs.Whole.{check-is, check-bad, check-short}
-use Rattle.stored.proofs.check.Statement.{statement}
-use Rattle.stored.proofs.check.Tie as tie
-use Rattle.stored.proofs.check.Reads as reads
-use Rattle.stored.proofs.check.Lts as lts
-use Rattle.answers.proofs.Refusal.of.Reads as of-reads
-use Rattle.sevens.proofs.number_at.Reads as number-at-reads
-use Rattle.stored.proofs.check_blocks.Reads as check-blocks-reads
-use Rattle.stored.proofs.wide.Reads as wide-reads
+use Rattle.checks.proofs.Checking.{check-is, check-bad, check-short}
+use Rattle.checks.proofs.check.Statement.{statement}
+use Rattle.checks.proofs.check.Tie as tie
 
 number-at-requires : tie.Need-number-at-requires
 number-at-requires c κs = search needs

@@ -3,14 +3,9 @@ use borrow.Author.Needs.{needs}
 use native.Mathlib.Omega.{arith}
 use lib.ListN.{length-take}
 use Rattle.fields.specs.Fields.{lastOf}
-use Rattle.stored.proofs.Branches.{ruled-field, ruled-short, ruled-is, ruled-bytes}
-use Rattle.stored.proofs.ruled.Statement.{statement}
-use Rattle.stored.proofs.ruled.Tie as tie
-use Rattle.stored.proofs.ruled.Reads as reads
-use Rattle.stored.proofs.ruled.Lts as lts
-use Rattle.answers.proofs.Refusal.of.Reads as of-reads
-use Rattle.fields.proofs.follows.Reads as follows-reads
-use Rattle.fields.proofs.in_range.Reads as in-range-reads
+use Rattle.entries.proofs.Branches.{ruled-field, ruled-short, ruled-is, ruled-bytes}
+use Rattle.entries.proofs.ruled.Statement.{statement}
+use Rattle.entries.proofs.ruled.Tie as tie
 use Rattle.wellformed.proofs.is_utf8.Reads as is-utf8-reads
 
 in-range-requires : tie.Need-in-range-requires

@@ -1,10 +1,7 @@
 -- `style_of` meets its contract: each word at its place.
 use borrow.Author.Needs.{needs}
-use Rattle.stored.proofs.style_of.Statement.{statement}
-use Rattle.stored.proofs.style_of.Tie as tie
-use Rattle.stored.proofs.style_of.Reads as reads
-use Rattle.stored.proofs.style_of.Lts as lts
-use Rattle.fields.proofs.unfold.Reads as unfold-reads
+use Rattle.entries.proofs.style_of.Statement.{statement}
+use Rattle.entries.proofs.style_of.Tie as tie
 
 shared-slice-read-unfold : tie.Need-shared-slice-read-unfold
 shared-slice-read-unfold c = search needs

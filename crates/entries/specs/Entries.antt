@@ -16,8 +16,8 @@ use Rattle.wellformed.specs.WellFormed.{isUtf8}
 use Rattle.styles.specs.declared.Style.{Style}
 use Rattle.pages.specs.Pages.{Last, starts}
 use Rattle.fields.specs.Fields.{inRange, styleFrom}
-use Rattle.stored.specs.declared.Entry.{Entry}
-use Rattle.stored.specs.declared.Entry.the-variants.{Is, Bad}
+use Rattle.entries.specs.declared.Entry.{Entry}
+use Rattle.entries.specs.declared.Entry.the-variants.{Is, Bad}
 
 -- numbers one after the other, and how many bytes they have
 pub record Numbers : Type 0 where

@@ -3,15 +3,9 @@ use borrow.Author.Needs.{needs}
 use native.Mathlib.Omega.{arith}
 use mathlib.Core.Path.{refl}
 use Rattle.fields.specs.Fields.{lastOf}
-use Rattle.stored.proofs.Branches.{block-refused, block-within, block-entry}
-use Rattle.stored.proofs.block_at.Statement.{statement}
-use Rattle.stored.proofs.block_at.Tie as tie
-use Rattle.stored.proofs.block_at.Reads as reads
-use Rattle.stored.proofs.block_at.Lts as lts
-use Rattle.stored.proofs.numbers_at.Reads as numbers-at-reads
-use Rattle.stored.proofs.ruled.Reads as ruled-reads
-use Rattle.stored.proofs.style_of.Reads as style-of-reads
-use Rattle.stored.proofs.wide.Reads as wide-reads
+use Rattle.entries.proofs.Branches.{block-refused, block-within, block-entry}
+use Rattle.entries.proofs.block_at.Statement.{statement}
+use Rattle.entries.proofs.block_at.Tie as tie
 
 slice-aggregate-numbers-at : tie.Need-slice-aggregate-numbers-at
 slice-aggregate-numbers-at c = search needs
