@@ -22,7 +22,7 @@ use Rattle.entries.specs.declared.Entry.{Entry}
 use Rattle.entries.specs.declared.Entry.the-variants.{Is, Bad}
 use Rattle.entries.specs.Entries.{Numbers, numbersFrom, ruled, entryOf, entry}
 use Rattle.entries.proofs.Entries.{Entered, entry-is, Sized, numbers-sized}
-use Rattle.storing.specs.Lists.{numbersBytes, blockNumbers, blockBytes}
+use Rattle.putting.specs.Blocks.{numbersBytes, blockNumbers, blockBytes}
 use Rattle.roundtrips.specs.Trips.{Bytes, Words}
 use Rattle.roundtrips.proofs.Numbers.{numbers-written, numbers-read, ReadBack}
 

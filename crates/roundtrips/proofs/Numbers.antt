@@ -12,7 +12,7 @@ use Rattle.sevens.specs.declared.Numeral.the-variants.{Is as Numbered, Bad as B
 use Rattle.sevens.specs.Sevens.{numberOf, written}
 use Rattle.sevens.proofs.Sevens.{read-written, written-read}
 use Rattle.entries.specs.Entries.{Numbers, behind, andMore, numbersFrom}
-use Rattle.storing.specs.Lists.{numbersBytes}
+use Rattle.putting.specs.Blocks.{numbersBytes}
 use Rattle.roundtrips.specs.Trips.{Bytes, Words}
 
 -- the rest of a list of bytes

@@ -1,8 +1,5 @@
--- Putting: what the loops over numbers and bytes have written. Fitting: the tests of a record. Rows: the loop over the records.
--- Settling: the whole, and the room at the end. Cases: small lists, computed. Cited above: Writing, what is written, and of
--- which blocks; Tight, any two permitted results coincide.
-mod Putting
-mod Fitting
+-- Rows: the loop over the records. Settling: the whole, and the room at the end. Cases: small lists, computed. Cited above:
+-- Writing, what is written, and of which blocks; Tight, any two permitted results coincide.
 mod Rows
 mod Settling
 mod Cases

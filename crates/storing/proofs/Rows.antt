@@ -21,10 +21,11 @@ use Rattle.sevens.proofs.Streamed.{place-after}
 use Rattle.styles.specs.declared.Style.{Style}
 use Rattle.fields.specs.Fields.{lastOf}
 use Rattle.pages.specs.Pages.{Piece, piece, Last, none, last}
-use Rattle.storing.specs.Lists.{blockBytes}
-use Rattle.storing.specs.Storing.{styleAt, lengthAt, fits, piecesFrom, bytesOf}
-use Rattle.storing.proofs.Putting.{Ahead, wrote-length, length-block}
-use Rattle.storing.proofs.Fitting.{Fit, fits-fit}
+use Rattle.fitting.specs.Fitting.{styleAt, lengthAt, fits}
+use Rattle.fitting.proofs.Fitting.{Fit, fits-fit}
+use Rattle.putting.specs.Blocks.{blockBytes}
+use Rattle.putting.proofs.Putting.{Ahead, wrote-length, length-block}
+use Rattle.storing.specs.Storing.{piecesFrom, bytesOf}
 
 -- the bytes of the records that words are
 abbrev pub rowsOf : List ℕ → Last → ℕ → List ℕ → Stream ℕ

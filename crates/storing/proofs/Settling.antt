@@ -24,8 +24,8 @@ use Rattle.sevens.specs.Sevens.{written, byteLayout, streamed}
 use Rattle.sevens.proofs.Sevens.{written-length}
 use Rattle.sevens.proofs.Streamed.{answer-streamed, place-after}
 use Rattle.pages.specs.Pages.{none}
+use Rattle.putting.proofs.Putting.{wrote-length}
 use Rattle.storing.specs.Storing.{piecesFrom, pieces, bytesOf, listStream, writeAnswer, writeRoom}
-use Rattle.storing.proofs.Putting.{wrote-length}
 
 module _ (ws tx : List ℕ) where
   pub pieces-part : (length ws % 13 ≡ 0 → ⊥) → pieces ws tx ≡ stop (refusal StoredField)

@@ -28,11 +28,12 @@ use Rattle.wellformed.specs.WellFormed.{isUtf8}
 use Rattle.fields.specs.Fields.{inRange}
 use Rattle.pages.specs.Pages.{Piece, piece, Last, none, last, starts, textOf, blockRecord, records}
 use Rattle.pages.proofs.Blocks.{length-records}
-use Rattle.storing.specs.Lists.{blockBytes, blocksBytes, listBytes}
-use Rattle.storing.specs.Storing.{styleAt, placeAt, lengthAt, fits, piecesFrom, pieces, bytesOf}
-use Rattle.storing.specs.Storing.{listStream, writeAnswer, writeRoom}
+use Rattle.fitting.specs.Fitting.{styleAt, placeAt, lengthAt, fits}
+use Rattle.fitting.proofs.Fitting.{Fit, fits-fit, fit-all}
+use Rattle.putting.specs.Blocks.{blockBytes}
+use Rattle.storing.specs.Lists.{blocksBytes, listBytes}
+use Rattle.storing.specs.Storing.{piecesFrom, pieces, bytesOf, listStream, writeAnswer, writeRoom}
 use Rattle.storing.specs.Good.{Good}
-use Rattle.storing.proofs.Fitting.{Fit, fits-fit, fit-all}
 use Rattle.storing.proofs.Settling.{pieces-some}
 
 -- ---- good blocks

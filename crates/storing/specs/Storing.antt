@@ -1,56 +1,19 @@
 -- 01, Stored form: the writer. "The writer refuses by 24 (also where the words are no whole blocks, or text places do not follow
 -- on from 0 to the end of the text), then 25." Assumes nothing: these are definitions.
-use Prim.Native.Nat.{ℕ, zero, suc, _+_, _-_, _/_, _%_}
+use Prim.Native.Nat.{ℕ, zero, suc, _+_, _/_, _%_}
 use mathlib.Core.List.{List}
-use mathlib.Core.Bool.{Bool, cond, _&&_}
-use lib.ListN.{length, take, drop, getD}
-use lib.Dec.{leb, ltb, eqb}
+use mathlib.Core.Bool.{cond, _&&_}
+use lib.ListN.{length, take, drop}
+use lib.Dec.{ltb, eqb}
 use Rattle.answers.specs.declared.Outcome.{Outcome}
 use Rattle.answers.specs.declared.Why.the-variants.{StoredField, OutputRoom}
 use Rattle.answers.specs.Answers.{refusal}
 use Rattle.rooms.specs.Streams.{Stream, end, stop, _▸_, andThen, answer}
 use Rattle.rooms.specs.Rooms.{settled, content}
 use Rattle.sevens.specs.Sevens.{written, byteLayout, streamed}
-use Rattle.wellformed.specs.WellFormed.{isUtf8}
-use Rattle.styles.specs.declared.Style.{Style}
-use Rattle.fields.specs.Fields.{inRange}
-use Rattle.pages.specs.Pages.{Piece, piece, Last, none, last, starts}
-use Rattle.storing.specs.Lists.{blockBytes}
-
--- the style that a block's record says
-abbrev pub styleAt : List ℕ → Style
-styleAt ws = record {
-  colour = getD ws 0 0;
-  font = getD ws 1 0;
-  size = getD ws 2 0;
-  flags = getD ws 3 0;
-  alignment = getD ws 4 0;
-  before = getD ws 5 0;
-  after = getD ws 6 0;
-  kind = getD ws 7 0;
-  line = getD ws 8 0;
-  multiplier = getD ws 9 0;
-  tab = getD ws 10 0;
-}
-
-abbrev pub placeAt : List ℕ → ℕ
-placeAt ws = getD ws 11 0
-
-abbrev pub lengthAt : List ℕ → ℕ
-lengthAt ws = getD ws 12 0
-
--- "Block, 13 signed 32-bit words": place and length are not negative
-abbrev pub signs : List ℕ → Bool
-signs ws = leb (placeAt ws) 2147483647 && leb (lengthAt ws) 2147483647
-
--- whether a record says what it may behind a block l, where p bytes of the text came before
-abbrev pub says : Last → ℕ → List ℕ → Bool
-says l p ws =
-    inRange (styleAt ws) && (signs ws && (ltb 0 (lengthAt ws) && (starts l (styleAt ws) && eqb (placeAt ws) p)))
-
--- whether words start with such a record, and its text is there
-unfoldable pub fits : Last → ℕ → List ℕ → List ℕ → Bool
-fits l p ws tx = says l p ws && (leb (lengthAt ws) (length tx - p) && isUtf8 (take (lengthAt ws) (drop p tx)))
+use Rattle.pages.specs.Pages.{Piece, piece, Last, none, last}
+use Rattle.fitting.specs.Fitting.{styleAt, lengthAt, fits}
+use Rattle.putting.specs.Blocks.{blockBytes}
 
 -- the blocks of k records
 unfoldable pub piecesFrom : ℕ → Last → ℕ → List ℕ → List ℕ → Stream Piece

@@ -1,7 +1,7 @@
 -- `write_list` meets its contract: a refusal before anything is written, one by the blocks, a list that fits, or one too long.
 use mathlib.Core.Path.{refl}
 use native.Mathlib.Omega.{arith}
-use Rattle.storing.proofs.Putting.{wrote-length}
+use Rattle.putting.proofs.Putting.{wrote-length}
 use Rattle.storing.proofs.Settling.{pieces-part, pieces-many, answer-stop, list-wrote, number-place}
 use Rattle.storing.proofs.Settling.{refuse-answer, refuse-room, answer-refused}
 use Rattle.storing.proofs.Settling.{settle-fits, room-fits, over-answer, over-room}

@@ -2,9 +2,9 @@
 use borrow.Author.Needs.{needs}
 use Prim.Native.Nat.{_-_}
 use lib.ListN.{length}
-use Rattle.storing.proofs.Putting.{Numbers, numbers-start, numbers-more, numbers-done}
-use Rattle.storing.proofs.put_numbers.Statement.{statement}
-use Rattle.storing.proofs.put_numbers.Tie as tie
+use Rattle.putting.proofs.Putting.{Numbers, numbers-start, numbers-more, numbers-done}
+use Rattle.putting.proofs.put_numbers.Statement.{statement}
+use Rattle.putting.proofs.put_numbers.Tie as tie
 
 abbrev Inv-loop : tie.InvT-loop
 Inv-loop words room₀ n at₀ i₀ room at i = Numbers words n room₀ room at i

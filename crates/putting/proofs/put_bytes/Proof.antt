@@ -2,9 +2,9 @@
 use borrow.Author.Needs.{needs}
 use Prim.Native.Nat.{_-_}
 use lib.ListN.{length}
-use Rattle.storing.proofs.Putting.{Bytes, bytes-start, bytes-more, bytes-done}
-use Rattle.storing.proofs.put_bytes.Statement.{statement}
-use Rattle.storing.proofs.put_bytes.Tie as tie
+use Rattle.putting.proofs.Putting.{Bytes, bytes-start, bytes-more, bytes-done}
+use Rattle.putting.proofs.put_bytes.Statement.{statement}
+use Rattle.putting.proofs.put_bytes.Tie as tie
 
 abbrev Inv-loop : tie.InvT-loop
 Inv-loop bytes room₀ n at₀ i₀ room at i = Bytes bytes n room₀ room at i

@@ -1,9 +1,9 @@
 -- `fits` meets its contract: a law for each way through it.
 use Rattle.fields.specs.Fields.{lastOf}
-use Rattle.storing.proofs.Fitting.{no-says, no-rest, text-decides}
+use Rattle.fitting.proofs.Fitting.{no-says, no-rest, text-decides}
 use borrow.Author.Needs.{needs}
-use Rattle.storing.proofs.fits.Statement.{statement}
-use Rattle.storing.proofs.fits.Tie as tie
+use Rattle.fitting.proofs.fits.Statement.{statement}
+use Rattle.fitting.proofs.fits.Tie as tie
 
 style-at-requires : tie.Need-style-at-requires
 style-at-requires c κs = search needs

@@ -23,7 +23,7 @@ use Rattle.sevens.proofs.Streamed.{streamed-append, place-after}
 use Rattle.styles.specs.declared.Style.{Style}
 use Rattle.fields.specs.Fields.{folded, styleNumbers}
 use Rattle.pages.specs.Pages.{Piece, piece}
-use Rattle.storing.specs.Lists.{numbersBytes, blockNumbers, blockBytes}
+use Rattle.putting.specs.Blocks.{numbersBytes, blockNumbers, blockBytes}
 
 -- who writes y from place `at` on has then written x from place n on
 abbrev pub Ahead : ℕ → List ℕ → Stream ℕ → ℕ → List ℕ → Stream ℕ → Type 0

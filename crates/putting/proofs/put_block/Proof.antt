@@ -1,9 +1,9 @@
 -- `put_block` meets its contract: its twelve numbers, and then its text.
 use native.Mathlib.Omega.{arith}
-use Rattle.storing.proofs.Putting.{numbers-place, block-wrote, block-numbers}
+use Rattle.putting.proofs.Putting.{numbers-place, block-wrote, block-numbers}
 use borrow.Author.Needs.{needs}
-use Rattle.storing.proofs.put_block.Statement.{statement}
-use Rattle.storing.proofs.put_block.Tie as tie
+use Rattle.putting.proofs.put_block.Statement.{statement}
+use Rattle.putting.proofs.put_block.Tie as tie
 
 fold-requires : tie.Need-fold-requires
 fold-requires c κs = search needs

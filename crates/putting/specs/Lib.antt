@@ -1,0 +1,2 @@
+-- Blocks: what a block is as bytes.
+pub mod Blocks
