@@ -1,5 +1,6 @@
 -- Each way through the code of one block, as the definition has it.
 --     ruled-..   by the rules
+--     style-is   the style of a block's numbers
 --     block-..   by what came of the numbers
 -- Assumes nothing.
 use mathlib.Core.Path.{_≡_, refl, sym, _∙_}
@@ -19,7 +20,7 @@ use Rattle.rooms.proofs.Streams.{done-refused}
 use Rattle.wellformed.specs.WellFormed.{isUtf8}
 use Rattle.styles.specs.declared.Style.{Style}
 use Rattle.pages.specs.Pages.{Last, starts}
-use Rattle.fields.specs.Fields.{inRange, styleFrom}
+use Rattle.fields.specs.Fields.{inRange, unfolded, styleFrom}
 use Rattle.entries.specs.declared.Entry.{Entry}
 use Rattle.entries.specs.declared.Entry.the-variants.{Is, Bad}
 use Rattle.entries.specs.Entries.{Numbers, numbersFrom, NumbersIn, ruled, entryOf, entry}
@@ -51,6 +52,24 @@ module _ (l : Last) (st : Style) (n m : ℕ) (s : List ℕ) {a d : Bool} (p : a 
       pub ruled-bytes : u ≡ false → {r : Refusal} → r ≡ refusal StoredField → Bad r ≡ ruled l st n m s
       unfolding ruled
       ruled-bytes t f = rw (f, ← p, ← q, not-false (a && (ltb 0 n && d)) e, le-leb n (length s) h, ← k, t)
+
+-- the style that numbers say, as the code puts it together
+pub style-is : (ws : List ℕ) {b a m t : ℕ} → b ≡ unfolded (getD ws 5 0) → a ≡ unfolded (getD ws 6 0)
+    → m ≡ unfolded (getD ws 9 0) → t ≡ unfolded (getD ws 10 0)
+    → record {
+      colour = getD ws 0 0;
+      font = getD ws 1 0;
+      size = getD ws 2 0;
+      flags = getD ws 3 0;
+      alignment = getD ws 4 0;
+      before = b;
+      after = a;
+      kind = getD ws 7 0;
+      line = getD ws 8 0;
+      multiplier = m;
+      tab = t;
+    } ≡ styleFrom ws
+style-is ws eb ea em et = rw (eb, ea, em, et)
 
 -- by what came of the numbers
 module _ (l : Last) (s ws : List ℕ) {k : ℕ} (r : Outcome) (z : k ≡ 12) (h : NumbersIn (numbersFrom k s) (length s) r ws) where

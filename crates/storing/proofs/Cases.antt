@@ -13,7 +13,7 @@ use Rattle.wellformed.specs.WellFormed.{behind, goesOn}
 use Rattle.fields.specs.Fields.{folded, inRange, styleNumbers}
 use Rattle.fitting.specs.Fitting.{fits}
 use Rattle.putting.specs.Blocks.{numbersBytes, blockBytes}
-use Rattle.storing.specs.Storing.{piecesFrom, pieces, bytesOf, listStream, writeAnswer, writeRoom}
+use Rattle.storing.specs.Storing.{piecesFrom, bytesOf, listStream, writeAnswer, writeRoom}
 
 -- words and a text, a room's bytes, the answer's number, and the list; the count is its length, and the room's rest is zero
 record Case : Type 0 where
@@ -78,5 +78,5 @@ every [] = true
 every (c ∷ cs) = right c && every cs
 
 cases-right : every cases ≡ true
-unfolding cases written refused row right every sameBytes andThen answer encode settled content groups streamed behind goesOn folded inRange styleNumbers numbersBytes blockBytes fits piecesFrom pieces bytesOf listStream writeAnswer writeRoom
+unfolding cases written refused row right every sameBytes andThen answer encode settled content groups streamed behind goesOn folded inRange styleNumbers numbersBytes blockBytes fits piecesFrom bytesOf listStream writeAnswer writeRoom
 cases-right = refl

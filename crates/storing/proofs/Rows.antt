@@ -9,8 +9,8 @@ use native.Mathlib.Omega.{arith}
 use borrow.Author.Tests.{not-true, not-false, eq-eqb, ne-eqb}
 use lib.ListN.{length, take, drop, length-take, length-drop}
 use lib.Seq.{take-all}
-use Rattle.answers.specs.declared.Refusal.{Refusal}
 use Rattle.answers.specs.declared.Why.the-variants.{StoredField}
+use Rattle.answers.specs.declared.Outcome.{Outcome}
 use Rattle.answers.specs.declared.Outcome.the-variants.{Done, Refused}
 use Rattle.answers.specs.Answers.{refusal}
 use Rattle.rooms.specs.Streams.{Stream, end, stop, andThen}
@@ -70,16 +70,18 @@ rows-start blocks tx n room s h = record { within = omega arith; place = omega a
 
 module _ {blocks tx : List ℕ} {n : ℕ} {room₀ room ws : List ℕ} {begun : Bool} {before : Style} {p at : ℕ}
     (l : Rows blocks tx n room₀ room ws begun before p at) where
-  pub rows-stop : 13 ≤ length ws → {a : Bool} {r : Refusal} → a ≡ fits (lastOf begun before) p ws tx → not a ≡ true
-      → r ≡ refusal StoredField
-      → Wrote byteLayout n room₀ (rowsOf blocks none 0 tx) (Refused r) room
-  rows-stop h {a} {r} e t q =
-      l .left (Refused r) room (wrote-stop byteLayout (row-bad (lastOf begun before) p tx ws h (sym e ∙ not-true a t)) q)
+  stops : rowsOf ws (lastOf begun before) p tx ≡ stop (refusal StoredField) → {r : Outcome} → r ≡ Refused (refusal StoredField)
+      → Wrote byteLayout n room₀ (rowsOf blocks none 0 tx) r room
+  stops e q = rw q (l .left (Refused (refusal StoredField)) room (wrote-stop byteLayout e refl))
 
-  pub rows-over : length ws < 13 → p < length tx → {r : Refusal} → r ≡ refusal StoredField
-      → Wrote byteLayout n room₀ (rowsOf blocks none 0 tx) (Refused r) room
-  rows-over h f {r} q =
-      l .left (Refused r) room (wrote-stop byteLayout (rows-rest (lastOf begun before) p tx ws h (λ e. omega arith)) q)
+  pub rows-stop : 13 ≤ length ws → {a : Bool} {r : Outcome} → a ≡ fits (lastOf begun before) p ws tx → not a ≡ true
+      → r ≡ Refused (refusal StoredField)
+      → Wrote byteLayout n room₀ (rowsOf blocks none 0 tx) r room
+  rows-stop h {a} e t q = stops (row-bad (lastOf begun before) p tx ws h (sym e ∙ not-true a t)) q
+
+  pub rows-over : length ws < 13 → p < length tx → {r : Outcome} → r ≡ Refused (refusal StoredField)
+      → Wrote byteLayout n room₀ (rowsOf blocks none 0 tx) r room
+  rows-over h f q = stops (rows-rest (lastOf begun before) p tx ws h (λ e. omega arith)) q
 
   pub rows-done : length ws < 13 → length tx ≤ p → Wrote byteLayout n room₀ (rowsOf blocks none 0 tx) (Done at) room
   rows-done h e =

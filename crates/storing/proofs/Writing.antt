@@ -10,10 +10,10 @@ use mathlib.Core.List.{List, [], _∷_, _++_}
 use mathlib.Core.Bool.{Bool, true, false, cond, _&&_}
 use Prim.Native.Nat.{ℕ, zero, suc, _+_, _*_, _/_, _%_, _≤_, _<_}
 use native.Mathlib.Omega.{arith}
-use borrow.Author.Tests.{ltb-true, lt-ltb, eqb-true, eq-eqb}
+use borrow.Author.Tests.{ltb-true, lt-ltb, leb-true, le-leb, eqb-true, eq-eqb}
 use lib.ListN.{length, getD, take, drop, length-append, length-take, length-drop, take-append-drop}
 use lib.Seq.{take-at, drop-at, drop-drop, drop-cons, drop-length}
-use lib.Dec.{ltb, eqb}
+use lib.Dec.{leb, ltb, eqb}
 use Rattle.answers.specs.declared.Why.the-variants.{StoredField, OutputRoom}
 use Rattle.answers.specs.declared.Outcome.the-variants.{Done}
 use Rattle.answers.specs.Answers.{refusal}
@@ -32,9 +32,9 @@ use Rattle.fitting.specs.Fitting.{styleAt, placeAt, lengthAt, fits}
 use Rattle.fitting.proofs.Fitting.{Fit, fits-fit, fit-all}
 use Rattle.putting.specs.Blocks.{blockBytes}
 use Rattle.storing.specs.Lists.{blocksBytes, listBytes}
-use Rattle.storing.specs.Storing.{piecesFrom, pieces, bytesOf, listStream, writeAnswer, writeRoom}
+use Rattle.storing.specs.Storing.{piecesFrom, bytesOf, whole, listStream, writeAnswer, writeRoom}
 use Rattle.storing.specs.Good.{Good}
-use Rattle.storing.proofs.Settling.{pieces-some}
+use Rattle.storing.proofs.Settling.{list-is}
 
 -- ---- good blocks
 
@@ -144,11 +144,10 @@ rows-good (x ∷ xs) l p tx z e d h =
     ∙ blocks-cons x xs
 
 -- the count, and then the blocks
-list-as : (ws tx : List ℕ) (xs : List Piece) → length ws / 13 ≡ length xs
-    → pieces ws tx ≡ piecesFrom (length ws / 13) none 0 ws tx
+list-as : (ws tx : List ℕ) (xs : List Piece) → whole ws ≡ true → length ws / 13 ≡ length xs
     → bytesOf (piecesFrom (length xs) none 0 ws tx) ≡ streamed (blocksBytes xs) → listStream ws tx ≡ streamed (listBytes xs)
-unfolding listStream listBytes
-list-as ws tx xs k e q = rw (e, k, q) (sym (streamed-append (written (length xs)) (blocksBytes xs)))
+unfolding listBytes
+list-as ws tx xs w k q = list-is ws tx w ∙ rw (k, q) (sym (streamed-append (written (length xs)) (blocksBytes xs)))
 
 pub stream-good : (xs : List Piece) → Good none xs ≡ true → length (textOf xs) ≤ 2147483647
     → listStream (records 0 xs) (textOf xs) ≡ streamed (listBytes xs)
@@ -156,8 +155,8 @@ stream-good xs h s =
     let ws : List ℕ = records 0 xs in
     let l : length ws ≡ length xs * 13 = length-records xs 0 in
     let k : length ws / 13 ≡ length xs = omega arith in
-    list-as ws (textOf xs) xs k (pieces-some ws (textOf xs) (omega arith) (omega (arith, good-count xs none h)))
-    (rows-good xs none 0 (textOf xs) s (omega arith) refl h)
+    let w : whole ws ≡ true = rw (eq-eqb (length ws % 13) 0 (omega arith), le-leb (length ws / 13) 4294967295 (omega (arith, good-count xs none h))) in
+    list-as ws (textOf xs) xs w k (rows-good xs none 0 (textOf xs) s (omega arith) refl h)
 
 -- ---- and back
 
@@ -252,16 +251,13 @@ rows-ends (suc k) l p ws tx m n z a =
         rows-some k l p ws tx z f (ih (m + length b) n (simp length-drop (omega arith)) e)
     go false f ih = absurd (row-stop k l p ws tx f m n a)
 
--- whole blocks, few enough
-abbrev Whole : List ℕ → Bool
-Whole ws = eqb (length ws % 13) 0 && ltb (length ws / 13) 4294967296
-
-pieces-whole : (ws tx : List ℕ) (m n : ℕ) → answer m (bytesOf (pieces ws tx)) ≡ Done n → Whole ws ≡ true
-unfolding pieces bytesOf answer
-pieces-whole ws tx m n = go (Whole ws)
+list-whole : (ws tx : List ℕ) {n : ℕ} → answer 0 (listStream ws tx) ≡ Done n → whole ws ≡ true
+unfolding listStream answer
+list-whole ws tx {n} = go (whole ws)
   where
     go : (t : Bool)
-        → answer m (bytesOf (cond t (piecesFrom (length ws / 13) none 0 ws tx) (stop (refusal StoredField)))) ≡ Done n
+        → answer 0 (cond t (andThen (streamed (written (length ws / 13))) (bytesOf (piecesFrom (length ws / 13) none 0 ws tx)))
+        (stop (refusal StoredField))) ≡ Done n
         → t ≡ true
     go true a = refl
     go false a = absurd (done-refused (sym a))
@@ -269,29 +265,19 @@ pieces-whole ws tx m n = go (Whole ws)
 pub stream-ends : (ws tx : List ℕ) {n : ℕ} → answer 0 (listStream ws tx) ≡ Done n
     → (xs : List Piece) × (Good none xs ≡ true) × (ws ≡ records 0 xs) × (tx ≡ textOf xs) × (length xs < 4294967296)
     × (listStream ws tx ≡ streamed (listBytes xs))
-unfolding listStream
 stream-ends ws tx {n} a =
     let k : ℕ = length ws / 13 in
     let m : ℕ = 0 + length (written k) in
-    let b : answer m (bytesOf (pieces ws tx)) ≡ Done n =
-    sym (answer-then (bytesOf (pieces ws tx)) (streamed (written k)) 0 m (answer-streamed (written k) 0)) ∙ a in
-    let w : Whole ws ≡ true = pieces-whole ws tx m n b in
-    let z : length ws % 13 ≡ 0 = eqb-true (length ws % 13) 0 (and-left (eqb (length ws % 13) 0) (ltb k 4294967296) w) in
-    let s : k < 4294967296 = ltb-true k 4294967296 (and-right (eqb (length ws % 13) 0) (ltb k 4294967296) w) in
-    let e : pieces ws tx ≡ piecesFrom k none 0 ws tx = pieces-some ws tx z (omega arith) in
-    go s e
-    (rows-ends k none 0 ws tx m n (omega arith) (ap (λ (y : Stream Piece). answer m (bytesOf y)) (sym e) ∙ b))
-  where
-    go : length ws / 13 < 4294967296 → pieces ws tx ≡ piecesFrom (length ws / 13) none 0 ws tx
-        → Rows (length ws / 13) none 0 ws tx
-        → (xs : List Piece) × (Good none xs ≡ true) × (ws ≡ records 0 xs) × (tx ≡ textOf xs) × (length xs < 4294967296)
-        × (listStream ws tx ≡ streamed (listBytes xs))
-    go s e q =
-        let xs : List Piece = q .0 in
-        let k : length xs ≡ length ws / 13 = q .4 in
-        let d : bytesOf (piecesFrom (length xs) none 0 ws tx) ≡ streamed (blocksBytes xs) =
-        ap (λ (i : ℕ). bytesOf (piecesFrom i none 0 ws tx)) k ∙ q .5 in
-        (xs, q .1, q .2, q .3, rw k s, list-as ws tx xs (sym k) e d)
+    let w : whole ws ≡ true = list-whole ws tx a in
+    let s : Stream ℕ = bytesOf (piecesFrom k none 0 ws tx) in
+    let b : answer m s ≡ Done n =
+    sym (answer-then s (streamed (written k)) 0 m (answer-streamed (written k) 0)) ∙ ap (answer 0) (sym (list-is ws tx w)) ∙ a in
+    let z : length ws % 13 ≡ 0 = eqb-true (length ws % 13) 0 (and-left (eqb (length ws % 13) 0) (leb k 4294967295) w) in
+    let f : k ≤ 4294967295 = leb-true k 4294967295 (and-right (eqb (length ws % 13) 0) (leb k 4294967295) w) in
+    let q : Rows k none 0 ws tx = rows-ends k none 0 ws tx m n (omega arith) b in
+    let d : bytesOf (piecesFrom (length (q .0)) none 0 ws tx) ≡ streamed (blocksBytes (q .0)) =
+    ap (λ (i : ℕ). bytesOf (piecesFrom i none 0 ws tx)) (q .4) ∙ q .5 in
+    (q .0, q .1, q .2, q .3, rw (q .4) (omega arith), list-as ws tx (q .0) w (sym (q .4)) d)
 
 -- ---- the answer and the room
 

@@ -2,9 +2,9 @@
 -- on from 0 to the end of the text), then 25." Assumes nothing: these are definitions.
 use Prim.Native.Nat.{ℕ, zero, suc, _+_, _/_, _%_}
 use mathlib.Core.List.{List}
-use mathlib.Core.Bool.{cond, _&&_}
+use mathlib.Core.Bool.{Bool, cond, _&&_}
 use lib.ListN.{length, take, drop}
-use lib.Dec.{ltb, eqb}
+use lib.Dec.{leb, eqb}
 use Rattle.answers.specs.declared.Outcome.{Outcome}
 use Rattle.answers.specs.declared.Why.the-variants.{StoredField, OutputRoom}
 use Rattle.answers.specs.Answers.{refusal}
@@ -23,21 +23,22 @@ piecesFrom (suc k) l p ws tx =
     (piece (styleAt ws) (take (lengthAt ws) (drop p tx)) ▸ piecesFrom k (last (styleAt ws)) (p + lengthAt ws) (drop 13 ws) tx)
     (stop (refusal StoredField))
 
--- the blocks that words and a text are; a count that no stored number has is refused too
-unfoldable pub pieces : List ℕ → List ℕ → Stream Piece
-pieces ws tx =
-    cond (eqb (length ws % 13) 0 && ltb (length ws / 13) 4294967296) (piecesFrom (length ws / 13) none 0 ws tx)
-    (stop (refusal StoredField))
-
 -- the bytes of blocks, one after the other
 unfoldable pub bytesOf : Stream Piece → Stream ℕ
 bytesOf end = end
 bytesOf (stop r) = stop r
 bytesOf (x ▸ s) = andThen (streamed (blockBytes x)) (bytesOf s)
 
+-- whether words are whole blocks, of a count that a stored number has
+abbrev pub whole : List ℕ → Bool
+whole ws = eqb (length ws % 13) 0 && leb (length ws / 13) 4294967295
+
 -- the bytes of the list
 unfoldable pub listStream : List ℕ → List ℕ → Stream ℕ
-listStream ws tx = andThen (streamed (written (length ws / 13))) (bytesOf (pieces ws tx))
+listStream ws tx =
+    cond (whole ws)
+    (andThen (streamed (written (length ws / 13))) (bytesOf (piecesFrom (length ws / 13) none 0 ws tx)))
+    (stop (refusal StoredField))
 
 -- the one answer: 24, then 25
 unfoldable pub writeAnswer : ℕ → List ℕ → List ℕ → Outcome

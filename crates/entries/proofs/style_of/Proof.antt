@@ -1,5 +1,6 @@
 -- `style_of` meets its contract: each word at its place.
 use borrow.Author.Needs.{needs}
+use Rattle.entries.proofs.Branches.{style-is}
 use Rattle.entries.proofs.style_of.Statement.{statement}
 use Rattle.entries.proofs.style_of.Tie as tie
 
@@ -49,7 +50,14 @@ shared-slice-read-t23 : tie.Need-shared-slice-read-t23
 shared-slice-read-t23 c = search needs
 
 returns : tie.Need-returns
-returns c = cc
+returns c =
+    let at-unfold4 = c .before .before .before .before .before .before .before in
+    let at-unfold3 = at-unfold4 .before .before in
+    let at-unfold2 = at-unfold3 .before .before in
+    let at-unfold = at-unfold2 .before .before in
+    let start = at-unfold .before .before .before in
+    style-is (start .args .words .now) (at-unfold .«unfold» .ensures) (at-unfold2 .unfold2 .ensures)
+    (at-unfold3 .unfold3 .ensures) (at-unfold4 .unfold4 .ensures)
 
 pub style-of-spec : {M : Type 1} → statement M
 style-of-spec =

@@ -25,8 +25,8 @@ loop-holds c =
 fits-requires : tie.Need-fits-requires Inv-loop μ-loop
 fits-requires c κs = (c .loop-test .taken, c .before .loop .inv .within)
 
-of-requires : tie.Need-of-requires Inv-loop μ-loop
-of-requires c κs = search needs
+unfit-requires : tie.Need-unfit-requires Inv-loop μ-loop
+unfit-requires c κs = search needs
 
 same-length : tie.Need-same-length Inv-loop μ-loop
 same-length c =
@@ -40,7 +40,7 @@ returns c =
     let at-loop-test = at-fits2 .before in
     let at-loop = at-loop-test .before in
     rows-stop (at-loop .loop .inv) (at-loop-test .loop-test .taken) (at-fits2 .fits2 .ensures) (at-if1 .if1 .taken)
-    (c .of .ensures)
+    (c .unfit .ensures)
 
 style-at-requires : tie.Need-style-at-requires Inv-loop μ-loop
 style-at-requires c κs = search needs
@@ -59,7 +59,7 @@ add-end c =
     let at-loop = at-loop-test .before in
     let start = at-loop .before .before .before .before .before .before in
     let f = row-fit (at-loop .loop .inv) (at-loop-test .loop-test .taken) (at-fits2 .fits2 .ensures) (at-if1 .if1 .left) in
-    omega (arith, f, start .fits, at-loop .loop .inv .within, c .wide .ensures)
+    omega (arith, f .within, start .fits, at-loop .loop .inv .within, c .wide .ensures)
 
 sub-put-block : tie.Need-sub-put-block Inv-loop μ-loop
 sub-put-block c =
@@ -68,7 +68,7 @@ sub-put-block c =
     let at-loop-test = at-fits2 .before in
     let at-loop = at-loop-test .before in
     let f = row-fit (at-loop .loop .inv) (at-loop-test .loop-test .taken) (at-fits2 .fits2 .ensures) (at-if1 .if1 .left) in
-    omega (arith, f, at-loop .loop .inv .within, c .wide .ensures)
+    omega (arith, f .within, at-loop .loop .inv .within, c .wide .ensures)
 
 part-put-block-start : tie.Need-part-put-block-start Inv-loop μ-loop
 part-put-block-start c =
@@ -77,7 +77,7 @@ part-put-block-start c =
     let at-loop-test = at-fits2 .before in
     let at-loop = at-loop-test .before in
     let f = row-fit (at-loop .loop .inv) (at-loop-test .loop-test .taken) (at-fits2 .fits2 .ensures) (at-if1 .if1 .left) in
-    omega (arith, f, at-loop .loop .inv .within, c .wide .ensures)
+    omega (arith, f .within, at-loop .loop .inv .within, c .wide .ensures)
 
 part-put-block-end : tie.Need-part-put-block-end Inv-loop μ-loop
 part-put-block-end c =
@@ -86,7 +86,7 @@ part-put-block-end c =
     let at-loop-test = at-fits2 .before in
     let at-loop = at-loop-test .before in
     let f = row-fit (at-loop .loop .inv) (at-loop-test .loop-test .taken) (at-fits2 .fits2 .ensures) (at-if1 .if1 .left) in
-    omega (arith, f, at-loop .loop .inv .within, c .wide .ensures)
+    omega (arith, f .within, at-loop .loop .inv .within, c .wide .ensures)
 
 put-block-requires : tie.Need-put-block-requires Inv-loop μ-loop
 put-block-requires c κs =
@@ -128,8 +128,8 @@ loop-again c =
     rows-more (at-loop .loop .inv) (at-loop-test .loop-test .taken) (at-fits2 .fits2 .ensures) (at-if1 .if1 .left)
     (at-style-at .style-at .ensures) (at-wide .wide .ensures) (at-put-block .put-block .ensures)
 
-of-requires-2 : tie.Need-of-requires-2 Inv-loop μ-loop
-of-requires-2 c κs = search needs
+unfit-requires-2 : tie.Need-unfit-requires-2 Inv-loop μ-loop
+unfit-requires-2 c κs = search needs
 
 same-length-2 : tie.Need-same-length-2 Inv-loop μ-loop
 same-length-2 c =
@@ -141,7 +141,7 @@ returns-2 c =
     let at-if2 = c .before in
     let at-loop-test = at-if2 .before in
     let at-loop = at-loop-test .before in
-    rows-over (at-loop .loop .inv) (at-loop-test .loop-test .left) (omega (arith, at-if2 .if2 .taken)) (c .of2 .ensures)
+    rows-over (at-loop .loop .inv) (at-loop-test .loop-test .left) (omega (arith, at-if2 .if2 .taken)) (c .unfit2 .ensures)
 
 same-length-3 : tie.Need-same-length-3 Inv-loop μ-loop
 same-length-3 c = c .before .before .loop .inv .same
@@ -158,7 +158,7 @@ put-blocks-spec =
     blank-requires
     loop-holds
     fits-requires
-    of-requires
+    unfit-requires
     same-length
     returns
     style-at-requires
@@ -174,7 +174,7 @@ put-blocks-spec =
     part-words-end
     loop-less
     loop-again
-    of-requires-2
+    unfit-requires-2
     same-length-2
     returns-2
     same-length-3
