@@ -28,7 +28,7 @@ use Rattle.reader.specs.declared.Counts.{Counts}
 use Rattle.reader.specs.declared.Answer.the-variants.{Read}
 use Rattle.reader.specs.Reading.{shownBy, begun, Sizes, Letter, ended, placed, bodied, headed, walked, cut, letterOf, countsOf}
 use Rattle.reader.specs.Reading.{answered, readAnswer, blockRoom, textRoom}
-use Rattle.storing.specs.Lists.{listBytes}
+use Rattle.putting.specs.Blocks.{listBytes}
 use Rattle.storing.specs.Good.{Good}
 use Rattle.storing.specs.Storing.{writeAnswer, writeRoom}
 use Rattle.storing.proofs.Writing.{write-good}

@@ -23,8 +23,7 @@ use Rattle.entries.specs.declared.Entry.{Entry}
 use Rattle.entries.specs.declared.Entry.the-variants.{Is, Bad}
 use Rattle.entries.specs.Entries.{entry}
 use Rattle.stored.specs.Stored.{over, entered, blocksFrom, counted, stored}
-use Rattle.putting.specs.Blocks.{numbersBytes, blockNumbers, blockBytes}
-use Rattle.storing.specs.Lists.{blocksBytes, listBytes}
+use Rattle.putting.specs.Blocks.{numbersBytes, blockNumbers, blockBytes, blocksBytes, listBytes}
 use Rattle.storing.specs.Good.{Good}
 use Rattle.storing.proofs.Writing.{good-one, one-good}
 use Rattle.roundtrips.specs.Trips.{Bytes, Small, all}

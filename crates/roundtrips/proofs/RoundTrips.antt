@@ -27,9 +27,10 @@ use Rattle.stored.specs.declared.Counts.{Counts}
 use Rattle.stored.specs.declared.Answer.{Answer}
 use Rattle.stored.specs.declared.Answer.the-variants.{Read, Refuses}
 use Rattle.stored.specs.Stored.{stored, placed, countsOf, answered, storedAnswer, storedBlocks, storedText}
-use Rattle.storing.specs.Lists.{listBytes}
+use Rattle.putting.specs.Blocks.{listBytes}
 use Rattle.storing.specs.Good.{Good}
-use Rattle.storing.specs.Storing.{listStream, writeAnswer, writeRoom}
+use Rattle.lists.specs.Lists.{listStream}
+use Rattle.storing.specs.Storing.{writeAnswer, writeRoom}
 use Rattle.storing.proofs.Writing.{stream-ends, write-good}
 use Rattle.roundtrips.specs.Trips.{Bytes, Words, Small, all}
 use Rattle.roundtrips.proofs.Lists.{list-written, Accepted, list-read}

@@ -30,11 +30,11 @@ use Rattle.pages.specs.Pages.{Piece, piece, Last, none, last, starts, textOf, b
 use Rattle.pages.proofs.Blocks.{length-records}
 use Rattle.fitting.specs.Fitting.{styleAt, placeAt, lengthAt, fits}
 use Rattle.fitting.proofs.Fitting.{Fit, fits-fit, fit-all}
-use Rattle.putting.specs.Blocks.{blockBytes}
-use Rattle.storing.specs.Lists.{blocksBytes, listBytes}
-use Rattle.storing.specs.Storing.{piecesFrom, bytesOf, whole, listStream, writeAnswer, writeRoom}
+use Rattle.putting.specs.Blocks.{blockBytes, blocksBytes, listBytes}
+use Rattle.lists.specs.Lists.{piecesFrom, bytesOf, whole, listStream}
+use Rattle.lists.proofs.Lists.{list-is}
+use Rattle.storing.specs.Storing.{writeAnswer, writeRoom}
 use Rattle.storing.specs.Good.{Good}
-use Rattle.storing.proofs.Settling.{list-is}
 
 -- ---- good blocks
 

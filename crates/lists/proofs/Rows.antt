@@ -25,7 +25,7 @@ use Rattle.fitting.specs.Fitting.{styleAt, lengthAt, fits}
 use Rattle.fitting.proofs.Fitting.{Fit, fits-fit}
 use Rattle.putting.specs.Blocks.{blockBytes}
 use Rattle.putting.proofs.Putting.{Ahead, wrote-length, length-block}
-use Rattle.storing.specs.Storing.{piecesFrom, bytesOf}
+use Rattle.lists.specs.Lists.{piecesFrom, bytesOf}
 
 -- the bytes of the records that words are
 abbrev pub rowsOf : List ℕ → Last → ℕ → List ℕ → Stream ℕ

@@ -1,9 +1,9 @@
 -- `put_list` meets its contract: words that are no whole blocks, or the count and then the blocks.
 use native.Mathlib.Omega.{arith}
-use Rattle.storing.proofs.Settling.{list-none, list-wrote, whole-few, number-place}
+use Rattle.lists.proofs.Lists.{list-none, list-wrote, whole-few, number-place}
 use borrow.Author.Needs.{needs}
-use Rattle.storing.proofs.put_list.Statement.{statement}
-use Rattle.storing.proofs.put_list.Tie as tie
+use Rattle.lists.proofs.put_list.Statement.{statement}
+use Rattle.lists.proofs.put_list.Tie as tie
 
 unfit-requires : tie.Need-unfit-requires
 unfit-requires c κs = search needs

@@ -3,9 +3,9 @@
 use borrow.Author.Needs.{needs}
 use native.Mathlib.Omega.{arith}
 use lib.ListN.{length, length-take, length-drop}
-use Rattle.storing.proofs.Rows.{Rows, rows-start, rows-stop, rows-over, rows-done, rows-more, row-fit}
-use Rattle.storing.proofs.put_blocks.Statement.{statement}
-use Rattle.storing.proofs.put_blocks.Tie as tie
+use Rattle.lists.proofs.Rows.{Rows, rows-start, rows-stop, rows-over, rows-done, rows-more, row-fit}
+use Rattle.lists.proofs.put_blocks.Statement.{statement}
+use Rattle.lists.proofs.put_blocks.Tie as tie
 
 abbrev Inv-loop : tie.InvT-loop
 Inv-loop blocks text room₀ n words₀ begun₀ before₀ p₀ at₀ room words begun before p at =
