@@ -1,4 +1,5 @@
--- Telling lists, as theorems on the definitions: each is computed through the whole of reading, and of the check. Assumes nothing.
+-- Telling lists, as theorems on the definitions: each is computed through the whole of reading and of the check.
+-- Assumes nothing.
 use mathlib.Core.Path.{_≡_, refl}
 use mathlib.Core.List.{List, [], _∷_, _++_}
 use mathlib.Core.Bool.{Bool, true, false, cond, _&&_}

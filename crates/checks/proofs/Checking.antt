@@ -68,7 +68,8 @@ module _ {k : ℕ} {s t : List ℕ} {n left : ℕ} {begun : Bool} {before : Styl
       bytes : length (take c (drop m t)) ≡ c
       bytes = length-take c (drop m t) ∙ simp length-drop (omega (arith, facts .within))
 
-      pub checking-text : left < c → {r : Refusal} → r ≡ refusal TextRoom → Refused r ≡ answer 0 (roomy B 2147483647 none (blocksFrom k none s))
+      pub checking-text : left < c → {r : Refusal} → r ≡ refusal TextRoom
+          → Refused r ≡ answer 0 (roomy B 2147483647 none (blocksFrom k none s))
       unfolding answer
       checking-text l q =
           sym (to-check ∙ rw (
@@ -93,7 +94,8 @@ module _ {k : ℕ} {s t : List ℕ} {n left : ℕ} {begun : Bool} {before : Styl
             bytes,
           ) refl
 
-  pub checking-more : 0 < n → {e : Entry} → e ≡ entry (lastOf begun before) t → {st : Style} {m c : ℕ} → e ≡ Is st m c → c ≤ left
+  pub checking-more : 0 < n → {e : Entry} → e ≡ entry (lastOf begun before) t → {st : Style} {m c : ℕ} → e ≡ Is st m c
+      → c ≤ left
       → Checking k s (take (length t - (m + c)) (drop (m + c) t)) (n - 1) (left - c) true st
   checking-more h d {st} {m} {c} f l =
       let q = entry-is (lastOf begun before) t (sym d ∙ f) in
@@ -104,7 +106,8 @@ module _ {k : ℕ} {s t : List ℕ} {n left : ℕ} {begun : Bool} {before : Styl
       })
 
   module _ (h : n ≤ 0) (B : ℕ) (w : length s ≤ B) where
-    pub checking-left : 0 < length t → {r : Refusal} → r ≡ refusal StoredLong → Refused r ≡ answer 0 (roomy B 2147483647 none (blocksFrom k none s))
+    pub checking-left : 0 < length t → {r : Refusal} → r ≡ refusal StoredLong
+        → Refused r ≡ answer 0 (roomy B 2147483647 none (blocksFrom k none s))
     unfolding roomy answer
     checking-left l e = sym (g .all B w ∙ rw (e, blocks-over n (lastOf begun before) t h, over-some t l))
 

@@ -38,7 +38,8 @@ unfolding blocksFrom count
 count-blocks zero l s = count-over s
 count-blocks (suc k) l s = go (entry l s) refl (λ l′ m. count-blocks k l′ (drop m s))
   where
-    go : (e : Entry) → entry l s ≡ e → ((l′ : Last) (m : ℕ) → count (blocksFrom k l′ (drop m s)) ≤ length (drop m s)) → count (entered e s (blocksFrom k)) ≤ length s
+    go : (e : Entry) → entry l s ≡ e → ((l′ : Last) (m : ℕ) → count (blocksFrom k l′ (drop m s)) ≤ length (drop m s))
+        → count (entered e s (blocksFrom k)) ≤ length s
     go (Is st m n) e more =
         let w = entry-is l s e in
         let h : count (blocksFrom k (last st) (drop (m + n) s)) ≤ length s - (m + n) = rw (length-drop (m + n) s) at (more (last st) (m + n)) in
@@ -76,7 +77,8 @@ roomy-blocks (x ▸ s) b c t l h k =
     fewer false n h = omega arith
 
 -- "rooms counted as ample"
-pub check-reads : (s : List ℕ) (b t : ℕ) → length s ≤ capacity 13 b → 2147483647 ≤ t → answerNumber (storedAnswer b t s) ≡ outcomeNumber (checked s)
+pub check-reads : (s : List ℕ) (b t : ℕ) → length s ≤ capacity 13 b → 2147483647 ≤ t
+    → answerNumber (storedAnswer b t s) ≡ outcomeNumber (checked s)
 unfolding storedAnswer checked placed
 check-reads s b t h k =
     let c = count-stored s in

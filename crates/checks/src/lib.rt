@@ -1,4 +1,4 @@
-// A stored list, checked without any rooms (01, Stored form): "The node host .. gets its refusal number, rooms counted as ample."
+// A stored list, checked without rooms (01, Stored form: "The node host .. gets its refusal number, rooms counted as ample").
 //
 //   check          the answer that `stored::read_list` would give with ample rooms
 //   check_blocks   the same of a list's blocks, behind their count
@@ -28,7 +28,8 @@ fn wide(x: u32) -> usize
 
 // Checks k blocks: how many there are, or the refusal.
 fn check_blocks(list: &[u8], k: usize) -> Outcome
-    ensures { λ r. ⌜ ((b : ℕ) → length (now (list .entry)) ≤ b → r ≡ answer 0 (roomy b 2147483647 none (blocksFrom k none (now (list .entry))))) ⌝ }
+    ensures { λ r. ⌜ ((b : ℕ) → length (now (list .entry)) ≤ b
+        → r ≡ answer 0 (roomy b 2147483647 none (blocksFrom k none (now (list .entry))))) ⌝ }
 {
     let mut t = list;
     let mut n = k;

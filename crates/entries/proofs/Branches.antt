@@ -91,7 +91,8 @@ module _ (l : Last) (s ws : List ℕ) {k : ℕ} (r : Outcome) (z : k ≡ 12) (h 
       go (found q) (a, b, c) = let w : Done m ≡ Done (q .size) = sym e ∙ a in let v : m ≡ q .size = cc in omega (arith, v, c)
       go (refused g) a = absurd (done-refused (sym e ∙ a))
 
-  pub block-entry : {m n : ℕ} {st : Style} {x : Entry} → r ≡ Done m → st ≡ styleFrom ws → n ≡ getD ws 11 0 → x ≡ ruled l st n m (take (length s - m) (drop m s)) → x ≡ entry l s
+  pub block-entry : {m n : ℕ} {st : Style} {x : Entry} → r ≡ Done m → st ≡ styleFrom ws → n ≡ getD ws 11 0
+      → x ≡ ruled l st n m (take (length s - m) (drop m s)) → x ≡ entry l s
   unfolding entry
   block-entry {m} {n} {st} {x} e i j d = go (numbersFrom 12 s) numbers
     where

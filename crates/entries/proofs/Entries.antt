@@ -63,7 +63,8 @@ pub record Entered (l : Last) (s : List ℕ) (st : Style) (m n : ℕ) : Type 0 w
   pub utf8 : isUtf8 (take n (drop m s)) ≡ true
 
 module _ (l : Last) (s : List ℕ) (st : Style) (n m : ℕ) (low : 12 ≤ m) (high : m ≤ length s) where
-  accepted : {st′ : Style} {m′ n′ : ℕ} → inRange st && (ltb 0 n && starts l st) ≡ true → leb n (length (drop m s)) ≡ true → isUtf8 (take n (drop m s)) ≡ true
+  accepted : {st′ : Style} {m′ n′ : ℕ} → inRange st && (ltb 0 n && starts l st) ≡ true → leb n (length (drop m s)) ≡ true
+      → isUtf8 (take n (drop m s)) ≡ true
       → Is st m n ≡ Is st′ m′ n′ → Entered l s st′ m′ n′
   accepted {st′} {m′} {n′} a b c e =
       let q : st ≡ st′ = cc in
@@ -84,7 +85,8 @@ module _ (l : Last) (s : List ℕ) (st : Style) (n m : ℕ) (low : 12 ≤ m) (hi
   unfolding ruled
   ruled-is {st′} {m′} {n′} = go (inRange st && (ltb 0 n && starts l st)) (leb n (length (drop m s))) (isUtf8 (take n (drop m s))) refl refl refl
     where
-      go : (a b c : Bool) → inRange st && (ltb 0 n && starts l st) ≡ a → leb n (length (drop m s)) ≡ b → isUtf8 (take n (drop m s)) ≡ c
+      go : (a b c : Bool) → inRange st && (ltb 0 n && starts l st) ≡ a → leb n (length (drop m s)) ≡ b
+          → isUtf8 (take n (drop m s)) ≡ c
           → cond a (cond b (cond c (Is st m n) (Bad (refusal StoredField))) (Bad (refusal StoredShort))) (Bad (refusal StoredField)) ≡ Is st′ m′ n′ → Entered l s st′ m′ n′
       go true true true a b c e = accepted a b c e
       go true true false a b c e = let z : _≡_ {A = ℕ} 0 1 = cc in absurd (omega arith)

@@ -22,7 +22,8 @@ behind-none : (x : Found Numbers) → behind [] 0 x ≡ x
 behind-none (found q) = let z : 0 + q .size ≡ q .size = omega arith in rw z refl
 behind-none (refused r) = refl
 
-behind-more : (vs : List ℕ) (m v k : ℕ) (x : Found Numbers) → behind vs m (behind (v ∷ []) k x) ≡ behind (vs ++ (v ∷ [])) (m + k) x
+behind-more : (vs : List ℕ) (m v k : ℕ) (x : Found Numbers)
+    → behind vs m (behind (v ∷ []) k x) ≡ behind (vs ++ (v ∷ [])) (m + k) x
 behind-more vs m v k (found q) =
     let e : m + (k + q .size) ≡ m + k + q .size = omega arith in
     rw (e, append-assoc vs (v ∷ []) (q .values)) refl
@@ -43,11 +44,13 @@ reading-start s ws =
 
 module _ {s : List ℕ} {total i : ℕ} {t ws : List ℕ} (g : Reading s total i t ws) where
   module _ (h : i < length ws) where
-    next : {x : Numeral} → x ≡ numberOf t → numbersFrom (total - i) t ≡ andMore x (λ (n : ℕ). numbersFrom (total - (i + 1)) (drop n t))
+    next : {x : Numeral} → x ≡ numberOf t
+        → numbersFrom (total - i) t ≡ andMore x (λ (n : ℕ). numbersFrom (total - (i + 1)) (drop n t))
     unfolding numbersFrom
     next e = let q : total - i ≡ suc (total - (i + 1)) = omega (arith, h, g .wide) in rw (q, e)
 
-    pub reading-more : {x : Numeral} {v k : ℕ} → x ≡ numberOf t → x ≡ Numbered v k → Reading s total (i + 1) (take (length t - k) (drop k t)) (set ws i v)
+    pub reading-more : {x : Numeral} {v k : ℕ} → x ≡ numberOf t → x ≡ Numbered v k
+        → Reading s total (i + 1) (take (length t - k) (drop k t)) (set ws i v)
     reading-more {x} {v} {k} e f =
         let w = number-within t (sym e ∙ f) in
         let l : length (drop k t) ≡ length t - k = length-drop k t in
@@ -62,10 +65,12 @@ module _ {s : List ℕ} {total i : ℕ} {t ws : List ℕ} (g : Reading s total i
               ∙ rw (m, add-one i, take-suc-set ws i v h);
         })
 
-    pub reading-bad : {x : Numeral} (ws′ : List ℕ) (n : ℕ) → x ≡ numberOf t → x ≡ BadNumber → {r : Refusal} → r ≡ refusal StoredNumber → NumbersIn (numbersFrom total s) n (Refused r) ws′
+    pub reading-bad : {x : Numeral} (ws′ : List ℕ) (n : ℕ) → x ≡ numberOf t → x ≡ BadNumber → {r : Refusal}
+        → r ≡ refusal StoredNumber → NumbersIn (numbersFrom total s) n (Refused r) ws′
     reading-bad ws′ n e f q = rw (g .all, next e, f, q) refl
 
-    pub reading-short : {x : Numeral} (ws′ : List ℕ) (n : ℕ) → x ≡ numberOf t → x ≡ Short → {r : Refusal} → r ≡ refusal StoredShort → NumbersIn (numbersFrom total s) n (Refused r) ws′
+    pub reading-short : {x : Numeral} (ws′ : List ℕ) (n : ℕ) → x ≡ numberOf t → x ≡ Short → {r : Refusal}
+        → r ≡ refusal StoredShort → NumbersIn (numbersFrom total s) n (Refused r) ws′
     reading-short ws′ n e f q = rw (g .all, next e, f, q) refl
 
   pub reading-end : (length ws ≤ i) → NumbersIn (numbersFrom total s) (length s) (Done (length s - length t)) ws

@@ -39,8 +39,8 @@ unfoldable pub numbersFrom : ℕ → List ℕ → Found Numbers
 numbersFrom zero s = found (record { values = []; size = 0 })
 numbersFrom (suc k) s = andMore (numberOf s) (λ (n : ℕ). numbersFrom k (drop n s))
 
--- "24 for ranges, length and style, 22 for the text, 24 for UTF-8": a block of a style and n bytes of text, where a block l came
--- before, its numbers have m bytes and s follows them
+-- "24 for ranges, length and style, 22 for the text, 24 for UTF-8": a block of a style and n bytes of text, where a block l
+-- came before, its numbers have m bytes and s follows them
 unfoldable pub ruled : Last → Style → ℕ → ℕ → List ℕ → Entry
 ruled l st n m s =
     cond (inRange st && (ltb 0 n && starts l st))

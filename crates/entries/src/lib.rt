@@ -27,7 +27,8 @@ pub enum Entry {
 
 // As many numbers as the room has words, one after the other: how many bytes they have.
 fn numbers_at(s: &[u8], words: &mut [u32]) -> Outcome
-    ensures { λ r. ⌜ NumbersIn (numbersFrom (length (now (words .entry))) (now (s .entry))) (length (now (s .entry))) r (now (words .exit)) ⌝ }
+    ensures { λ r. ⌜ NumbersIn (numbersFrom (length (now (words .entry))) (now (s .entry))) (length (now (s .entry))) r
+        (now (words .exit)) ⌝ }
 {
     let mut t = s;
     let mut i: usize = 0;

@@ -35,7 +35,8 @@ pub record Going (k : ℕ) (s b₀ x₀ t : List ℕ) (n : ℕ) (p : Page) (begu
 pub going-start : (k : ℕ) (s b x : List ℕ) (before : Style) {p : Page} → p ≡ blank → Going k s b x s k p false before b x
 going-start k s b x before e = rw e (record { ready = ready-blank (length b) (length x); wide = refl; long = refl; all = refl })
 
-module _ {k : ℕ} {s b₀ x₀ t : List ℕ} {n : ℕ} {p : Page} {begun : Bool} {before : Style} {b x : List ℕ} (g : Going k s b₀ x₀ t n p begun before b x) where
+module _ {k : ℕ} {s b₀ x₀ t : List ℕ} {n : ℕ} {p : Page} {begun : Bool} {before : Style} {b x : List ℕ}
+    (g : Going k s b₀ x₀ t n p begun before b x) where
   module _ (h : 0 < n) {e : Entry} (d : e ≡ entry (lastOf begun before) t) where
     to-entry : layAll (on blank b₀ x₀) (blocksFrom k none s) ≡ layAll (on p b x) (entered e t (blocksFrom (n - 1)))
     to-entry = g .all ∙ rw (blocks-next n (n - 1) (lastOf begun before) t (omega arith), ← d)
@@ -44,7 +45,8 @@ module _ {k : ℕ} {s b₀ x₀ t : List ℕ} {n : ℕ} {p : Page} {begun : Bool
     unfolding layAll
     going-bad f = sym (to-entry ∙ rw f)
 
-    module _ {st : Style} {m c : ℕ} (f : e ≡ Is st m c) {u : List ℕ} (v : u ≡ take (length t - m) (drop m t)) (l : Laid) (b′ x′ : List ℕ)
+    module _ {st : Style} {m c : ℕ} (f : e ≡ Is st m c) {u : List ℕ} (v : u ≡ take (length t - m) (drop m t)) (l : Laid)
+        (b′ x′ : List ℕ)
         (w : told l b′ x′ ≡ addOf p st (take c u) b x) where
       one : layAll (on blank b₀ x₀) (blocksFrom k none s) ≡ layAll (told l b′ x′) (blocksFrom (n - 1) (last st) (drop c (drop m t)))
       unfolding layAll
@@ -65,7 +67,8 @@ module _ {k : ℕ} {s b₀ x₀ t : List ℕ} {n : ℕ} {p : Page} {begun : Bool
           }
 
   module _ (h : n ≤ 0) where
-    pub going-left : 0 < length t → {r : Refusal} → r ≡ refusal StoredLong → off r ≡ layAll (on blank b₀ x₀) (blocksFrom k none s)
+    pub going-left : 0 < length t → {r : Refusal} → r ≡ refusal StoredLong
+        → off r ≡ layAll (on blank b₀ x₀) (blocksFrom k none s)
     unfolding layAll
     going-left l e = sym (g .all ∙ rw (e, blocks-over n (lastOf begun before) t h, over-some t l))
 

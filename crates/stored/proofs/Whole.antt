@@ -27,7 +27,8 @@ use Rattle.stored.specs.Stored.{blocksFrom, stored, placed, storedAnswer
 use Rattle.stored.proofs.Blocks.{stored-is, stored-bad, stored-short}
 
 module _ (s : List ℕ) {x : Numeral} (d : x ≡ numberOf s) (b t : List ℕ) where
-  pub lay-is : {v m k : ℕ} → x ≡ Numbered v m → k ≡ v → {l : Laying} → l ≡ layAll (on blank b t) (blocksFrom k none (take (length s - m) (drop m s)))
+  pub lay-is : {v m k : ℕ} → x ≡ Numbered v m → k ≡ v → {l : Laying}
+      → l ≡ layAll (on blank b t) (blocksFrom k none (take (length s - m) (drop m s)))
       → l ≡ layAll (on blank b t) (stored s)
   lay-is e f h = h ∙ rw (stored-is s d e f)
 
@@ -46,7 +47,8 @@ pub record Whole (s b t : List ℕ) (r : Answer) (b′ t′ : List ℕ) : Type 0
   pub text : t′ ≡ storedText (length b) (length t) s
 
 module _ (s b t : List ℕ) (l : Laid) (b₁ t₁ : List ℕ) (h : told l b₁ t₁ ≡ layAll (on blank b t) (stored s)) where
-  pub list-full : {k : Refusal} → l ≡ Full k → {r : Answer} {b₂ t₂ : List ℕ} → r ≡ Refuses k → b₂ ≡ replicate (length b₁) 0 → t₂ ≡ replicate (length t₁) 0
+  pub list-full : {k : Refusal} → l ≡ Full k → {r : Answer} {b₂ t₂ : List ℕ} → r ≡ Refuses k → b₂ ≡ replicate (length b₁) 0
+      → t₂ ≡ replicate (length t₁) 0
       → length b₁ ≡ length b → length t₁ ≡ length t → Whole s b t r b₂ t₂
   unfolding storedAnswer storedBlocks storedText placed
   list-full {k} e f g i lb lt =
@@ -58,7 +60,8 @@ module _ (s b t : List ℕ) (l : Laid) (b₁ t₁ : List ℕ) (h : told l b₁ t
     unfolding placed
     joined = lay-joins (stored s) b t (sym h ∙ ap (λ (m : Laid). told m b₁ t₁) e)
 
-    pub list-laid : {n : ℕ} {b₂ b₃ t₂ : List ℕ} → b₂ ≡ lastPut p b₁ → n ≡ blockCount p → b₃ ≡ take (n * 13) b₂ ++ replicate (length b₂ - n * 13) 0
+    pub list-laid : {n : ℕ} {b₂ b₃ t₂ : List ℕ} → b₂ ≡ lastPut p b₁ → n ≡ blockCount p
+        → b₃ ≡ take (n * 13) b₂ ++ replicate (length b₂ - n * 13) 0
         → t₂ ≡ take (p .text) t₁ ++ replicate (length t₁ - p .text) 0 → Whole s b t (Read (record { blocks = n; text = p .text })) b₃ t₂
     unfolding storedAnswer storedBlocks storedText
     list-laid {n} {b₂} {b₃} {t₂} g q u v =

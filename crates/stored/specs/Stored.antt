@@ -1,4 +1,5 @@
--- 01, Stored form: a stored list, and the one answer and the one content of two lent rooms. Assumes nothing: these are definitions.
+-- 01, Stored form: a stored list, and the one answer and the one content of two lent rooms.
+-- Assumes nothing: these are definitions.
 use Prim.Native.Nat.{ℕ, zero, suc, _+_}
 use mathlib.Core.List.{List, [], _∷_}
 use lib.ListN.{length, take, drop, replicate}

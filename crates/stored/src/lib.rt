@@ -21,7 +21,8 @@ ghost use mathlib.Core.Path.{_≡_};
 ghost use lib.ListN.{length, replicate};
 ghost use Rattle.pages.specs.Pages.{none};
 ghost use Rattle.pages.specs.Laying.{told, on, layAll, blank as blankPage, Still};
-ghost use Rattle.stored.specs.Stored.{blocksFrom, stored, storedAnswer, storedBlocks, storedText, answerNumber, answerCounts};
+ghost use Rattle.stored.specs.Stored.{blocksFrom, stored, storedAnswer, storedBlocks, storedText};
+ghost use Rattle.stored.specs.Stored.{answerNumber, answerCounts};
 
 // How many blocks, and how many bytes of text.
 pub struct Counts {
@@ -42,7 +43,8 @@ fn wide(x: u32) -> usize
 
 // Lays k blocks onto a page. The last block's record is left to `pages::finish`.
 fn lay_blocks(list: &[u8], k: usize, blocks: &mut [u32], text: &mut [u8]) -> Laid
-    ensures { λ r. ⌜ told r (now (blocks .exit)) (now (text .exit)) ≡ layAll (on blankPage (now (blocks .entry)) (now (text .entry))) (blocksFrom k none (now (list .entry))) ⌝ }
+    ensures { λ r. ⌜ told r (now (blocks .exit)) (now (text .exit))
+        ≡ layAll (on blankPage (now (blocks .entry)) (now (text .entry))) (blocksFrom k none (now (list .entry))) ⌝ }
     ensures { λ r. ⌜ Still r (length (now (blocks .entry))) (length (now (text .entry))) ⌝ }
 {
     let mut t = list;
@@ -82,7 +84,8 @@ fn lay_blocks(list: &[u8], k: usize, blocks: &mut [u32], text: &mut [u8]) -> Lai
 
 // Lays a whole list onto a page.
 fn lay_list(list: &[u8], blocks: &mut [u32], text: &mut [u8]) -> Laid
-    ensures { λ r. ⌜ told r (now (blocks .exit)) (now (text .exit)) ≡ layAll (on blankPage (now (blocks .entry)) (now (text .entry))) (stored (now (list .entry))) ⌝ }
+    ensures { λ r. ⌜ told r (now (blocks .exit)) (now (text .exit))
+        ≡ layAll (on blankPage (now (blocks .entry)) (now (text .entry))) (stored (now (list .entry))) ⌝ }
     ensures { λ r. ⌜ Still r (length (now (blocks .entry))) (length (now (text .entry))) ⌝ }
 {
     let n = number_at(list);
@@ -107,8 +110,10 @@ fn refuse(refusal: Refusal, blocks: &mut [u32], text: &mut [u8]) -> Answer
 // Reads a stored list.
 pub fn read_list(list: &[u8], blocks: &mut [u32], text: &mut [u8]) -> Answer
     ensures answer { λ r. ⌜ r ≡ storedAnswer (length (now (blocks .entry))) (length (now (text .entry))) (now (list .entry)) ⌝ }
-    ensures block_room { λ _. ⌜ now (blocks .exit) ≡ storedBlocks (length (now (blocks .entry))) (length (now (text .entry))) (now (list .entry)) ⌝ }
-    ensures text_room { λ _. ⌜ now (text .exit) ≡ storedText (length (now (blocks .entry))) (length (now (text .entry))) (now (list .entry)) ⌝ }
+    ensures block_room { λ _. ⌜ now (blocks .exit)
+        ≡ storedBlocks (length (now (blocks .entry))) (length (now (text .entry))) (now (list .entry)) ⌝ }
+    ensures text_room { λ _. ⌜ now (text .exit)
+        ≡ storedText (length (now (blocks .entry))) (length (now (text .entry))) (now (list .entry)) ⌝ }
 {
     let laid = lay_list(list, blocks, text);
     match laid {

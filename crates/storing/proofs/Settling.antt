@@ -37,11 +37,13 @@ settle-over (Done n) total h e = ap Refused e ∙ sym (settled-over byteLayout (
 settle-over (Refused r) total h e = absurd (omega arith)
 
 -- what is settled was written, and the room holds it
-settled-done : (o : Outcome) (total m : ℕ) → settled byteLayout (refusal OutputRoom) total o ≡ Done m → (o ≡ Done m) × (m ≤ total)
+settled-done : (o : Outcome) (total m : ℕ) → settled byteLayout (refusal OutputRoom) total o ≡ Done m
+    → (o ≡ Done m) × (m ≤ total)
 unfolding settled
 settled-done (Done n) total m = go (leb n (total / 1)) refl
   where
-    go : (t : Bool) → leb n (total / 1) ≡ t → cond t (Done n) (Refused (refusal OutputRoom)) ≡ Done m → (Done n ≡ Done m) × (m ≤ total)
+    go : (t : Bool) → leb n (total / 1) ≡ t → cond t (Done n) (Refused (refusal OutputRoom)) ≡ Done m
+        → (Done n ≡ Done m) × (m ≤ total)
     go true e d = let k : n ≡ m = cc in (d, omega (arith, leb-true n (total / 1) e))
     go false e d = absurd (done-refused (sym d))
 settled-done (Refused r) total m = λ d. absurd (done-refused (sym d))
@@ -72,6 +74,11 @@ module _ (ws tx : List ℕ) {room room′ : List ℕ} {o r : Outcome} (w : Wrote
     unfolding writeRoom content
     settle-room = go r refl
       where
+        holds : Outcome → List ℕ
+        holds a = content byteLayout (length room) a (listStream ws tx)
+
         go : (q : Outcome) → r ≡ q → n ≡ outcomeCount q → room″ ≡ writeRoom (length room) ws tx
-        go (Done m) d k = done-room (d ∙ ap Done (sym k)) ∙ ap (λ (a : Outcome). content byteLayout (length room) a (listStream ws tx)) (sym (d ∙ ap Done (sym k)) ∙ settle-answer)
-        go (Refused f) d k = refused-room k ∙ ap (λ (a : Outcome). content byteLayout (length room) a (listStream ws tx)) (sym d ∙ settle-answer)
+        go (Done m) d k =
+            let f : r ≡ Done n = d ∙ ap Done (sym k) in
+            done-room f ∙ ap holds (sym f ∙ settle-answer)
+        go (Refused f) d k = refused-room k ∙ ap holds (sym d ∙ settle-answer)

@@ -155,7 +155,8 @@ stream-good xs h s =
     let ws : List ℕ = records 0 xs in
     let l : length ws ≡ length xs * 13 = length-records xs 0 in
     let k : length ws / 13 ≡ length xs = omega arith in
-    let w : whole ws ≡ true = rw (eq-eqb (length ws % 13) 0 (omega arith), le-leb (length ws / 13) 4294967295 (omega (arith, good-count xs none h))) in
+    let few : length ws / 13 ≤ 4294967295 = omega (arith, good-count xs none h) in
+    let w : whole ws ≡ true = rw (eq-eqb (length ws % 13) 0 (omega arith), le-leb (length ws / 13) 4294967295 few) in
     list-as ws (textOf xs) xs w k (rows-good xs none 0 (textOf xs) s (omega arith) refl h)
 
 -- ---- and back
@@ -271,7 +272,9 @@ stream-ends ws tx {n} a =
     let w : whole ws ≡ true = list-whole ws tx a in
     let s : Stream ℕ = bytesOf (piecesFrom k none 0 ws tx) in
     let b : answer m s ≡ Done n =
-    sym (answer-then s (streamed (written k)) 0 m (answer-streamed (written k) 0)) ∙ ap (answer 0) (sym (list-is ws tx w)) ∙ a in
+    sym (answer-then s (streamed (written k)) 0 m (answer-streamed (written k) 0))
+    ∙ ap (answer 0) (sym (list-is ws tx w))
+    ∙ a in
     let z : length ws % 13 ≡ 0 = eqb-true (length ws % 13) 0 (and-left (eqb (length ws % 13) 0) (leb k 4294967295) w) in
     let f : k ≤ 4294967295 = leb-true k 4294967295 (and-right (eqb (length ws % 13) 0) (leb k 4294967295) w) in
     let q : Rows k none 0 ws tx = rows-ends k none 0 ws tx m n (omega arith) b in

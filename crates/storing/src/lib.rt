@@ -30,7 +30,8 @@ fn settle(outcome: Outcome, total: usize) -> Outcome
 // Writes blocks and their text as a stored list.
 pub fn write_list(blocks: &[u32], text: &[u8], room: &mut [u8]) -> Outcome
     ensures answer { λ r. ⌜ r ≡ writeAnswer (length (now (room .entry))) (now (blocks .entry)) (now (text .entry)) ⌝ }
-    ensures content { λ _. ⌜ now (room .exit) ≡ writeRoom (length (now (room .entry))) (now (blocks .entry)) (now (text .entry)) ⌝ }
+    ensures content { λ _. ⌜ now (room .exit)
+        ≡ writeRoom (length (now (room .entry))) (now (blocks .entry)) (now (text .entry)) ⌝ }
 {
     let outcome = put_list(blocks, text, room);
     let answer = settle(outcome, room.len());

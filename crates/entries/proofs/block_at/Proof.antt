@@ -32,10 +32,22 @@ wide-requires : tie.Need-wide-requires
 wide-requires c κs = search needs
 
 sub-ruled : tie.Need-sub-ruled
-sub-ruled c = let w = block-within (lastOf (c .before .before .before .before .before .before .before .before .before .before .args .begun) (c .before .before .before .before .before .before .before .before .before .before .args .before)) (c .before .before .before .before .before .before .before .before .before .before .args .s .now) _ (c .before .before .before .before .before .before .before .numbers-at .result) refl (c .before .before .before .before .before .before .before .numbers-at .ensures) (c .before .before .before .before .numbers2 .given .1) in omega arith
+sub-ruled c =
+    let at-numbers2 = c .before .before .before .before in
+    let at-numbers-at = at-numbers2 .before .before .before in
+    let start = at-numbers-at .before .before .before in
+    let w = block-within (lastOf (start .args .begun) (start .args .before)) (start .args .s .now) _
+    (at-numbers-at .numbers-at .result) refl (at-numbers-at .numbers-at .ensures) (at-numbers2 .numbers2 .given .1) in
+    omega arith
 
 part-ruled-start : tie.Need-part-ruled-start
-part-ruled-start c = let w = block-within (lastOf (c .before .before .before .before .before .before .before .before .before .before .args .begun) (c .before .before .before .before .before .before .before .before .before .before .args .before)) (c .before .before .before .before .before .before .before .before .before .before .args .s .now) _ (c .before .before .before .before .before .before .before .numbers-at .result) refl (c .before .before .before .before .before .before .before .numbers-at .ensures) (c .before .before .before .before .numbers2 .given .1) in omega arith
+part-ruled-start c =
+    let at-numbers2 = c .before .before .before .before in
+    let at-numbers-at = at-numbers2 .before .before .before in
+    let start = at-numbers-at .before .before .before in
+    let w = block-within (lastOf (start .args .begun) (start .args .before)) (start .args .s .now) _
+    (at-numbers-at .numbers-at .result) refl (at-numbers-at .numbers-at .ensures) (at-numbers2 .numbers2 .given .1) in
+    omega arith
 
 part-ruled-end : tie.Need-part-ruled-end
 part-ruled-end c = search needs
@@ -44,10 +56,22 @@ ruled-requires : tie.Need-ruled-requires
 ruled-requires c κs = search needs
 
 returns : tie.Need-returns
-returns c = block-refused (lastOf (c .before .before .before .before .before .before .before .args .begun) (c .before .before .before .before .before .before .before .args .before)) (c .before .before .before .before .before .before .before .args .s .now) _ (c .before .before .before .before .numbers-at .result) refl (c .before .before .before .before .numbers-at .ensures) (c .before .numbers .given .1)
+returns c =
+    let at-numbers-at = c .before .before .before .before in
+    let start = at-numbers-at .before .before .before in
+    block-refused (lastOf (start .args .begun) (start .args .before)) (start .args .s .now) _
+    (at-numbers-at .numbers-at .result) refl (at-numbers-at .numbers-at .ensures) (c .before .numbers .given .1)
 
 returns-2 : tie.Need-returns-2
-returns-2 c = block-entry (lastOf (c .before .before .before .before .before .before .before .before .before .before .before .before .args .begun) (c .before .before .before .before .before .before .before .before .before .before .before .before .args .before)) (c .before .before .before .before .before .before .before .before .before .before .before .before .args .s .now) _ (c .before .before .before .before .before .before .before .before .before .numbers-at .result) refl (c .before .before .before .before .before .before .before .before .before .numbers-at .ensures) (c .before .before .before .before .before .before .numbers2 .given .1) (c .before .before .before .style-of .ensures) (c .before .before .wide .ensures) (c .ruled .ensures)
+returns-2 c =
+    let at-wide = c .before .before in
+    let at-style-of = at-wide .before in
+    let at-numbers2 = at-style-of .before .before .before in
+    let at-numbers-at = at-numbers2 .before .before .before in
+    let start = at-numbers-at .before .before .before in
+    block-entry (lastOf (start .args .begun) (start .args .before)) (start .args .s .now) _
+    (at-numbers-at .numbers-at .result) refl (at-numbers-at .numbers-at .ensures) (at-numbers2 .numbers2 .given .1)
+    (at-style-of .style-of .ensures) (at-wide .wide .ensures) (c .ruled .ensures)
 
 pub block-at-spec : {M : Type 1} → statement M
 block-at-spec =

@@ -18,28 +18,55 @@ of-requires : tie.Need-of-requires
 of-requires c κs = search needs
 
 returns : tie.Need-returns
-returns c = ruled-field (lastOf (c .before .before .before .before .before .args .begun) (c .before .before .before .before .before .args .before)) (c .before .before .before .before .before .args .s) (c .before .before .before .before .before .args .n) (c .before .before .before .before .before .args .m) (c .before .before .before .before .before .args .t .now) (c .before .before .before .in-range .ensures) (c .before .before .follows .ensures) (c .before .if1 .taken) (c .of .ensures)
+returns c =
+    let at-follows = c .before .before in
+    let start = at-follows .before .before .before in
+    ruled-field (lastOf (start .args .begun) (start .args .before)) (start .args .s) (start .args .n) (start .args .m) (start .args .t .now)
+    (at-follows .before .in-range .ensures) (at-follows .follows .ensures) (c .before .if1 .taken) (c .of .ensures)
 
 of-requires-2 : tie.Need-of-requires-2
 of-requires-2 c κs = search needs
 
 returns-2 : tie.Need-returns-2
-returns-2 c = ruled-short (lastOf (c .before .before .before .before .before .before .args .begun) (c .before .before .before .before .before .before .args .before)) (c .before .before .before .before .before .before .args .s) (c .before .before .before .before .before .before .args .n) (c .before .before .before .before .before .before .args .m) (c .before .before .before .before .before .before .args .t .now) (c .before .before .before .before .in-range .ensures) (c .before .before .before .follows .ensures) (c .before .before .if1 .left) (c .before .if2 .taken) (c .of2 .ensures)
+returns-2 c =
+    let at-if1 = c .before .before in
+    let at-follows = at-if1 .before in
+    let start = at-follows .before .before .before in
+    ruled-short (lastOf (start .args .begun) (start .args .before)) (start .args .s) (start .args .n) (start .args .m) (start .args .t .now)
+    (at-follows .before .in-range .ensures) (at-follows .follows .ensures) (at-if1 .if1 .left) (c .before .if2 .taken)
+    (c .of2 .ensures)
 
 slice-aggregate-is-utf8 : tie.Need-slice-aggregate-is-utf8
-slice-aggregate-is-utf8 c = omega (arith, length-take (c .before .before .before .before .before .before .args .n) (c .before .before .before .before .before .before .args .t .now))
+slice-aggregate-is-utf8 c =
+    let start = c .before .before .before .before .before .before in
+    omega (arith, length-take (start .args .n) (start .args .t .now))
 
 is-utf8-requires : tie.Need-is-utf8-requires
 is-utf8-requires c κs = search needs
 
 returns-3 : tie.Need-returns-3
-returns-3 c = ruled-is (lastOf (c .before .before .before .before .before .before .before .before .args .begun) (c .before .before .before .before .before .before .before .before .args .before)) (c .before .before .before .before .before .before .before .before .args .s) (c .before .before .before .before .before .before .before .before .args .n) (c .before .before .before .before .before .before .before .before .args .m) (c .before .before .before .before .before .before .before .before .args .t .now) (c .before .before .before .before .before .before .in-range .ensures) (c .before .before .before .before .before .follows .ensures) (c .before .before .before .before .if1 .left) (c .before .before .before .if2 .left) (c .before .is-utf8 .ensures) (c .if3 .taken)
+returns-3 c =
+    let at-if2 = c .before .before .before in
+    let at-if1 = at-if2 .before in
+    let at-follows = at-if1 .before in
+    let start = at-follows .before .before .before in
+    ruled-is (lastOf (start .args .begun) (start .args .before)) (start .args .s) (start .args .n) (start .args .m) (start .args .t .now)
+    (at-follows .before .in-range .ensures) (at-follows .follows .ensures) (at-if1 .if1 .left) (at-if2 .if2 .left)
+    (c .before .is-utf8 .ensures) (c .if3 .taken)
 
 of-requires-3 : tie.Need-of-requires-3
 of-requires-3 c κs = search needs
 
 returns-4 : tie.Need-returns-4
-returns-4 c = ruled-bytes (lastOf (c .before .before .before .before .before .before .before .before .before .args .begun) (c .before .before .before .before .before .before .before .before .before .args .before)) (c .before .before .before .before .before .before .before .before .before .args .s) (c .before .before .before .before .before .before .before .before .before .args .n) (c .before .before .before .before .before .before .before .before .before .args .m) (c .before .before .before .before .before .before .before .before .before .args .t .now) (c .before .before .before .before .before .before .before .in-range .ensures) (c .before .before .before .before .before .before .follows .ensures) (c .before .before .before .before .before .if1 .left) (c .before .before .before .before .if2 .left) (c .before .before .is-utf8 .ensures) (c .before .if3 .left) (c .of3 .ensures)
+returns-4 c =
+    let at-is-utf8 = c .before .before in
+    let at-if2 = at-is-utf8 .before .before in
+    let at-if1 = at-if2 .before in
+    let at-follows = at-if1 .before in
+    let start = at-follows .before .before .before in
+    ruled-bytes (lastOf (start .args .begun) (start .args .before)) (start .args .s) (start .args .n) (start .args .m) (start .args .t .now)
+    (at-follows .before .in-range .ensures) (at-follows .follows .ensures) (at-if1 .if1 .left) (at-if2 .if2 .left)
+    (at-is-utf8 .is-utf8 .ensures) (c .before .if3 .left) (c .of3 .ensures)
 
 pub ruled-spec : {M : Type 1} → statement M
 ruled-spec =

@@ -30,7 +30,8 @@ returns c =
     let ws = start .args .blocks .now in
     let tx = start .args .text .now in (
       settle-answer ws tx w (at-settle .settle .ensures),
-      settle-room ws tx w (at-settle .settle .ensures) (at-clear-bytes-from .clear-bytes-from .ensures) (at-count .count .ensures),
+      settle-room ws tx w (at-settle .settle .ensures) (at-clear-bytes-from .clear-bytes-from .ensures)
+          (at-count .count .ensures),
     )
 
 pub write-list-spec : {M : Type 1} → statement M
