@@ -14,10 +14,14 @@ enum-known-n : tie.Need-enum-known-n
 enum-known-n c = search needs
 
 sub-check-blocks : tie.Need-sub-check-blocks
-sub-check-blocks c = let w = number-within _ (sym (c .before .before .before .number-at .ensures) ∙ c .before .n .given .1) in omega arith
+sub-check-blocks c =
+    let w = number-within _ (sym (c .before .before .before .number-at .ensures) ∙ c .before .n .given .1) in
+    omega arith
 
 part-check-blocks-start : tie.Need-part-check-blocks-start
-part-check-blocks-start c = let w = number-within _ (sym (c .before .before .before .number-at .ensures) ∙ c .before .n .given .1) in omega arith
+part-check-blocks-start c =
+    let w = number-within _ (sym (c .before .before .before .number-at .ensures) ∙ c .before .n .given .1) in
+    omega arith
 
 part-check-blocks-end : tie.Need-part-check-blocks-end
 part-check-blocks-end c = search needs
@@ -41,13 +45,24 @@ of-requires-2 : tie.Need-of-requires-2
 of-requires-2 c κs = search needs
 
 returns : tie.Need-returns
-returns c = check-is (c .before .before .before .before .before .before .before .before .args .list .now) (c .before .before .before .before .before .before .number-at .ensures) (c .before .before .before .before .n .given .1) (c .before .wide .ensures) (c .check-blocks .ensures)
+returns c =
+    let at-n = c .before .before .before .before in
+    let at-number-at = at-n .before .before in
+    let start = at-number-at .before .before in
+    check-is (start .args .list .now) (at-number-at .number-at .ensures) (at-n .n .given .1) (c .before .wide .ensures)
+    (c .check-blocks .ensures)
 
 returns-2 : tie.Need-returns-2
-returns-2 c = check-bad (c .before .before .before .before .before .args .list .now) (c .before .before .before .number-at .ensures) (c .before .enum-told .given .1) (c .of .ensures)
+returns-2 c =
+    let at-number-at = c .before .before .before in
+    let start = at-number-at .before .before in
+    check-bad (start .args .list .now) (at-number-at .number-at .ensures) (c .before .enum-told .given .1) (c .of .ensures)
 
 returns-3 : tie.Need-returns-3
-returns-3 c = check-short (c .before .before .before .before .before .args .list .now) (c .before .before .before .number-at .ensures) (c .before .enum-told2 .given .1) (c .of2 .ensures)
+returns-3 c =
+    let at-number-at = c .before .before .before in
+    let start = at-number-at .before .before in
+    check-short (start .args .list .now) (at-number-at .number-at .ensures) (c .before .enum-told2 .given .1) (c .of2 .ensures)
 
 pub check-spec : {M : Type 1} → statement M
 check-spec =

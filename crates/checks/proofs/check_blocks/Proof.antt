@@ -4,7 +4,8 @@ use native.Mathlib.Omega.{arith}
 use mathlib.Core.Path.{sym, _∙_}
 use Rattle.fields.specs.Fields.{lastOf}
 use Rattle.entries.proofs.Entries.{entry-is}
-use Rattle.checks.proofs.Checking.{Checking, checking-start, checking-bad, checking-text, checking-more, checking-left, checking-end}
+use Rattle.checks.proofs.Checking.{Checking, checking-start, checking-bad, checking-text}
+use Rattle.checks.proofs.Checking.{checking-more, checking-left, checking-end}
 use Rattle.checks.proofs.check_blocks.Statement.{statement}
 use Rattle.checks.proofs.check_blocks.Tie as tie
 
@@ -27,7 +28,10 @@ enum-known-e : tie.Need-enum-known-e Inv-loop μ-loop
 enum-known-e c = search needs
 
 returns : tie.Need-returns Inv-loop μ-loop
-returns c = λ b h. checking-bad (c .before .before .before .before .before .loop .inv) (omega arith) (c .before .before .before .block-at .ensures) b h (c .before .e .given .1)
+returns c =
+    let at-block-at = c .before .before .before in
+    let at-loop = at-block-at .before .before in
+    λ b h. checking-bad (at-loop .loop .inv) (omega arith) (at-block-at .block-at .ensures) b h (c .before .e .given .1)
 
 enum-known-e-2 : tie.Need-enum-known-e-2 Inv-loop μ-loop
 enum-known-e-2 c = search needs
@@ -36,16 +40,33 @@ of-requires : tie.Need-of-requires Inv-loop μ-loop
 of-requires c κs = search needs
 
 returns-2 : tie.Need-returns-2 Inv-loop μ-loop
-returns-2 c = λ b h. checking-text (c .before .before .before .before .before .before .before .loop .inv) (omega arith) (c .before .before .before .before .before .block-at .ensures) b h (c .before .before .before .e2 .given .1) (c .before .if1 .taken) (c .of .ensures)
+returns-2 c =
+    let at-e2 = c .before .before .before in
+    let at-block-at = at-e2 .before .before in
+    let at-loop = at-block-at .before .before in
+    λ b h. checking-text (at-loop .loop .inv) (omega arith) (at-block-at .block-at .ensures) b h (at-e2 .e2 .given .1)
+    (c .before .if1 .taken) (c .of .ensures)
 
 add-next : tie.Need-add-next Inv-loop μ-loop
-add-next c = let w = entry-is _ _ (sym (c .before .before .before .before .block-at .ensures) ∙ c .before .before .e2 .given .1) in let f = c .before .before .before .before .before .before .before .before .before .before .fits in omega (arith, w .within)
+add-next c =
+    let at-e2 = c .before .before in
+    let at-block-at = at-e2 .before .before in
+    let start = at-block-at .before .before .before .before .before .before in
+    let w = entry-is _ _ (sym (at-block-at .block-at .ensures) ∙ at-e2 .e2 .given .1) in
+    let f = start .fits in
+    omega (arith, w .within)
 
 sub-t : tie.Need-sub-t Inv-loop μ-loop
-sub-t c = let w = entry-is _ _ (sym (c .before .before .before .before .block-at .ensures) ∙ c .before .before .e2 .given .1) in omega (arith, w .within)
+sub-t c =
+    let at-e2 = c .before .before in
+    let w = entry-is _ _ (sym (at-e2 .before .before .block-at .ensures) ∙ at-e2 .e2 .given .1) in
+    omega (arith, w .within)
 
 part-t-start : tie.Need-part-t-start Inv-loop μ-loop
-part-t-start c = let w = entry-is _ _ (sym (c .before .before .before .before .block-at .ensures) ∙ c .before .before .e2 .given .1) in omega (arith, w .within)
+part-t-start c =
+    let at-e2 = c .before .before in
+    let w = entry-is _ _ (sym (at-e2 .before .before .block-at .ensures) ∙ at-e2 .e2 .given .1) in
+    omega (arith, w .within)
 
 part-t-end : tie.Need-part-t-end Inv-loop μ-loop
 part-t-end c = search needs
@@ -57,7 +78,12 @@ loop-less : tie.Need-loop-less Inv-loop μ-loop
 loop-less c = search needs
 
 loop-again : tie.Need-loop-again Inv-loop μ-loop
-loop-again c = checking-more (c .before .before .before .before .before .before .before .loop .inv) (omega arith) (c .before .before .before .before .before .block-at .ensures) (c .before .before .before .e2 .given .1) (c .before .if1 .left)
+loop-again c =
+    let at-e2 = c .before .before .before in
+    let at-block-at = at-e2 .before .before in
+    let at-loop = at-block-at .before .before in
+    checking-more (at-loop .loop .inv) (omega arith) (at-block-at .block-at .ensures) (at-e2 .e2 .given .1)
+    (c .before .if1 .left)
 
 of-requires-2 : tie.Need-of-requires-2 Inv-loop μ-loop
 of-requires-2 c κs = search needs

@@ -31,10 +31,14 @@ slice-write-words : tie.Need-slice-write-words Inv-loop μ-loop
 slice-write-words c = search needs
 
 sub-t : tie.Need-sub-t Inv-loop μ-loop
-sub-t c = let w = number-within _ (sym (c .before .before .before .number-at .ensures) ∙ c .before .n .given .1) in omega arith
+sub-t c =
+    let w = number-within _ (sym (c .before .before .before .number-at .ensures) ∙ c .before .n .given .1) in
+    omega arith
 
 part-t-start : tie.Need-part-t-start Inv-loop μ-loop
-part-t-start c = let w = number-within _ (sym (c .before .before .before .number-at .ensures) ∙ c .before .n .given .1) in omega arith
+part-t-start c =
+    let w = number-within _ (sym (c .before .before .before .number-at .ensures) ∙ c .before .n .given .1) in
+    omega arith
 
 part-t-end : tie.Need-part-t-end Inv-loop μ-loop
 part-t-end c = search needs
@@ -46,7 +50,11 @@ loop-less : tie.Need-loop-less Inv-loop μ-loop
 loop-less c = simp length-set (omega arith)
 
 loop-again : tie.Need-loop-again Inv-loop μ-loop
-loop-again c = reading-more (c .before .before .before .before .before .before .loop .inv) (omega arith) (c .before .before .before .before .number-at .ensures) (c .before .before .n .given .1)
+loop-again c =
+    let at-n = c .before .before in
+    let at-number-at = at-n .before .before in
+    let at-loop = at-number-at .before .before in
+    reading-more (at-loop .loop .inv) (omega arith) (at-number-at .number-at .ensures) (at-n .n .given .1)
 
 enum-told : tie.Need-enum-told Inv-loop μ-loop
 enum-told c = search needs
@@ -58,7 +66,11 @@ same-length : tie.Need-same-length Inv-loop μ-loop
 same-length c = c .before .before .before .before .before .loop .inv .wide
 
 returns : tie.Need-returns Inv-loop μ-loop
-returns c = reading-bad (c .before .before .before .before .before .loop .inv) (omega arith) _ _ (c .before .before .before .number-at .ensures) (c .before .enum-told .given .1) (c .of .ensures)
+returns c =
+    let at-number-at = c .before .before .before in
+    let at-loop = at-number-at .before .before in
+    reading-bad (at-loop .loop .inv) (omega arith) _ _ (at-number-at .number-at .ensures) (c .before .enum-told .given .1)
+    (c .of .ensures)
 
 enum-told-2 : tie.Need-enum-told-2 Inv-loop μ-loop
 enum-told-2 c = search needs
@@ -70,7 +82,11 @@ same-length-2 : tie.Need-same-length-2 Inv-loop μ-loop
 same-length-2 c = c .before .before .before .before .before .loop .inv .wide
 
 returns-2 : tie.Need-returns-2 Inv-loop μ-loop
-returns-2 c = reading-short (c .before .before .before .before .before .loop .inv) (omega arith) _ _ (c .before .before .before .number-at .ensures) (c .before .enum-told2 .given .1) (c .of2 .ensures)
+returns-2 c =
+    let at-number-at = c .before .before .before in
+    let at-loop = at-number-at .before .before in
+    reading-short (at-loop .loop .inv) (omega arith) _ _ (at-number-at .number-at .ensures) (c .before .enum-told2 .given .1)
+    (c .of2 .ensures)
 
 sub-t20 : tie.Need-sub-t20 Inv-loop μ-loop
 sub-t20 c = let w = c .before .loop .inv .left in omega arith

@@ -18,7 +18,13 @@ same-length-2 : tie.Need-same-length-2
 same-length-2 c = search needs
 
 returns : tie.Need-returns
-returns c = (refl, (cleared (c .before .before .before .before .before .before .before .before .before .before .args .blocks .now) (c .before .before .before .before .before .before .clear-from .ensures), cleared (c .before .before .before .before .before .before .before .before .before .before .args .text .now) (c .before .before .clear-bytes-from .ensures)))
+returns c =
+    let at-clear-bytes-from = c .before .before in
+    let at-clear-from = at-clear-bytes-from .before .before .before .before in
+    let start = at-clear-from .before .before .before .before in (
+      refl,
+      (cleared (start .args .blocks .now) (at-clear-from .clear-from .ensures), cleared (start .args .text .now) (at-clear-bytes-from .clear-bytes-from .ensures)),
+    )
 
 pub refuse-spec : {M : Type 1} → statement M
 refuse-spec =
