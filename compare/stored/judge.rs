@@ -107,7 +107,8 @@ impl Judge {
         self.tried += 1;
         self.calls += 1;
         self.seen.call(Column::WriteSmall, refusal);
-        let [ours, codec] = [ours::write, by_codec::write].map(|write| write(blocks, text, &mut [])[0]);
+        let ours = ours::write(blocks, text, &mut [])[0];
+        let codec = by_codec::write(blocks, text, &mut [])[0];
         if [ours, codec] != [refusal; 2] {
             self.differ(self.tried, || report::huge_text(text.len(), refusal, codec, ours));
         }

@@ -28,7 +28,7 @@ pub fn huge(bytes: usize, expected: u32, ours: u32) -> String {
 /// The same for a text to be written, whose answer 01 gives.
 pub fn huge_text(bytes: usize, known: u64, codec: u64, ours: u64) -> String {
     let name = ours::NAME;
-    format!("DIFFERENCE, writing {bytes} bytes of text: {name} {ours}, codec {codec}, should be {known}")
+    format!("DIFFERENCE, writing of {bytes} bytes: {name} {ours}, codec {codec}, should be {known}")
 }
 
 /// The codec's answer is not the one that 01 gives.
