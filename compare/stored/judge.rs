@@ -102,6 +102,18 @@ impl Judge {
         }
     }
 
+    /// The same for a text to be written, in no room; its refusal is known.
+    pub fn huge_text(&mut self, blocks: &[u32], text: &[u8], refusal: u64) {
+        self.tried += 1;
+        self.calls += 1;
+        self.seen.call(Column::WriteSmall, refusal);
+        let ours = ours::write(blocks, text, &mut [])[0];
+        let codec = by_codec::write(blocks, text, &mut [])[0];
+        if [ours, codec] != [refusal; 2] {
+            self.differ(self.tried, || report::huge_text(text.len(), refusal, codec, ours));
+        }
+    }
+
     /// Compares the writing of records good or bad, and now and then in small rooms. What is
     /// written is read back.
     pub fn records(&mut self, records: &Records) {

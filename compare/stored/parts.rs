@@ -102,8 +102,8 @@ fn at_random(judge: &mut Judge, seed: u64, count: usize) {
     });
 }
 
-/// Refusal 20 of a check. The lists are made of zeros, which are text too and take no memory; they
-/// are too large for the bridge.
+/// Refusal 20 of a check; places and lengths that are negative as signed words. Lists and texts are
+/// made of zeros, which are text too and take no memory; they are too large for the bridge.
 fn beyond_most_text(judge: &mut Judge) {
     let name = "text of 2,147,483,647 bytes";
     if cfg!(bridge) {
@@ -113,6 +113,15 @@ fn beyond_most_text(judge: &mut Judge) {
     part(judge, name, |judge| {
         for (last, behind) in [(1, 0), (2, 0), (1, 1), (2, 1)] {
             judge.huge(&list_of_zeros(last, behind));
+        }
+        let text = vec![0; MOST_TEXT + 2];
+        let most = MOST_TEXT as u32;
+        let cases: [(&[u32], u64); 4] =
+            [(&[most], 25), (&[most + 1], 24), (&[most, 1], 25), (&[most, 1, 1], 24)];
+        for (lengths, refusal) in cases {
+            let blocks = records_of(lengths);
+            let length = lengths.iter().map(|length| *length as usize).sum();
+            judge.huge_text(&blocks, &text[..length], refusal);
         }
     });
 }
@@ -129,6 +138,19 @@ fn list_of_zeros(last: u32, behind: usize) -> Vec<u8> {
     list[..head.len()].copy_from_slice(&head);
     list[place..][..next.len()].copy_from_slice(&next);
     list
+}
+
+/// Records of blocks with texts of these lengths, each of another colour.
+fn records_of(lengths: &[u32]) -> Vec<u32> {
+    let mut place = 0;
+    let mut blocks = Vec::new();
+    for (colour, length) in (0..).zip(lengths) {
+        let mut record = [0; BLOCK_WORDS];
+        [record[0], record[BLOCK_WORDS - 2], record[BLOCK_WORDS - 1]] = [colour, place, *length];
+        blocks.extend(record);
+        place += length;
+    }
+    blocks
 }
 
 fn part(judge: &mut Judge, name: &str, work: impl FnOnce(&mut Judge)) {

@@ -25,6 +25,12 @@ pub fn huge(bytes: usize, expected: u32, ours: u32) -> String {
     format!("DIFFERENCE, {name} against codec, check of {bytes} bytes: {ours}, not {expected}")
 }
 
+/// The same for a text to be written, whose answer 01 gives.
+pub fn huge_text(bytes: usize, known: u64, codec: u64, ours: u64) -> String {
+    let name = ours::NAME;
+    format!("DIFFERENCE, writing of {bytes} bytes: {name} {ours}, codec {codec}, should be {known}")
+}
+
 /// The codec's answer is not the one that 01 gives.
 pub fn not_known(call: &Asked, known: u32, told: u64) -> String {
     format!("DIFFERENCE, codec against 01, {}: {told}, should be {known}", asked(call))

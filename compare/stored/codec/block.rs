@@ -44,10 +44,9 @@ impl<'a> Block<'a> {
     pub fn of_record(record: &[u32], text: &'a [u8], place: usize) -> Option<Self> {
         let mut style: Style = record[..STYLE_WORDS].try_into().ok()?;
         FOLDED.iter().for_each(|word| style[*word] = number::folded(style[*word]));
-        // A text may be longer than any text room (docs/DECISIONS.md), so these have no sign.
-        let [told, length] = [PLACE, LENGTH].map(|word| record[word] as usize);
-        let text = text.get(place..place.checked_add(length)?)?;
-        (told == place).then_some(Block { style, text })
+        let [told, length] = [PLACE, LENGTH].map(|word| usize::try_from(record[word] as i32).ok());
+        let text = text.get(place..place.checked_add(length?)?)?;
+        (told? == place).then_some(Block { style, text })
     }
 
     pub fn lay(&self, record: &mut [u32], place: usize) {

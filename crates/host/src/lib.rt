@@ -6,9 +6,9 @@
 //   elduvarn_stored_check, _read, _write             the stored form
 //
 // Every function is total, and says what the crate below says.
+use checks::check;
 use reader::Answer;
 use reader::read;
-use stored::check;
 use stored::read_list;
 use storing::write_list;
 use styles::Reading;
@@ -17,7 +17,8 @@ ghost use lib.ListN.{length};
 ghost use Rattle.answers.specs.Answers.{outcomeNumber, outcomeCount};
 ghost use Rattle.cutter.specs.Cutting.{cutAnswer, cutRoom};
 ghost use Rattle.reader.specs.Reading.{sizes, readAnswer, tokenRoom, fontRoom, colourRoom, blockRoom, textRoom};
-ghost use Rattle.stored.specs.Stored.{checked, storedAnswer, storedBlocks, storedText};
+ghost use Rattle.checks.specs.Checks.{checked};
+ghost use Rattle.stored.specs.Stored.{storedAnswer, storedBlocks, storedText};
 ghost use Rattle.storing.specs.Storing.{writeAnswer, writeRoom};
 ghost use Rattle.host.specs.Hosts.{narrowed, answerOf, storedOf};
 

@@ -28,7 +28,7 @@ use Rattle.reader.specs.declared.Counts.{Counts}
 use Rattle.reader.specs.declared.Answer.the-variants.{Read}
 use Rattle.reader.specs.Reading.{shownBy, begun, Sizes, Letter, ended, placed, bodied, headed, walked, cut, letterOf, countsOf}
 use Rattle.reader.specs.Reading.{answered, readAnswer, blockRoom, textRoom}
-use Rattle.storing.specs.Lists.{listBytes}
+use Rattle.putting.specs.Blocks.{listBytes}
 use Rattle.storing.specs.Good.{Good}
 use Rattle.storing.specs.Storing.{writeAnswer, writeRoom}
 use Rattle.storing.proofs.Writing.{write-good}
@@ -91,11 +91,11 @@ module _ (rd : Reading) (b t : ℕ) (ts : List Shown) {n : ℕ} (d : answer 0 (p
   unfolding placed
   placed-text = roomy-text (body rd (walk ts)) (capacity blockWords b) (textCapacity t) none 0 d
 
-  placed-small : length (textOf (items (placed rd b t ts))) < 4294967296
-  placed-small = go (ltb t 2147483647) refl placed-text
+  placed-short : length (textOf (items (placed rd b t ts))) ≤ 2147483647
+  placed-short = go (ltb t 2147483647) refl placed-text
     where
       go : (y : Bool) → ltb t 2147483647 ≡ y → length (textOf (items (placed rd b t ts))) ≤ cond y t 2147483647
-          → length (textOf (items (placed rd b t ts))) < 4294967296
+          → length (textOf (items (placed rd b t ts))) ≤ 2147483647
       go true i h = let k = ltb-true t 2147483647 i in omega (arith, h, k)
       go false i h = omega (arith, h)
 
@@ -131,14 +131,14 @@ module _ (rd : Reading) (src : List ℕ) (z : Sizes) {c : Counts} where
       let same : textOf xs ≡ textOf (l .pieces) = text-blocks (l .pieces) in
       let kb : length xs ≡ c .blocks = cc in
       let kt : length (textOf (l .pieces)) ≡ c .text = cc in
-      let small : length (textOf xs) < 4294967296 =
-      subst (λ (v : List ℕ). length v < 4294967296) (sym (same ∙ ap textOf p)) (placed-small rd (z .blocks) (z .text) ts d) in (
+      let short : length (textOf xs) ≤ 2147483647 =
+      subst (λ (v : List ℕ). length v ≤ 2147483647) (sym (same ∙ ap textOf p)) (placed-short rd (z .blocks) (z .text) ts d) in (
         xs,
         good,
         ap (take (c .blocks * 13)) (block-room rd src z e)
             ∙ take-filled (z .blocks) (records 0 xs) (c .blocks * 13) (length-records xs 0 ∙ ap (λ (k : ℕ). k * 13) kb),
         ap (take (c .text)) (text-room rd src z e) ∙ take-filled (z .text) (textOf (l .pieces)) (c .text) kt ∙ sym same,
-        λ total f. write-good xs total good small f,
+        λ total f. write-good xs total good short f,
       )
 
 -- ---- the theorem

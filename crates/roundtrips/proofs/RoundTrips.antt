@@ -27,9 +27,10 @@ use Rattle.stored.specs.declared.Counts.{Counts}
 use Rattle.stored.specs.declared.Answer.{Answer}
 use Rattle.stored.specs.declared.Answer.the-variants.{Read, Refuses}
 use Rattle.stored.specs.Stored.{stored, placed, countsOf, answered, storedAnswer, storedBlocks, storedText}
-use Rattle.storing.specs.Lists.{listBytes}
+use Rattle.putting.specs.Blocks.{listBytes}
 use Rattle.storing.specs.Good.{Good}
-use Rattle.storing.specs.Storing.{listStream, writeAnswer, writeRoom}
+use Rattle.lists.specs.Lists.{listStream}
+use Rattle.storing.specs.Storing.{writeAnswer, writeRoom}
 use Rattle.storing.proofs.Writing.{stream-ends, write-good}
 use Rattle.roundtrips.specs.Trips.{Bytes, Words, Small, all}
 use Rattle.roundtrips.proofs.Lists.{list-written, Accepted, list-read}
@@ -175,10 +176,10 @@ module _ (s : List ℕ) (b t : ℕ) (bytes : Bytes s) {c : Counts} (e : storedAn
   texts : take (c .text) (storedText b t s) ≡ textOf xs
   texts = ap (take (c .text)) (reads .text) ∙ take-filled t (textOf xs) (c .text) (sym (counts .1))
 
-  small-32 : length (textOf xs) < 4294967296
-  small-32 = go (ltb t 2147483647) refl small-text
+  short-text : length (textOf xs) ≤ 2147483647
+  short-text = go (ltb t 2147483647) refl small-text
     where
-      go : (y : Bool) → ltb t 2147483647 ≡ y → length (textOf xs) ≤ cond y t 2147483647 → length (textOf xs) < 4294967296
+      go : (y : Bool) → ltb t 2147483647 ≡ y → length (textOf xs) ≤ cond y t 2147483647 → length (textOf xs) ≤ 2147483647
       go true i h = let k = ltb-true t 2147483647 i in omega (arith, h, k)
       go false i h = omega (arith, h)
 
@@ -191,7 +192,7 @@ module _ (s : List ℕ) (b t : ℕ) (bytes : Bytes s) {c : Counts} (e : storedAn
   unfolding xs
   read-writes total h =
       let k : length (listBytes xs) ≤ total = subst (λ (z : List ℕ). length z ≤ total) (accepted .bytes) h in
-      let w = write-good xs total (accepted .good) small-32 k in
+      let w = write-good xs total (accepted .good) short-text k in
       record {
         answer = rw (words, texts) (w .0 ∙ ap (λ (z : List ℕ). Done (length z)) (sym (accepted .bytes)));
         room = rw (words, texts) (w .1 ∙ ap (filled total) (sym (accepted .bytes)));

@@ -1,9 +1,6 @@
--- Laws. For the crates above: Entries, of one block; Lists, of a whole list; Tight, that one result is permitted. For this crate
--- alone: Branches, of its branches; Loops, of its loops; Whole, of a whole list as the code reads it; Cases, telling lists.
-pub mod Entries
-pub mod Lists
+-- Laws. For the crates above: Blocks, of a list's blocks; Tight, that one result is permitted. For this crate alone: Laying, of
+-- its loop; Whole, of a whole list as the code reads it.
+pub mod Blocks
 pub mod Tight
-mod Branches
-mod Loops
+mod Laying
 mod Whole
-mod Cases

@@ -1,5 +1,5 @@
--- One answer and one content of both rooms are permitted: any two results that `read_list`'s contract permits coincide. (`check`
--- answers by an equation and leaves no room.) Assumes nothing.
+-- One answer and one content of both rooms are permitted: any two results that `read_list`'s contract permits coincide.
+-- Assumes nothing.
 use mathlib.Core.Path.{_≡_, sym, _∙_}
 use mathlib.Core.List.{List}
 use Prim.Native.Nat.{ℕ}
@@ -13,7 +13,8 @@ pub record Permitted (list blocks text : List ℕ) (r : Answer) (blocks′ text�
   pub holds : blocks′ ≡ storedBlocks (length blocks) (length text) list
   pub says : text′ ≡ storedText (length blocks) (length text) list
 
-module _ {list blocks text : List ℕ} {r q : Answer} {a b c d : List ℕ} (x : Permitted list blocks text r a b) (y : Permitted list blocks text q c d) where
+module _ {list blocks text : List ℕ} {r q : Answer} {a b c d : List ℕ} (x : Permitted list blocks text r a b)
+    (y : Permitted list blocks text q c d) where
   pub same-answer : r ≡ q
   same-answer = x .answers ∙ sym (y .answers)
 

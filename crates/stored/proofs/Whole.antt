@@ -1,76 +1,44 @@
 -- A whole list, each way through the code.
---     stored-is, -bad, -short    by its count
---     check-is, -bad, -short     checked
 --     lay-is, -bad, -short       laid
 --     list-full, list-laid       read
 -- Assumes nothing.
-use mathlib.Core.Path.{_≡_, refl, sym, ap, _∙_}
+use mathlib.Core.Path.{_≡_, sym, ap, _∙_}
 use mathlib.Core.List.{List, _++_}
-use Prim.Native.Nat.{ℕ, _-_, _*_, _≤_}
-use native.Mathlib.Omega.{arith}
-use lib.ListN.{length, take, drop, replicate, length-drop}
+use Prim.Native.Nat.{ℕ, _-_, _*_}
+use lib.ListN.{length, take, drop, replicate}
 use Rattle.answers.specs.declared.Refusal.{Refusal}
-use Rattle.answers.specs.declared.Outcome.{Outcome}
-use Rattle.answers.specs.declared.Outcome.the-variants.{Done, Refused}
+use Rattle.answers.specs.declared.Outcome.the-variants.{Refused}
 use Rattle.answers.specs.declared.Why.the-variants.{StoredNumber, StoredShort}
 use Rattle.answers.specs.Answers.{refusal}
-use Rattle.rooms.specs.Streams.{Stream, stop, items, answer}
+use Rattle.rooms.specs.Streams.{Stream, items, answer}
 use Rattle.sevens.specs.declared.Numeral.{Numeral}
 use Rattle.sevens.specs.declared.Numeral.the-variants.{Is as Numbered, Bad as BadNumber, Short}
 use Rattle.sevens.specs.Sevens.{numberOf}
 use Rattle.pages.specs.declared.Page.{Page}
 use Rattle.pages.specs.declared.Laid.{Laid}
 use Rattle.pages.specs.declared.Laid.the-variants.{On, Full}
-use Rattle.pages.specs.Pages.{Piece, none, roomy, textCapacity, blocks, textOf}
+use Rattle.pages.specs.Pages.{Piece, none, blocks}
 use Rattle.pages.specs.Laying.{Laying, on, off, told, blank, blockCount, lastPut, layAll}
-use Rattle.rooms.specs.Rooms.{capacity}
 use Rattle.pages.proofs.Settling.{lay-refuses, lay-joins, Joined, Filled, joined-filled}
 use Rattle.stored.specs.declared.Counts.{Counts}
 use Rattle.stored.specs.declared.Answer.{Answer}
 use Rattle.stored.specs.declared.Answer.the-variants.{Read, Refuses}
-use Rattle.stored.specs.Stored.{blocksFrom, stored, checked, placed, storedAnswer, storedBlocks, storedText}
-use Rattle.stored.proofs.Branches.{part}
+use Rattle.stored.specs.Stored.{blocksFrom, stored, placed, storedAnswer, storedBlocks, storedText}
+use Rattle.stored.proofs.Blocks.{stored-is, stored-bad, stored-short}
 
-module _ (s : List ℕ) {x : Numeral} (d : x ≡ numberOf s) where
-  stored-is : {v m k : ℕ} → x ≡ Numbered v m → k ≡ v → stored s ≡ blocksFrom k none (take (length s - m) (drop m s))
-  unfolding stored
-  stored-is {v} {m} e f = rw (← d, e, f, part m s)
+module _ (s : List ℕ) {x : Numeral} (d : x ≡ numberOf s) (b t : List ℕ) where
+  pub lay-is : {v m k : ℕ} → x ≡ Numbered v m → k ≡ v → {l : Laying}
+      → l ≡ layAll (on blank b t) (blocksFrom k none (take (length s - m) (drop m s)))
+      → l ≡ layAll (on blank b t) (stored s)
+  lay-is e f h = h ∙ rw (stored-is s d e f)
 
-  stored-bad : x ≡ BadNumber → stored s ≡ stop (refusal StoredNumber)
-  unfolding stored
-  stored-bad e = rw (← d, e)
+  pub lay-bad : x ≡ BadNumber → {r : Refusal} → r ≡ refusal StoredNumber → off r ≡ layAll (on blank b t) (stored s)
+  unfolding layAll
+  lay-bad e f = rw (f, stored-bad s d e)
 
-  stored-short : x ≡ Short → stored s ≡ stop (refusal StoredShort)
-  unfolding stored
-  stored-short e = rw (← d, e)
-
-  pub check-is : {v m k : ℕ} → x ≡ Numbered v m → k ≡ v → {r : Outcome}
-      → ((b : ℕ) → length (take (length s - m) (drop m s)) ≤ b → r ≡ answer 0 (roomy b 2147483647 none (blocksFrom k none (take (length s - m) (drop m s))))) → r ≡ checked s
-  unfolding checked
-  check-is {v} {m} {k} e f h =
-      let l : length (take (length s - m) (drop m s)) ≤ length s = rw (part m s, length-drop m s) (omega arith) in
-      h (length s) l ∙ rw (stored-is e f)
-
-  pub check-bad : x ≡ BadNumber → {r : Refusal} → r ≡ refusal StoredNumber → Refused r ≡ checked s
-  unfolding checked roomy answer
-  check-bad e f = rw (f, stored-bad e)
-
-  pub check-short : x ≡ Short → {r : Refusal} → r ≡ refusal StoredShort → Refused r ≡ checked s
-  unfolding checked roomy answer
-  check-short e f = rw (f, stored-short e)
-
-  module _ (b t : List ℕ) where
-    pub lay-is : {v m k : ℕ} → x ≡ Numbered v m → k ≡ v → {l : Laying} → l ≡ layAll (on blank b t) (blocksFrom k none (take (length s - m) (drop m s)))
-        → l ≡ layAll (on blank b t) (stored s)
-    lay-is e f h = h ∙ rw (stored-is e f)
-
-    pub lay-bad : x ≡ BadNumber → {r : Refusal} → r ≡ refusal StoredNumber → off r ≡ layAll (on blank b t) (stored s)
-    unfolding layAll
-    lay-bad e f = rw (f, stored-bad e)
-
-    pub lay-short : x ≡ Short → {r : Refusal} → r ≡ refusal StoredShort → off r ≡ layAll (on blank b t) (stored s)
-    unfolding layAll
-    lay-short e f = rw (f, stored-short e)
+  pub lay-short : x ≡ Short → {r : Refusal} → r ≡ refusal StoredShort → off r ≡ layAll (on blank b t) (stored s)
+  unfolding layAll
+  lay-short e f = rw (f, stored-short s d e)
 
 -- the answer, and what the two rooms hold
 pub record Whole (s b t : List ℕ) (r : Answer) (b′ t′ : List ℕ) : Type 0 where
@@ -79,7 +47,8 @@ pub record Whole (s b t : List ℕ) (r : Answer) (b′ t′ : List ℕ) : Type 0
   pub text : t′ ≡ storedText (length b) (length t) s
 
 module _ (s b t : List ℕ) (l : Laid) (b₁ t₁ : List ℕ) (h : told l b₁ t₁ ≡ layAll (on blank b t) (stored s)) where
-  pub list-full : {k : Refusal} → l ≡ Full k → {r : Answer} {b₂ t₂ : List ℕ} → r ≡ Refuses k → b₂ ≡ replicate (length b₁) 0 → t₂ ≡ replicate (length t₁) 0
+  pub list-full : {k : Refusal} → l ≡ Full k → {r : Answer} {b₂ t₂ : List ℕ} → r ≡ Refuses k → b₂ ≡ replicate (length b₁) 0
+      → t₂ ≡ replicate (length t₁) 0
       → length b₁ ≡ length b → length t₁ ≡ length t → Whole s b t r b₂ t₂
   unfolding storedAnswer storedBlocks storedText placed
   list-full {k} e f g i lb lt =
@@ -91,7 +60,8 @@ module _ (s b t : List ℕ) (l : Laid) (b₁ t₁ : List ℕ) (h : told l b₁ t
     unfolding placed
     joined = lay-joins (stored s) b t (sym h ∙ ap (λ (m : Laid). told m b₁ t₁) e)
 
-    pub list-laid : {n : ℕ} {b₂ b₃ t₂ : List ℕ} → b₂ ≡ lastPut p b₁ → n ≡ blockCount p → b₃ ≡ take (n * 13) b₂ ++ replicate (length b₂ - n * 13) 0
+    pub list-laid : {n : ℕ} {b₂ b₃ t₂ : List ℕ} → b₂ ≡ lastPut p b₁ → n ≡ blockCount p
+        → b₃ ≡ take (n * 13) b₂ ++ replicate (length b₂ - n * 13) 0
         → t₂ ≡ take (p .text) t₁ ++ replicate (length t₁ - p .text) 0 → Whole s b t (Read (record { blocks = n; text = p .text })) b₃ t₂
     unfolding storedAnswer storedBlocks storedText
     list-laid {n} {b₂} {b₃} {t₂} g q u v =

@@ -1,3 +1,2 @@
--- Blocks: the numbers and the text of one stored block. Stored: a stored list, and what reading it answers and leaves.
-pub mod Blocks
+-- Stored: a stored list, and what reading it answers and leaves.
 pub mod Stored

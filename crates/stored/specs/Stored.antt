@@ -1,4 +1,5 @@
--- 01, Stored form: a stored list, and the one answer and the one content of two lent rooms. Assumes nothing: these are definitions.
+-- 01, Stored form: a stored list, and the one answer and the one content of two lent rooms.
+-- Assumes nothing: these are definitions.
 use Prim.Native.Nat.{ℕ, zero, suc, _+_}
 use mathlib.Core.List.{List, [], _∷_}
 use lib.ListN.{length, take, drop, replicate}
@@ -13,12 +14,12 @@ use Rattle.sevens.specs.declared.Numeral.{Numeral}
 use Rattle.sevens.specs.declared.Numeral.the-variants.{Is as Numbered, Bad as BadNumber, Short}
 use Rattle.sevens.specs.Sevens.{numberOf}
 use Rattle.pages.specs.Pages.{Piece, piece, Last, none, last, blocks, textOf, records, blockWords, textCapacity, roomy}
-use Rattle.stored.specs.declared.Entry.{Entry}
-use Rattle.stored.specs.declared.Entry.the-variants.{Is, Bad}
+use Rattle.entries.specs.declared.Entry.{Entry}
+use Rattle.entries.specs.declared.Entry.the-variants.{Is, Bad}
 use Rattle.stored.specs.declared.Counts.{Counts}
 use Rattle.stored.specs.declared.Answer.{Answer}
 use Rattle.stored.specs.declared.Answer.the-variants.{Read, Refuses}
-use Rattle.stored.specs.Blocks.{entry}
+use Rattle.entries.specs.Entries.{entry}
 
 -- the end of a list: 23 "has bytes left over"
 abbrev pub over : List ℕ → Stream Piece
@@ -78,8 +79,3 @@ answerNumber (Refuses r) = whyNumber (r .why)
 abbrev pub answerCounts : Answer → Counts
 answerCounts (Read n) = n
 answerCounts (Refuses r) = record { blocks = 0; text = 0 }
-
--- "The node host .. gets its refusal number, rooms counted as ample.": a block room that holds a block for each byte of the list,
--- and the largest text room that counts
-unfoldable pub checked : List ℕ → Outcome
-checked s = answer 0 (roomy (length s) 2147483647 none (stored s))

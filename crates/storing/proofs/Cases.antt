@@ -11,8 +11,10 @@ use Rattle.rooms.specs.Rooms.{filled, encode, settled, content}
 use Rattle.sevens.specs.Sevens.{groups, streamed}
 use Rattle.wellformed.specs.WellFormed.{behind, goesOn}
 use Rattle.fields.specs.Fields.{folded, inRange, styleNumbers}
-use Rattle.storing.specs.Lists.{numbersBytes, blockBytes}
-use Rattle.storing.specs.Storing.{fits, piecesFrom, pieces, bytesOf, listStream, writeAnswer, writeRoom}
+use Rattle.fitting.specs.Fitting.{fits}
+use Rattle.putting.specs.Blocks.{numbersBytes, blockBytes}
+use Rattle.lists.specs.Lists.{piecesFrom, bytesOf, listStream}
+use Rattle.storing.specs.Storing.{writeAnswer, writeRoom}
 
 -- words and a text, a room's bytes, the answer's number, and the list; the count is its length, and the room's rest is zero
 record Case : Type 0 where
@@ -77,5 +79,5 @@ every [] = true
 every (c ∷ cs) = right c && every cs
 
 cases-right : every cases ≡ true
-unfolding cases written refused row right every sameBytes andThen answer encode settled content groups streamed behind goesOn folded inRange styleNumbers numbersBytes blockBytes fits piecesFrom pieces bytesOf listStream writeAnswer writeRoom
+unfolding cases written refused row right every sameBytes andThen answer encode settled content groups streamed behind goesOn folded inRange styleNumbers numbersBytes blockBytes fits piecesFrom bytesOf listStream writeAnswer writeRoom
 cases-right = refl

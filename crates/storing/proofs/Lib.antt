@@ -1,9 +1,5 @@
--- Putting: what the loops over numbers and bytes have written. Fitting: the tests of a record. Rows: the loop over the records.
--- Settling: the whole, and the room at the end. Cases: small lists, computed. Cited above: Writing, what is written, and of
--- which blocks; Tight, any two permitted results coincide.
-mod Putting
-mod Fitting
-mod Rows
+-- Settling: what was written, and the room at the end. Cases: small lists, computed. Cited above: Writing, what is written,
+-- and of which blocks; Tight, any two permitted results coincide.
 mod Settling
 mod Cases
 pub mod Writing

@@ -10,10 +10,10 @@ use mathlib.Core.List.{List, [], _∷_, _++_}
 use mathlib.Core.Bool.{Bool, true, false, cond, _&&_}
 use Prim.Native.Nat.{ℕ, zero, suc, _+_, _*_, _/_, _%_, _≤_, _<_}
 use native.Mathlib.Omega.{arith}
-use borrow.Author.Tests.{ltb-true, lt-ltb, eqb-true, eq-eqb}
+use borrow.Author.Tests.{ltb-true, lt-ltb, leb-true, le-leb, eqb-true, eq-eqb}
 use lib.ListN.{length, getD, take, drop, length-append, length-take, length-drop, take-append-drop}
 use lib.Seq.{take-at, drop-at, drop-drop, drop-cons, drop-length}
-use lib.Dec.{ltb, eqb}
+use lib.Dec.{leb, ltb, eqb}
 use Rattle.answers.specs.declared.Why.the-variants.{StoredField, OutputRoom}
 use Rattle.answers.specs.declared.Outcome.the-variants.{Done}
 use Rattle.answers.specs.Answers.{refusal}
@@ -28,12 +28,13 @@ use Rattle.wellformed.specs.WellFormed.{isUtf8}
 use Rattle.fields.specs.Fields.{inRange}
 use Rattle.pages.specs.Pages.{Piece, piece, Last, none, last, starts, textOf, blockRecord, records}
 use Rattle.pages.proofs.Blocks.{length-records}
-use Rattle.storing.specs.Lists.{blockBytes, blocksBytes, listBytes}
-use Rattle.storing.specs.Storing.{styleAt, placeAt, lengthAt, fits, piecesFrom, pieces, bytesOf}
-use Rattle.storing.specs.Storing.{listStream, writeAnswer, writeRoom}
+use Rattle.fitting.specs.Fitting.{styleAt, placeAt, lengthAt, fits}
+use Rattle.fitting.proofs.Fitting.{Fit, fits-fit, fit-all}
+use Rattle.putting.specs.Blocks.{blockBytes, blocksBytes, listBytes}
+use Rattle.lists.specs.Lists.{piecesFrom, bytesOf, whole, listStream}
+use Rattle.lists.proofs.Lists.{list-is}
+use Rattle.storing.specs.Storing.{writeAnswer, writeRoom}
 use Rattle.storing.specs.Good.{Good}
-use Rattle.storing.proofs.Fitting.{Fit, fits-fit, fit-all}
-use Rattle.storing.proofs.Settling.{pieces-some}
 
 -- ---- good blocks
 
@@ -112,12 +113,12 @@ module _ (x : Piece) (p : ℕ) (ws : List ℕ) where
   unfolding blockRecord
   record-rest = refl
 
-rows-good : (xs : List Piece) (l : Last) (p : ℕ) (tx : List ℕ) → p + length (textOf xs) ≡ length tx → drop p tx ≡ textOf xs
-    → Good l xs ≡ true
+rows-good : (xs : List Piece) (l : Last) (p : ℕ) (tx : List ℕ) → length tx ≤ 2147483647 → p + length (textOf xs) ≡ length tx
+    → drop p tx ≡ textOf xs → Good l xs ≡ true
     → bytesOf (piecesFrom (length xs) l p (records p xs) tx) ≡ streamed (blocksBytes xs)
 unfolding textOf records piecesFrom bytesOf blocksBytes streamed
-rows-good [] l p tx e d h = rw (eq-eqb p (length tx) (omega arith))
-rows-good (x ∷ xs) l p tx e d h =
+rows-good [] l p tx z e d h = rw (eq-eqb p (length tx) (omega arith))
+rows-good (x ∷ xs) l p tx z e d h =
     let g = good-one l x xs h in
     let c : ℕ = length (x .bytes) in
     let rest : List ℕ = records (p + c) xs in
@@ -128,6 +129,8 @@ rows-good (x ∷ xs) l p tx e d h =
     let t : take (lengthAt ws) (drop p tx) ≡ x .bytes = rw (ec, d) (take-at (x .bytes) (textOf xs) c refl) in
     let f : Fit l p ws tx = record {
       range = rw es (g .range);
+      place = omega (arith, record-place x p rest);
+      count = omega (arith, ec);
       some = rw ec (g .some);
       change = rw es (g .change);
       here = record-place x p rest;
@@ -137,24 +140,24 @@ rows-good (x ∷ xs) l p tx e d h =
     let d′ : drop (p + c) tx ≡ textOf xs = sym (drop-drop c p tx) ∙ ap (drop c) d ∙ drop-at (x .bytes) (textOf xs) c refl in
     row-more (length xs) l p ws tx (fit-all l p ws tx f)
     ∙ rw (t, es, ec, record-rest x p rest)
-    (ap (andThen (streamed (blockBytes x))) (rows-good xs (last (x .style)) (p + c) tx (omega arith) d′ (g .rest)))
+    (ap (andThen (streamed (blockBytes x))) (rows-good xs (last (x .style)) (p + c) tx z (omega arith) d′ (g .rest)))
     ∙ blocks-cons x xs
 
 -- the count, and then the blocks
-list-as : (ws tx : List ℕ) (xs : List Piece) → length ws / 13 ≡ length xs
-    → pieces ws tx ≡ piecesFrom (length ws / 13) none 0 ws tx
+list-as : (ws tx : List ℕ) (xs : List Piece) → whole ws ≡ true → length ws / 13 ≡ length xs
     → bytesOf (piecesFrom (length xs) none 0 ws tx) ≡ streamed (blocksBytes xs) → listStream ws tx ≡ streamed (listBytes xs)
-unfolding listStream listBytes
-list-as ws tx xs k e q = rw (e, k, q) (sym (streamed-append (written (length xs)) (blocksBytes xs)))
+unfolding listBytes
+list-as ws tx xs w k q = list-is ws tx w ∙ rw (k, q) (sym (streamed-append (written (length xs)) (blocksBytes xs)))
 
-pub stream-good : (xs : List Piece) → Good none xs ≡ true → length (textOf xs) < 4294967296
+pub stream-good : (xs : List Piece) → Good none xs ≡ true → length (textOf xs) ≤ 2147483647
     → listStream (records 0 xs) (textOf xs) ≡ streamed (listBytes xs)
 stream-good xs h s =
     let ws : List ℕ = records 0 xs in
     let l : length ws ≡ length xs * 13 = length-records xs 0 in
     let k : length ws / 13 ≡ length xs = omega arith in
-    list-as ws (textOf xs) xs k (pieces-some ws (textOf xs) (omega arith) (omega (arith, good-count xs none h)))
-    (rows-good xs none 0 (textOf xs) (omega arith) refl h)
+    let few : length ws / 13 ≤ 4294967295 = omega (arith, good-count xs none h) in
+    let w : whole ws ≡ true = rw (eq-eqb (length ws % 13) 0 (omega arith), le-leb (length ws / 13) 4294967295 few) in
+    list-as ws (textOf xs) xs w k (rows-good xs none 0 (textOf xs) s (omega arith) refl h)
 
 -- ---- and back
 
@@ -249,16 +252,13 @@ rows-ends (suc k) l p ws tx m n z a =
         rows-some k l p ws tx z f (ih (m + length b) n (simp length-drop (omega arith)) e)
     go false f ih = absurd (row-stop k l p ws tx f m n a)
 
--- whole blocks, few enough
-abbrev Whole : List ℕ → Bool
-Whole ws = eqb (length ws % 13) 0 && ltb (length ws / 13) 4294967296
-
-pieces-whole : (ws tx : List ℕ) (m n : ℕ) → answer m (bytesOf (pieces ws tx)) ≡ Done n → Whole ws ≡ true
-unfolding pieces bytesOf answer
-pieces-whole ws tx m n = go (Whole ws)
+list-whole : (ws tx : List ℕ) {n : ℕ} → answer 0 (listStream ws tx) ≡ Done n → whole ws ≡ true
+unfolding listStream answer
+list-whole ws tx {n} = go (whole ws)
   where
     go : (t : Bool)
-        → answer m (bytesOf (cond t (piecesFrom (length ws / 13) none 0 ws tx) (stop (refusal StoredField)))) ≡ Done n
+        → answer 0 (cond t (andThen (streamed (written (length ws / 13))) (bytesOf (piecesFrom (length ws / 13) none 0 ws tx)))
+        (stop (refusal StoredField))) ≡ Done n
         → t ≡ true
     go true a = refl
     go false a = absurd (done-refused (sym a))
@@ -266,33 +266,25 @@ pieces-whole ws tx m n = go (Whole ws)
 pub stream-ends : (ws tx : List ℕ) {n : ℕ} → answer 0 (listStream ws tx) ≡ Done n
     → (xs : List Piece) × (Good none xs ≡ true) × (ws ≡ records 0 xs) × (tx ≡ textOf xs) × (length xs < 4294967296)
     × (listStream ws tx ≡ streamed (listBytes xs))
-unfolding listStream
 stream-ends ws tx {n} a =
     let k : ℕ = length ws / 13 in
     let m : ℕ = 0 + length (written k) in
-    let b : answer m (bytesOf (pieces ws tx)) ≡ Done n =
-    sym (answer-then (bytesOf (pieces ws tx)) (streamed (written k)) 0 m (answer-streamed (written k) 0)) ∙ a in
-    let w : Whole ws ≡ true = pieces-whole ws tx m n b in
-    let z : length ws % 13 ≡ 0 = eqb-true (length ws % 13) 0 (and-left (eqb (length ws % 13) 0) (ltb k 4294967296) w) in
-    let s : k < 4294967296 = ltb-true k 4294967296 (and-right (eqb (length ws % 13) 0) (ltb k 4294967296) w) in
-    let e : pieces ws tx ≡ piecesFrom k none 0 ws tx = pieces-some ws tx z (omega arith) in
-    go s e
-    (rows-ends k none 0 ws tx m n (omega arith) (ap (λ (y : Stream Piece). answer m (bytesOf y)) (sym e) ∙ b))
-  where
-    go : length ws / 13 < 4294967296 → pieces ws tx ≡ piecesFrom (length ws / 13) none 0 ws tx
-        → Rows (length ws / 13) none 0 ws tx
-        → (xs : List Piece) × (Good none xs ≡ true) × (ws ≡ records 0 xs) × (tx ≡ textOf xs) × (length xs < 4294967296)
-        × (listStream ws tx ≡ streamed (listBytes xs))
-    go s e q =
-        let xs : List Piece = q .0 in
-        let k : length xs ≡ length ws / 13 = q .4 in
-        let d : bytesOf (piecesFrom (length xs) none 0 ws tx) ≡ streamed (blocksBytes xs) =
-        ap (λ (i : ℕ). bytesOf (piecesFrom i none 0 ws tx)) k ∙ q .5 in
-        (xs, q .1, q .2, q .3, rw k s, list-as ws tx xs (sym k) e d)
+    let w : whole ws ≡ true = list-whole ws tx a in
+    let s : Stream ℕ = bytesOf (piecesFrom k none 0 ws tx) in
+    let b : answer m s ≡ Done n =
+    sym (answer-then s (streamed (written k)) 0 m (answer-streamed (written k) 0))
+    ∙ ap (answer 0) (sym (list-is ws tx w))
+    ∙ a in
+    let z : length ws % 13 ≡ 0 = eqb-true (length ws % 13) 0 (and-left (eqb (length ws % 13) 0) (leb k 4294967295) w) in
+    let f : k ≤ 4294967295 = leb-true k 4294967295 (and-right (eqb (length ws % 13) 0) (leb k 4294967295) w) in
+    let q : Rows k none 0 ws tx = rows-ends k none 0 ws tx m n (omega arith) b in
+    let d : bytesOf (piecesFrom (length (q .0)) none 0 ws tx) ≡ streamed (blocksBytes (q .0)) =
+    ap (λ (i : ℕ). bytesOf (piecesFrom i none 0 ws tx)) (q .4) ∙ q .5 in
+    (q .0, q .1, q .2, q .3, rw (q .4) (omega arith), list-as ws tx (q .0) w (sym (q .4)) d)
 
 -- ---- the answer and the room
 
-module _ (xs : List Piece) (total : ℕ) (h : Good none xs ≡ true) (s : length (textOf xs) < 4294967296)
+module _ (xs : List Piece) (total : ℕ) (h : Good none xs ≡ true) (s : length (textOf xs) ≤ 2147483647)
     (f : length (listBytes xs) ≤ total) where
   good-answer : writeAnswer total (records 0 xs) (textOf xs) ≡ Done (length (listBytes xs))
   unfolding writeAnswer

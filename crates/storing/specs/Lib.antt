@@ -1,5 +1,3 @@
--- Lists: what blocks are as a stored list. Storing: block records and a text, written as one. Good: blocks that a list can
--- hold.
-pub mod Lists
+-- Storing: block records and a text, written as a stored list. Good: blocks that a list can hold.
 pub mod Storing
 pub mod Good

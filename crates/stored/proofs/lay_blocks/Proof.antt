@@ -3,19 +3,14 @@ use borrow.Author.Needs.{needs}
 use native.Mathlib.Omega.{arith}
 use mathlib.Core.Path.{sym, refl, _∙_}
 use lib.ListN.{length-take, length-drop}
-use Rattle.stored.proofs.Entries.{entry-is}
-use Rattle.stored.proofs.Loops.{Going, going-start, going-bad, going-full, going-more, going-left, going-end}
+use Rattle.entries.proofs.Entries.{entry-is}
+use Rattle.stored.proofs.Laying.{Going, going-start, going-bad, going-full, going-more, going-left, going-end}
 use Rattle.stored.proofs.lay_blocks.Statement.{statement}
 use Rattle.stored.proofs.lay_blocks.Tie as tie
-use Rattle.stored.proofs.lay_blocks.Reads as reads
-use Rattle.stored.proofs.lay_blocks.Lts as lts
-use Rattle.answers.proofs.Refusal.of.Reads as of-reads
-use Rattle.pages.proofs.Page.blank.Reads as blank-reads
-use Rattle.pages.proofs.add.Reads as add-reads
-use Rattle.stored.proofs.block_at.Reads as block-at-reads
 
 abbrev Inv-loop : tie.InvT-loop
-Inv-loop list k blocks₀ text₀ t₀ n₀ page₀ begun₀ before₀ blocks text t n page begun before = Going k list blocks₀ text₀ t n page begun before blocks text
+Inv-loop list k blocks₀ text₀ t₀ n₀ page₀ begun₀ before₀ blocks text t n page begun before =
+    Going k list blocks₀ text₀ t n page begun before blocks text
 
 abbrev μ-loop : tie.MeasureT-loop
 μ-loop list k blocks₀ text₀ t₀ n₀ page₀ begun₀ before₀ blocks text t n page begun before = n
@@ -39,46 +34,86 @@ same-length-2 : tie.Need-same-length-2 Inv-loop μ-loop
 same-length-2 c = c .before .before .before .before .before .loop .inv .long
 
 returns : tie.Need-returns Inv-loop μ-loop
-returns c = (going-bad (c .before .before .before .before .before .loop .inv) (omega arith) (c .before .before .before .block-at .ensures) (c .before .e .given .1), omega arith)
+returns c =
+    let at-block-at = c .before .before .before in
+    let at-loop = at-block-at .before .before in (
+      going-bad (at-loop .loop .inv) (omega arith) (at-block-at .block-at .ensures) (c .before .e .given .1),
+      omega
+          arith,
+    )
 
 enum-known-e-2 : tie.Need-enum-known-e-2 Inv-loop μ-loop
 enum-known-e-2 c = search needs
 
 sub-u : tie.Need-sub-u Inv-loop μ-loop
-sub-u c = let w = entry-is _ _ (sym (c .before .before .before .block-at .ensures) ∙ c .before .e2 .given .1) in omega (arith, w .within)
+sub-u c =
+    let at-block-at = c .before .before .before in
+    let w = entry-is _ _ (sym (at-block-at .block-at .ensures) ∙ c .before .e2 .given .1) in
+    omega (arith, w .within)
 
 part-u-start : tie.Need-part-u-start Inv-loop μ-loop
-part-u-start c = let w = entry-is _ _ (sym (c .before .before .before .block-at .ensures) ∙ c .before .e2 .given .1) in omega (arith, w .within)
+part-u-start c =
+    let at-block-at = c .before .before .before in
+    let w = entry-is _ _ (sym (at-block-at .block-at .ensures) ∙ c .before .e2 .given .1) in
+    omega (arith, w .within)
 
 part-u-end : tie.Need-part-u-end Inv-loop μ-loop
 part-u-end c = search needs
 
 slice-aggregate-add : tie.Need-slice-aggregate-add Inv-loop μ-loop
-slice-aggregate-add c = let w = entry-is _ _ (sym (c .before .before .before .before .before .block-at .ensures) ∙ c .before .before .before .e2 .given .1) in simp (length-take, length-drop) (omega (arith, w .within))
+slice-aggregate-add c =
+    let at-e2 = c .before .before .before in
+    let at-block-at = at-e2 .before .before in
+    let w = entry-is _ _ (sym (at-block-at .block-at .ensures) ∙ at-e2 .e2 .given .1) in
+    simp (length-take, length-drop) (omega (arith, w .within))
 
 add-requires : tie.Need-add-requires Inv-loop μ-loop
-add-requires c κs = rw (c .before .before .before .before .before .before .before .before .before .loop .inv .wide, c .before .before .before .before .before .before .before .before .before .loop .inv .long) (c .before .before .before .before .before .before .before .before .before .loop .inv .ready)
+add-requires c κs =
+    let at-loop = c .before .before .before .before .before .before .before .before .before in
+    rw (at-loop .loop .inv .wide, at-loop .loop .inv .long) (at-loop .loop .inv .ready)
 
 enum-known-laid : tie.Need-enum-known-laid Inv-loop μ-loop
 enum-known-laid c = search needs
 
 same-length-3 : tie.Need-same-length-3 Inv-loop μ-loop
-same-length-3 c = c .before .before .before .before .before .before .before .add .kept .1 .1 .1 .0 ∙ c .before .before .before .before .before .before .before .before .before .before .before .before .before .before .before .before .before .loop .inv .wide
+same-length-3 c =
+    let at-add = c .before .before .before .before .before .before .before in
+    let at-loop = at-add .before .before .before .before .before .before .before .before .before .before in
+    at-add .add .kept .1 .1 .1 .0 ∙ at-loop .loop .inv .wide
 
 same-length-4 : tie.Need-same-length-4 Inv-loop μ-loop
-same-length-4 c = c .before .before .before .before .before .before .before .add .kept .1 .1 .1 .1 .0 ∙ c .before .before .before .before .before .before .before .before .before .before .before .before .before .before .before .before .before .loop .inv .long
+same-length-4 c =
+    let at-add = c .before .before .before .before .before .before .before in
+    let at-loop = at-add .before .before .before .before .before .before .before .before .before .before in
+    at-add .add .kept .1 .1 .1 .1 .0 ∙ at-loop .loop .inv .long
 
 returns-2 : tie.Need-returns-2 Inv-loop μ-loop
-returns-2 c = (going-full (c .before .before .before .before .before .before .before .before .before .before .before .before .before .before .before .before .before .loop .inv) (omega arith) (c .before .before .before .before .before .before .before .before .before .before .before .before .before .before .before .block-at .ensures) (c .before .before .before .before .before .before .before .before .before .before .before .before .before .e2 .given .1) refl (c .before .before .before .before .before .before .before .add .result) _ _ (c .before .before .before .before .before .before .before .add .ensures .0) (c .before .laid .given .1), omega arith)
+returns-2 c =
+    let at-add = c .before .before .before .before .before .before .before in
+    let at-e2 = at-add .before .before .before .before .before .before in
+    let at-block-at = at-e2 .before .before in
+    let at-loop = at-block-at .before .before in (
+      going-full (at-loop .loop .inv) (omega arith) (at-block-at .block-at .ensures) (at-e2 .e2 .given .1) refl
+          (at-add .add .result) _ _ (at-add .add .ensures .0) (c .before .laid .given .1),
+      omega arith,
+    )
 
 enum-known-laid-2 : tie.Need-enum-known-laid-2 Inv-loop μ-loop
 enum-known-laid-2 c = search needs
 
 sub-t : tie.Need-sub-t Inv-loop μ-loop
-sub-t c = let w = entry-is _ _ (sym (c .before .before .before .before .before .before .before .before .before .before .before .before .before .before .before .block-at .ensures) ∙ c .before .before .before .before .before .before .before .before .before .before .before .before .before .e2 .given .1) in simp (length-take, length-drop) (omega (arith, w .within))
+sub-t c =
+    let at-e2 = c .before .before .before .before .before .before .before .before .before .before .before .before .before in
+    let at-block-at = at-e2 .before .before in
+    let w = entry-is _ _ (sym (at-block-at .block-at .ensures) ∙ at-e2 .e2 .given .1) in
+    simp (length-take, length-drop) (omega (arith, w .within))
 
 part-t-start : tie.Need-part-t-start Inv-loop μ-loop
-part-t-start c = let w = entry-is _ _ (sym (c .before .before .before .before .before .before .before .before .before .before .before .before .before .before .before .block-at .ensures) ∙ c .before .before .before .before .before .before .before .before .before .before .before .before .before .e2 .given .1) in simp (length-take, length-drop) (omega (arith, w .within))
+part-t-start c =
+    let at-e2 = c .before .before .before .before .before .before .before .before .before .before .before .before .before in
+    let at-block-at = at-e2 .before .before in
+    let w = entry-is _ _ (sym (at-block-at .block-at .ensures) ∙ at-e2 .e2 .given .1) in
+    simp (length-take, length-drop) (omega (arith, w .within))
 
 part-t-end : tie.Need-part-t-end Inv-loop μ-loop
 part-t-end c = search needs
@@ -90,7 +125,15 @@ loop-less : tie.Need-loop-less Inv-loop μ-loop
 loop-less c = search needs
 
 loop-again : tie.Need-loop-again Inv-loop μ-loop
-loop-again c = going-more (c .before .before .before .before .before .before .before .before .before .before .before .before .before .before .before .before .before .before .loop .inv) (omega arith) (c .before .before .before .before .before .before .before .before .before .before .before .before .before .before .before .before .block-at .ensures) (c .before .before .before .before .before .before .before .before .before .before .before .before .before .before .e2 .given .1) refl (c .before .before .before .before .before .before .before .before .add .result) _ _ (c .before .before .before .before .before .before .before .before .add .ensures .0) (c .before .before .laid2 .given .1) (c .before .before .before .before .before .before .before .before .add .ensures .1) (c .before .before .before .before .before .before .before .before .add .kept .1 .1 .1 .0) (c .before .before .before .before .before .before .before .before .add .kept .1 .1 .1 .1 .0)
+loop-again c =
+    let at-laid2 = c .before .before in
+    let at-add = at-laid2 .before .before .before .before .before .before in
+    let at-e2 = at-add .before .before .before .before .before .before in
+    let at-block-at = at-e2 .before .before in
+    let at-loop = at-block-at .before .before in
+    going-more (at-loop .loop .inv) (omega arith) (at-block-at .block-at .ensures) (at-e2 .e2 .given .1) refl
+    (at-add .add .result) _ _ (at-add .add .ensures .0) (at-laid2 .laid2 .given .1) (at-add .add .ensures .1)
+    (at-add .add .kept .1 .1 .1 .0) (at-add .add .kept .1 .1 .1 .1 .0)
 
 of-requires : tie.Need-of-requires Inv-loop μ-loop
 of-requires c κs = search needs

@@ -6,12 +6,6 @@ use Rattle.sevens.proofs.Sevens.{number-within}
 use Rattle.stored.proofs.Whole.{lay-is, lay-bad, lay-short}
 use Rattle.stored.proofs.lay_list.Statement.{statement}
 use Rattle.stored.proofs.lay_list.Tie as tie
-use Rattle.stored.proofs.lay_list.Reads as reads
-use Rattle.stored.proofs.lay_list.Lts as lts
-use Rattle.answers.proofs.Refusal.of.Reads as of-reads
-use Rattle.sevens.proofs.number_at.Reads as number-at-reads
-use Rattle.stored.proofs.lay_blocks.Reads as lay-blocks-reads
-use Rattle.stored.proofs.wide.Reads as wide-reads
 
 number-at-requires : tie.Need-number-at-requires
 number-at-requires c κs = search needs
@@ -20,10 +14,16 @@ enum-known-n : tie.Need-enum-known-n
 enum-known-n c = search needs
 
 sub-lay-blocks : tie.Need-sub-lay-blocks
-sub-lay-blocks c = let w = number-within _ (sym (c .before .before .before .number-at .ensures) ∙ c .before .n .given .1) in omega arith
+sub-lay-blocks c =
+    let at-number-at = c .before .before .before in
+    let w = number-within _ (sym (at-number-at .number-at .ensures) ∙ c .before .n .given .1) in
+    omega arith
 
 part-lay-blocks-start : tie.Need-part-lay-blocks-start
-part-lay-blocks-start c = let w = number-within _ (sym (c .before .before .before .number-at .ensures) ∙ c .before .n .given .1) in omega arith
+part-lay-blocks-start c =
+    let at-number-at = c .before .before .before in
+    let w = number-within _ (sym (at-number-at .number-at .ensures) ∙ c .before .n .given .1) in
+    omega arith
 
 part-lay-blocks-end : tie.Need-part-lay-blocks-end
 part-lay-blocks-end c = search needs
@@ -53,13 +53,34 @@ same-length-2 : tie.Need-same-length-2
 same-length-2 c = search needs
 
 returns : tie.Need-returns
-returns c = (lay-is (c .before .before .before .before .before .before .before .before .before .before .before .before .before .before .before .before .args .list .now) (c .before .before .before .before .before .before .before .before .before .before .before .before .number-at .ensures) (c .before .before .before .before .before .before .before .before .before .before .before .before .before .before .before .before .args .blocks .now) (c .before .before .before .before .before .before .before .before .before .before .before .before .before .before .before .before .args .text .now) (c .before .before .before .before .before .before .before .before .before .before .n .given .1) (c .before .before .before .before .before .before .before .wide .ensures) (c .before .before .before .before .lay-blocks .ensures .0), c .before .before .before .before .lay-blocks .ensures .1)
+returns c =
+    let at-lay-blocks = c .before .before .before .before in
+    let at-wide = at-lay-blocks .before .before .before in
+    let at-n = at-wide .before .before .before in
+    let at-number-at = at-n .before .before in
+    let start = at-number-at .before .before .before .before in (
+      lay-is (start .args .list .now) (at-number-at .number-at .ensures) (start .args .blocks .now)
+          (start .args .text .now) (at-n .n .given .1) (at-wide .wide .ensures) (at-lay-blocks .lay-blocks .ensures .0),
+      at-lay-blocks .lay-blocks .ensures .1,
+    )
 
 returns-2 : tie.Need-returns-2
-returns-2 c = (lay-bad (c .before .before .before .before .before .before .before .args .list .now) (c .before .before .before .number-at .ensures) (c .before .before .before .before .before .before .before .args .blocks .now) (c .before .before .before .before .before .before .before .args .text .now) (c .before .enum-told .given .1) (c .of .ensures), omega arith)
+returns-2 c =
+    let at-number-at = c .before .before .before in
+    let start = at-number-at .before .before .before .before in (
+      lay-bad (start .args .list .now) (at-number-at .number-at .ensures) (start .args .blocks .now)
+          (start .args .text .now) (c .before .enum-told .given .1) (c .of .ensures),
+      omega arith,
+    )
 
 returns-3 : tie.Need-returns-3
-returns-3 c = (lay-short (c .before .before .before .before .before .before .before .args .list .now) (c .before .before .before .number-at .ensures) (c .before .before .before .before .before .before .before .args .blocks .now) (c .before .before .before .before .before .before .before .args .text .now) (c .before .enum-told2 .given .1) (c .of2 .ensures), omega arith)
+returns-3 c =
+    let at-number-at = c .before .before .before in
+    let start = at-number-at .before .before .before .before in (
+      lay-short (start .args .list .now) (at-number-at .number-at .ensures) (start .args .blocks .now)
+          (start .args .text .now) (c .before .enum-told2 .given .1) (c .of2 .ensures),
+      omega arith,
+    )
 
 pub lay-list-spec : {M : Type 1} → statement M
 lay-list-spec =

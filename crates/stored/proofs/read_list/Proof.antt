@@ -10,14 +10,6 @@ use Rattle.pages.proofs.Settling.{blocks-small, count-words}
 use Rattle.stored.proofs.Whole.{list-full, list-laid}
 use Rattle.stored.proofs.read_list.Statement.{statement}
 use Rattle.stored.proofs.read_list.Tie as tie
-use Rattle.stored.proofs.read_list.Reads as reads
-use Rattle.stored.proofs.read_list.Lts as lts
-use Rattle.pages.proofs.Page.count.Reads as count-reads
-use Rattle.pages.proofs.finish.Reads as finish-reads
-use Rattle.rooms.proofs.clear_bytes_from.Reads as clear-bytes-from-reads
-use Rattle.rooms.proofs.clear_from.Reads as clear-from-reads
-use Rattle.stored.proofs.lay_list.Reads as lay-list-reads
-use Rattle.stored.proofs.refuse.Reads as refuse-reads
 
 lay-list-requires : tie.Need-lay-list-requires
 lay-list-requires c κs = search needs
@@ -32,13 +24,29 @@ enum-known-laid-2 : tie.Need-enum-known-laid-2
 enum-known-laid-2 c = search needs
 
 finish-requires : tie.Need-finish-requires
-finish-requires c κs = ready-finish _ _ _ (rw (c .before .before .laid2 .given .1) at (c .before .before .before .before .before .before .before .before .lay-list .ensures .1))
+finish-requires c κs =
+    let at-laid2 = c .before .before in
+    let at-lay-list = at-laid2 .before .before .before .before .before .before in
+    ready-finish _ _ _ (rw (at-laid2 .laid2 .given .1) at (at-lay-list .lay-list .ensures .1))
 
 count-requires : tie.Need-count-requires
-count-requires c κs = blocks-small (length (c .before .before .before .before .before .before .before .before .before .before .before .before .before .before .before .before .before .args .blocks .now)) (length (c .before .before .before .before .before .before .before .before .before .before .before .before .before .before .before .before .before .args .text .now)) (rw (c .before .before .before .before .before .laid2 .given .1) at (c .before .before .before .before .before .before .before .before .before .before .before .lay-list .ensures .1)) (let b = c .before .before .before .before .before .before .before .before .before .before .before .before .before .before .before .before .before .good in omega arith)
+count-requires c κs =
+    let at-laid2 = c .before .before .before .before .before in
+    let at-lay-list = at-laid2 .before .before .before .before .before .before in
+    let start = at-lay-list .before .before .before .before .before .before in
+    blocks-small (length (start .args .blocks .now)) (length (start .args .text .now))
+    (rw (at-laid2 .laid2 .given .1) at (at-lay-list .lay-list .ensures .1)) (let b = start .good in omega arith)
 
 mul-clear-from : tie.Need-mul-clear-from
-mul-clear-from c = let b = c .before .before .before .before .before .before .before .before .before .before .before .before .before .before .before .before .before .before .before .good in let h : c .before .count .result * 13 ≤ length (c .before .before .before .before .before .before .before .before .before .before .before .before .before .before .before .before .before .before .before .args .blocks .now) = count-words _ (length (c .before .before .before .before .before .before .before .before .before .before .before .before .before .before .before .before .before .before .before .args .text .now)) (rw (c .before .before .before .before .before .before .before .laid2 .given .1) at (c .before .before .before .before .before .before .before .before .before .before .before .before .before .lay-list .ensures .1)) (c .before .count .ensures) in omega arith
+mul-clear-from c =
+    let at-laid2 = c .before .before .before .before .before .before .before in
+    let at-lay-list = at-laid2 .before .before .before .before .before .before in
+    let start = at-lay-list .before .before .before .before .before .before in
+    let b = start .good in
+    let h : c .before .count .result * 13 ≤ length (start .args .blocks .now) = count-words _
+    (length (start .args .text .now)) (rw (at-laid2 .laid2 .given .1) at (at-lay-list .lay-list .ensures .1))
+    (c .before .count .ensures) in
+    omega arith
 
 clear-from-requires : tie.Need-clear-from-requires
 clear-from-requires c κs = search needs
@@ -54,7 +62,14 @@ same-length-2 c = search needs
 
 returns : tie.Need-returns
 returns c =
-    let w = list-full (c .before .before .before .before .before .before .before .before .before .before .before .before .before .before .before .before .before .before .before .before .args .list .now) (c .before .before .before .before .before .before .before .before .before .before .before .before .before .before .before .before .before .before .before .before .args .blocks .now) (c .before .before .before .before .before .before .before .before .before .before .before .before .before .before .before .before .before .before .before .before .args .text .now) (c .before .before .before .before .before .before .before .before .before .before .before .before .before .before .lay-list .result) _ _ (c .before .before .before .before .before .before .before .before .before .before .before .before .before .before .lay-list .ensures .0) (c .before .before .before .before .before .before .before .before .laid .given .1) (c .before .before .before .before .refuse .ensures .0) (c .before .before .before .before .refuse .ensures .1 .0) (c .before .before .before .before .refuse .ensures .1 .1) (c .before .before .before .before .before .before .before .before .before .before .before .before .before .before .lay-list .kept .1 .0) (c .before .before .before .before .before .before .before .before .before .before .before .before .before .before .lay-list .kept .1 .1 .0) in
+    let at-refuse = c .before .before .before .before in
+    let at-laid = at-refuse .before .before .before .before in
+    let at-lay-list = at-laid .before .before .before .before .before .before in
+    let start = at-lay-list .before .before .before .before .before .before in
+    let w = list-full (start .args .list .now) (start .args .blocks .now) (start .args .text .now)
+    (at-lay-list .lay-list .result) _ _ (at-lay-list .lay-list .ensures .0) (at-laid .laid .given .1)
+    (at-refuse .refuse .ensures .0) (at-refuse .refuse .ensures .1 .0) (at-refuse .refuse .ensures .1 .1)
+    (at-lay-list .lay-list .kept .1 .0) (at-lay-list .lay-list .kept .1 .1 .0) in
     (w .answer, (w .blocks, w .text))
 
 same-length-3 : tie.Need-same-length-3
@@ -65,7 +80,17 @@ same-length-4 c = search needs
 
 returns-2 : tie.Need-returns-2
 returns-2 c =
-    let w = list-laid (c .before .before .before .before .before .before .before .before .before .before .before .before .before .before .before .before .before .before .before .before .before .before .before .before .before .before .args .list .now) (c .before .before .before .before .before .before .before .before .before .before .before .before .before .before .before .before .before .before .before .before .before .before .before .before .before .before .args .blocks .now) (c .before .before .before .before .before .before .before .before .before .before .before .before .before .before .before .before .before .before .before .before .before .before .before .before .before .before .args .text .now) (c .before .before .before .before .before .before .before .before .before .before .before .before .before .before .before .before .before .before .before .before .lay-list .result) _ _ (c .before .before .before .before .before .before .before .before .before .before .before .before .before .before .before .before .before .before .before .before .lay-list .ensures .0) (c .before .before .before .before .before .before .before .before .before .before .before .before .before .before .laid2 .given .1) (c .before .before .before .before .before .before .before .before .before .before .before .finish .ensures) (c .before .before .before .before .before .before .before .before .count .ensures) (c .before .before .before .before .before .before .clear-from .ensures) (c .before .before .clear-bytes-from .ensures) in
+    let at-clear-bytes-from = c .before .before in
+    let at-clear-from = at-clear-bytes-from .before .before .before .before in
+    let at-count = at-clear-from .before .before in
+    let at-finish = at-count .before .before .before in
+    let at-laid2 = at-finish .before .before .before in
+    let at-lay-list = at-laid2 .before .before .before .before .before .before in
+    let start = at-lay-list .before .before .before .before .before .before in
+    let w = list-laid (start .args .list .now) (start .args .blocks .now) (start .args .text .now)
+    (at-lay-list .lay-list .result) _ _ (at-lay-list .lay-list .ensures .0) (at-laid2 .laid2 .given .1)
+    (at-finish .finish .ensures) (at-count .count .ensures) (at-clear-from .clear-from .ensures)
+    (at-clear-bytes-from .clear-bytes-from .ensures) in
     (w .answer, (w .blocks, w .text))
 
 pub read-list-spec : {M : Type 1} → statement M

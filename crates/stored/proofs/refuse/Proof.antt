@@ -4,10 +4,6 @@ use mathlib.Core.Path.{refl}
 use Rattle.rooms.proofs.Clearing.{cleared}
 use Rattle.stored.proofs.refuse.Statement.{statement}
 use Rattle.stored.proofs.refuse.Tie as tie
-use Rattle.stored.proofs.refuse.Reads as reads
-use Rattle.stored.proofs.refuse.Lts as lts
-use Rattle.rooms.proofs.clear_bytes_from.Reads as clear-bytes-from-reads
-use Rattle.rooms.proofs.clear_from.Reads as clear-from-reads
 
 clear-from-requires : tie.Need-clear-from-requires
 clear-from-requires c κs = search needs
@@ -22,7 +18,13 @@ same-length-2 : tie.Need-same-length-2
 same-length-2 c = search needs
 
 returns : tie.Need-returns
-returns c = (refl, (cleared (c .before .before .before .before .before .before .before .before .before .before .args .blocks .now) (c .before .before .before .before .before .before .clear-from .ensures), cleared (c .before .before .before .before .before .before .before .before .before .before .args .text .now) (c .before .before .clear-bytes-from .ensures)))
+returns c =
+    let at-clear-bytes-from = c .before .before in
+    let at-clear-from = at-clear-bytes-from .before .before .before .before in
+    let start = at-clear-from .before .before .before .before in (
+      refl,
+      (cleared (start .args .blocks .now) (at-clear-from .clear-from .ensures), cleared (start .args .text .now) (at-clear-bytes-from .clear-bytes-from .ensures)),
+    )
 
 pub refuse-spec : {M : Type 1} → statement M
 refuse-spec =

@@ -2,8 +2,6 @@
 use borrow.Author.Needs.{needs}
 use Rattle.stored.proofs.Answer.counts.Statement.{statement}
 use Rattle.stored.proofs.Answer.counts.Tie as tie
-use Rattle.stored.proofs.Answer.counts.Reads as reads
-use Rattle.stored.proofs.Answer.counts.Lts as lts
 
 enum-known-self : tie.Need-enum-known-self
 enum-known-self c = search needs

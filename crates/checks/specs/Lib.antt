@@ -1,0 +1,2 @@
+-- Checks: what checking a stored list answers.
+pub mod Checks

@@ -1,0 +1,2 @@
+-- Fitting: a block's record, and whether it may stand where it does.
+pub mod Fitting
