@@ -2,7 +2,7 @@
 use crate::list::LENGTH_BYTES;
 use crate::list::Letter;
 use crate::say;
-use show::extract;
+use extraction::extract;
 ghost use mathlib.Core.Path.{_≡_};
 ghost use mathlib.Core.Bool.{true};
 ghost use Prim.Native.Nat.{_≤_};

@@ -12,12 +12,12 @@ mod list;
 mod say;
 mod small;
 
+use extraction::PAGE_BYTES;
 use judge::read_and_judge;
 use list::Front;
 use list::next;
 use say::End;
 use say::Tally;
-use show::PAGE_BYTES;
 
 // The longest file that is read, and a byte more.
 const FILE_ROOM: usize = 524288;
