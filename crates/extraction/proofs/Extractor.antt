@@ -13,9 +13,10 @@ use Rattle.answers.specs.declared.Why.the-variants.{SourceTooLong}
 use Rattle.answers.specs.declared.Refusal.{Refusal}
 use Rattle.answers.specs.Answers.{refusal}
 use Rattle.styles.specs.declared.Reading.the-variants.{Plain}
-use Rattle.reader.specs.Reading.{sizes, readAnswer, fontRoom, colourRoom, blockRoom, textRoom, answerNumber, answerCounts}
-use Rattle.reader.specs.declared.Answer.{Answer}
-use Rattle.reader.specs.declared.Answer.the-variants.{Refuses}
+use Rattle.parser.specs.Parsing.{sizes, answerNumber, answerCounts}
+use Rattle.reader.specs.Reading.{readAnswer, fontRoom, colourRoom, blockRoom, textRoom}
+use Rattle.parser.specs.declared.Answer.{Answer}
+use Rattle.parser.specs.declared.Answer.the-variants.{Refuses}
 use Rattle.lines.specs.Pages.{Put}
 use Rattle.show.specs.Listings.{listing}
 use Rattle.extraction.specs.Extractor.{extractorRooms, extractedAnswer, extracted}

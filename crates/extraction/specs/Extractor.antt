@@ -7,9 +7,10 @@ use lib.ListN.{length}
 use Rattle.answers.specs.declared.Why.the-variants.{SourceTooLong}
 use Rattle.answers.specs.Answers.{refusal}
 use Rattle.styles.specs.declared.Reading.the-variants.{Plain}
-use Rattle.reader.specs.Reading.{Sizes, readAnswer, fontRoom, colourRoom, blockRoom, textRoom, answerNumber, answerCounts}
-use Rattle.reader.specs.declared.Answer.{Answer}
-use Rattle.reader.specs.declared.Answer.the-variants.{Refuses}
+use Rattle.parser.specs.Parsing.{Sizes, answerNumber, answerCounts}
+use Rattle.reader.specs.Reading.{readAnswer, fontRoom, colourRoom, blockRoom, textRoom}
+use Rattle.parser.specs.declared.Answer.{Answer}
+use Rattle.parser.specs.declared.Answer.the-variants.{Refuses}
 use Rattle.show.specs.Listings.{listing}
 
 -- "8,192 bytes, 1,024 tokens, 128 blocks, 256 fonts and colours, 8,192 text bytes": the rooms' words

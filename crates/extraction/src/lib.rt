@@ -2,12 +2,12 @@
 // `extract` is total: what does not fit on a page is left out.
 use answers::Refusal;
 use answers::Why;
-use reader::Answer;
+use parser::Answer;
 use show::Listed;
 use show::list;
 use styles::Reading;
 ghost use mathlib.Core.Path.{_≡_};
-ghost use Rattle.reader.specs.Reading.{answerNumber};
+ghost use Rattle.parser.specs.Parsing.{answerNumber};
 ghost use Rattle.lines.specs.Pages.{Put};
 ghost use Rattle.extraction.specs.Extractor.{extractedAnswer, extracted};
 

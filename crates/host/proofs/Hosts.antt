@@ -8,9 +8,9 @@ use mathlib.Core.Path.{_≡_}
 use borrow.Author.Tests.{lt-ltb, le-ltb}
 use Rattle.answers.specs.Answers.{whyNumber}
 use Rattle.answers.specs.declared.Refusal.{Refusal}
-use Rattle.reader.specs.declared.Answer.{Answer}
-use Rattle.reader.specs.declared.Answer.the-variants.{Read, Refuses}
-use Rattle.reader.specs.declared.Counts.{Counts}
+use Rattle.parser.specs.declared.Answer.{Answer}
+use Rattle.parser.specs.declared.Answer.the-variants.{Read, Refuses}
+use Rattle.parser.specs.declared.Counts.{Counts}
 use Rattle.stored.specs.declared.Answer.{Answer as Restored}
 use Rattle.stored.specs.declared.Counts.{Counts as Pair}
 use Rattle.stored.specs.Stored.{answerNumber, answerCounts}

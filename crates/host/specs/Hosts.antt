@@ -3,8 +3,8 @@ use Prim.Native.Nat.{ℕ}
 use mathlib.Core.Bool.{cond}
 use lib.Dec.{ltb}
 use Rattle.answers.specs.Answers.{whyNumber}
-use Rattle.reader.specs.declared.Answer.{Answer}
-use Rattle.reader.specs.declared.Answer.the-variants.{Read, Refuses}
+use Rattle.parser.specs.declared.Answer.{Answer}
+use Rattle.parser.specs.declared.Answer.the-variants.{Read, Refuses}
 use Rattle.stored.specs.declared.Answer.{Answer as Restored}
 use Rattle.stored.specs.Stored.{answerNumber, answerCounts}
 use Rattle.host.specs.declared.ReadAnswer.{ReadAnswer}

@@ -6,7 +6,7 @@
 //   elduvarn_stored_check, _read, _write             the stored form
 //
 // Every function is total, and says what the crate below says.
-use reader::Answer;
+use parser::Answer;
 use reader::read;
 use stored::check;
 use stored::read_list;
@@ -16,7 +16,8 @@ ghost use mathlib.Core.Path.{_≡_};
 ghost use lib.ListN.{length};
 ghost use Rattle.answers.specs.Answers.{outcomeNumber, outcomeCount};
 ghost use Rattle.cutter.specs.Cutting.{cutAnswer, cutRoom};
-ghost use Rattle.reader.specs.Reading.{sizes, readAnswer, tokenRoom, fontRoom, colourRoom, blockRoom, textRoom};
+ghost use Rattle.parser.specs.Parsing.{sizes};
+ghost use Rattle.reader.specs.Reading.{readAnswer, tokenRoom, fontRoom, colourRoom, blockRoom, textRoom};
 ghost use Rattle.stored.specs.Stored.{checked, storedAnswer, storedBlocks, storedText};
 ghost use Rattle.storing.specs.Storing.{writeAnswer, writeRoom};
 ghost use Rattle.host.specs.Hosts.{narrowed, answerOf, storedOf};

@@ -3,8 +3,8 @@
 // refusal is all of every room.
 use crate::say::number;
 use crate::say::text;
-use reader::Answer;
-use reader::Counts;
+use parser::Answer;
+use parser::Counts;
 use styles::Reading;
 ghost use mathlib.Core.Path.{_≡_};
 ghost use mathlib.Core.Bool.{true};

@@ -27,8 +27,9 @@ use Rattle.styles.specs.declared.Reading.the-variants.{Plain}
 use Rattle.styles.specs.Styles.{flagged, fitted, alignment, spacing, measured, character, change, flagsNumber, styleOf}
 use Rattle.pages.specs.Pages.{blocksFrom, blocks, textOf, blockRecord, records, roomy}
 use Rattle.body.specs.Body.{gather, asks, bodyFrom}
-use Rattle.reader.specs.declared.Answer.{Answer}
-use Rattle.reader.specs.Reading.{shownBy, Sizes, Letter, placed, bodied, letterOf, answered, answerNumber}
+use Rattle.parser.specs.declared.Answer.{Answer}
+use Rattle.parser.specs.Parsing.{Sizes, Letter, placed, bodied, answerNumber}
+use Rattle.reader.specs.Reading.{shownBy, letterOf, answered}
 
 -- a letter; its answer; its text; its fonts' words; how many blocks it has
 record Sample : Type 0 where

@@ -11,7 +11,7 @@ use lib.Dec.{eqb}
 use lib.ListN.{length, take}
 use lib.Seq.{take-all}
 use Rattle.lines.specs.Lines.{lines}
-use Rattle.reader.specs.declared.Counts.{Counts}
+use Rattle.parser.specs.declared.Counts.{Counts}
 use Rattle.show.specs.Listings.{headLine, textLine, roomLines, listing}
 
 pub text-part : (n : ℕ) (text : List ℕ) → take n text ++ (10 ∷ []) ≡ textLine n text

@@ -6,7 +6,7 @@ use mathlib.Core.List.{List, [], _∷_, _++_}
 use lib.Dec.{eqb}
 use lib.ListN.{take}
 use Rattle.lines.specs.Lines.{item, lines}
-use Rattle.reader.specs.declared.Counts.{Counts}
+use Rattle.parser.specs.declared.Counts.{Counts}
 
 -- "answer and five counts"
 unfoldable pub headLine : ℕ → Counts → List ℕ

@@ -4,12 +4,12 @@ use lines::append;
 use lines::number;
 use lines::push;
 use lines::records;
-use reader::Answer;
-use reader::Counts;
+use parser::Answer;
+use parser::Counts;
 ghost use mathlib.Core.Path.{_≡_};
 ghost use Prim.Native.Nat.{_≤_};
 ghost use lib.ListN.{length};
-ghost use Rattle.reader.specs.Reading.{answerNumber, answerCounts};
+ghost use Rattle.parser.specs.Parsing.{answerNumber, answerCounts};
 ghost use Rattle.lines.specs.Pages.{Put};
 ghost use Rattle.show.specs.Listings.{headLine, textLine, listing};
 

@@ -36,7 +36,8 @@ use Rattle.walk.specs.Walk.{aim, extent, Step, kept, hidden, fontTable, colourT
 use Rattle.header.specs.Header.{Tables, noTables, withFonts, withColours, readStep, nextStep, tablesFrom, tables}
 use Rattle.styles.specs.declared.Reading.{Reading}
 use Rattle.pages.specs.Pages.{Piece}
-use Rattle.reader.specs.Reading.{shownBy, Letter, ended}
+use Rattle.parser.specs.Parsing.{Letter, ended}
+use Rattle.reader.specs.Reading.{shownBy}
 use Rattle.veil.specs.Said.{namesIn, saidBy}
 use Rattle.veil.proofs.Steps.{laid, finished, stepped, first, ownNames, sayOf}
 

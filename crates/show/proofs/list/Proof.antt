@@ -7,8 +7,8 @@ use Rattle.show.proofs.list.Tie as tie
 use Rattle.show.proofs.list.Reads as reads
 use Rattle.show.proofs.list.Lts as lts
 use Rattle.lines.proofs.records.Reads as records-reads
-use Rattle.reader.proofs.Answer.counts.Reads as counts-reads
-use Rattle.reader.proofs.Answer.number.Reads as number-reads
+use Rattle.parser.proofs.Answer.counts.Reads as counts-reads
+use Rattle.parser.proofs.Answer.number.Reads as number-reads
 use Rattle.show.proofs.head.Reads as head-reads
 use Rattle.show.proofs.text_line.Reads as text-line-reads
 

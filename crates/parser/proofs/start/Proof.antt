@@ -1,13 +1,13 @@
 -- `start` meets its contract: no token, or the first one.
-use Rattle.reader.proofs.Parts.{start-none, start-first}
+use Rattle.parser.proofs.Parts.{start-none, start-first}
 use borrow.Author.Needs.{needs}
-use Rattle.reader.proofs.start.Statement.{statement}
-use Rattle.reader.proofs.start.Tie as tie
-use Rattle.reader.proofs.start.Reads as reads
-use Rattle.reader.proofs.start.Lts as lts
+use Rattle.parser.proofs.start.Statement.{statement}
+use Rattle.parser.proofs.start.Tie as tie
+use Rattle.parser.proofs.start.Reads as reads
+use Rattle.parser.proofs.start.Lts as lts
 use Rattle.answers.proofs.Refusal.of.Reads as of-reads
 use Rattle.items.proofs.item_at.Reads as item-at-reads
-use Rattle.reader.proofs.first_token.Reads as first-token-reads
+use Rattle.parser.proofs.first_token.Reads as first-token-reads
 
 of-requires : tie.Need-of-requires
 of-requires c κs = search needs

@@ -1,9 +1,9 @@
 -- `counts` meets its contract: case by case.
 use borrow.Author.Needs.{needs}
-use Rattle.reader.proofs.Answer.counts.Statement.{statement}
-use Rattle.reader.proofs.Answer.counts.Tie as tie
-use Rattle.reader.proofs.Answer.counts.Reads as reads
-use Rattle.reader.proofs.Answer.counts.Lts as lts
+use Rattle.parser.proofs.Answer.counts.Statement.{statement}
+use Rattle.parser.proofs.Answer.counts.Tie as tie
+use Rattle.parser.proofs.Answer.counts.Reads as reads
+use Rattle.parser.proofs.Answer.counts.Lts as lts
 
 enum-known-self : tie.Need-enum-known-self
 enum-known-self c = search needs

@@ -1,7 +1,8 @@
--- The functions inside the reader, one law for each way through the code.
+-- The functions of the parser, one law for each way through the code.
 --     start-none, start-first      the first token
 --     body-full, body-laid         the body
 --     letter-refused, letter-read  header and body
+--     parse-refused, parse-read    the whole
 -- Assumes nothing.
 use mathlib.Core.Path.{_≡_, refl, sym, ap, _∙_}
 use mathlib.Core.List.{List, [], _∷_, _++_}
@@ -14,6 +15,7 @@ use Rattle.answers.specs.declared.Outcome.{Outcome}
 use Rattle.answers.specs.declared.Outcome.the-variants.{Done, Refused}
 use Rattle.answers.specs.Answers.{refusal, Found, found, refused}
 use Rattle.rooms.specs.Streams.{Stream, items, answer}
+use Rattle.rooms.proofs.Streams.{done-refused}
 use Rattle.tokens.specs.Tokens.{Shown}
 use Rattle.tokens.specs.Tokens
 use Rattle.items.specs.declared.Item.{Item}
@@ -23,7 +25,7 @@ use Rattle.styles.specs.declared.Reading.{Reading}
 use Rattle.pages.specs.declared.Page.{Page}
 use Rattle.pages.specs.declared.Laid.{Laid}
 use Rattle.pages.specs.declared.Laid.the-variants.{On, Full}
-use Rattle.rooms.specs.Rooms.{capacity, filled}
+use Rattle.rooms.specs.Rooms.{capacity, filled, tableLimit}
 use Rattle.rooms.proofs.Clearing.{filled-front}
 use Rattle.pages.specs.Pages.{Piece, blocks, textOf, records, textCapacity}
 use Rattle.pages.specs.Laying.{Laying, on, off, told, blank, blockCount, lastPut, layAll}
@@ -34,11 +36,11 @@ use Rattle.fonts.specs.Fonts.{tableWords, InFront}
 use Rattle.fonts.proofs.Tables.{length-table}
 use Rattle.header.specs.declared.Header.{Header}
 use Rattle.header.specs.declared.Header.the-variants.{Read as Headed, Refused as Unheaded}
-use Rattle.header.specs.Header.{Tables, ReadHeader}
-use Rattle.reader.specs.declared.Answer.{Answer}
-use Rattle.reader.specs.declared.Answer.the-variants.{Read, Refuses}
-use Rattle.reader.specs.Reading.{Letter, begun, ended, placed, bodied, headed}
-use Rattle.reader.specs.Parts.{Starts, firstOf, BodyInto, LetterInto}
+use Rattle.header.specs.Header.{Tables, tables, ReadHeader}
+use Rattle.parser.specs.declared.Answer.{Answer}
+use Rattle.parser.specs.declared.Answer.the-variants.{Read, Refuses}
+use Rattle.parser.specs.Parsing.{Sizes, Letter, begun, ended, placed, bodied, headed, walked}
+use Rattle.parser.specs.Parts.{Starts, firstOf, BodyInto, LetterInto}
 
 -- the first token
 pub start-none : (src : List ℕ) (n : ℕ) (ws : List ℕ) {r : Refusal} → n ≡ 0 → r ≡ refusal NoTokens → Starts (begun (shownAll src n ws)) (Refused r)
@@ -139,3 +141,27 @@ module _ (rd : Reading) (zf zc zb zt : ℕ) (ts : List Shown) (n : ℕ) where
       body-ends s (answer 0 st) st a fs′ cs′ bs tx
       (filled-front zf (f * 3) (tableWords (s .fonts)) fs fs′ u front lw lf)
       (filled-front zc c (s .colours) cs cs′ v (rw m (h .2)) (sym m) lc) w
+
+-- the whole: the first token refuses, or the letter's answer stands
+begun-found : (ts : List Shown) {s : Outcome} {m : ℕ} → Starts (begun ts) s → s ≡ Done m → begun ts ≡ found ts
+begun-found [] h f = absurd (done-refused (sym f ∙ h))
+begun-found (Shown.opening ∷ ts) h f = refl
+begun-found (Shown.closing ∷ ts) h f = absurd (done-refused (sym f ∙ h))
+begun-found (Shown.lineBreak ∷ ts) h f = absurd (done-refused (sym f ∙ h))
+begun-found (Shown.ignorable ∷ ts) h f = absurd (done-refused (sym f ∙ h))
+begun-found (Shown.text p bs ∷ ts) h f = absurd (done-refused (sym f ∙ h))
+begun-found (Shown.word w num ∷ ts) h f = absurd (done-refused (sym f ∙ h))
+begun-found (Shown.unknown p bs num ∷ ts) h f = absurd (done-refused (sym f ∙ h))
+
+module _ (rd : Reading) (z : Sizes) (ts : List Shown) (n : ℕ) {s : Outcome} (h : Starts (begun ts) s) where
+  pub parse-refused : {k : Refusal} → s ≡ Refused k → (fs cs bs tx : List ℕ) → LetterInto (walked rd z (begun ts)) n (Refuses k) fs cs bs tx (z .fonts) (z .colours) (z .blocks) (z .text)
+  parse-refused {k} e fs cs bs tx = go (begun ts) h
+    where
+      go : (x : Found (List Shown)) → Starts x s → LetterInto (walked rd z x) n (Refuses k) fs cs bs tx (z .fonts) (z .colours) (z .blocks) (z .text)
+      go (found us) q = absurd (done-refused (sym q ∙ e))
+      go (refused r) q = let w : Refused r ≡ Refused k = sym q ∙ e in cc
+
+  pub parse-read : {m : ℕ} → s ≡ Done m → (a : Answer) (fs cs bs tx : List ℕ)
+      → LetterInto (headed rd (z .blocks) (z .text) ts (tables (tableLimit 3 (z .fonts)) (tableLimit 1 (z .colours)) (walk ts))) n a fs cs bs tx (z .fonts) (z .colours) (z .blocks) (z .text)
+      → LetterInto (walked rd z (begun ts)) n a fs cs bs tx (z .fonts) (z .colours) (z .blocks) (z .text)
+  parse-read e a fs cs bs tx g = rw (begun-found ts h e) g

@@ -12,9 +12,9 @@ use Rattle.tokens.specs.Tokens.{Shown}
 use Rattle.tokens.specs.Tokens
 use Rattle.fonts.specs.Fonts.{tableWords}
 use Rattle.pages.specs.Pages.{Piece, blocks, textOf, records}
-use Rattle.reader.specs.declared.Answer.{Answer}
-use Rattle.reader.specs.declared.Answer.the-variants.{Read, Refuses}
-use Rattle.reader.specs.Reading.{Letter}
+use Rattle.parser.specs.declared.Answer.{Answer}
+use Rattle.parser.specs.declared.Answer.the-variants.{Read, Refuses}
+use Rattle.parser.specs.Parsing.{Letter}
 
 -- the look at the first token: nothing, or a refusal
 abbrev pub Starts : Found (List Shown) → Outcome → Type 0

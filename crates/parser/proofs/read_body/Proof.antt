@@ -5,12 +5,12 @@ use Prim.Native.Nat.{_*_, _≤_}
 use Rattle.runs.proofs.Texts.{still-on}
 use Rattle.pages.proofs.Laying.{ready-finish}
 use Rattle.pages.proofs.Settling.{blocks-small, count-words}
-use Rattle.reader.proofs.Parts.{body-full, body-laid}
+use Rattle.parser.proofs.Parts.{body-full, body-laid}
 use borrow.Author.Needs.{needs}
-use Rattle.reader.proofs.read_body.Statement.{statement}
-use Rattle.reader.proofs.read_body.Tie as tie
-use Rattle.reader.proofs.read_body.Reads as reads
-use Rattle.reader.proofs.read_body.Lts as lts
+use Rattle.parser.proofs.read_body.Statement.{statement}
+use Rattle.parser.proofs.read_body.Tie as tie
+use Rattle.parser.proofs.read_body.Reads as reads
+use Rattle.parser.proofs.read_body.Lts as lts
 use Rattle.body.proofs.lay_body.Reads as lay-body-reads
 use Rattle.pages.proofs.Page.count.Reads as count-reads
 use Rattle.pages.proofs.finish.Reads as finish-reads

@@ -6,14 +6,14 @@ use Rattle.rooms.specs.Rooms.{tableLimit}
 use Rattle.items.specs.Items.{shownAll}
 use Rattle.walk.specs.Walk.{walk}
 use Rattle.header.specs.Header.{tables}
-use Rattle.reader.proofs.Parts.{header-fits, letter-refused, letter-read}
+use Rattle.parser.proofs.Parts.{header-fits, letter-refused, letter-read}
 use borrow.Author.Needs.{needs}
-use Rattle.reader.proofs.letter.Statement.{statement}
-use Rattle.reader.proofs.letter.Tie as tie
-use Rattle.reader.proofs.letter.Reads as reads
-use Rattle.reader.proofs.letter.Lts as lts
+use Rattle.parser.proofs.letter.Statement.{statement}
+use Rattle.parser.proofs.letter.Tie as tie
+use Rattle.parser.proofs.letter.Reads as reads
+use Rattle.parser.proofs.letter.Lts as lts
 use Rattle.header.proofs.read_header.Reads as read-header-reads
-use Rattle.reader.proofs.read_body.Reads as read-body-reads
+use Rattle.parser.proofs.read_body.Reads as read-body-reads
 use Rattle.rooms.proofs.clear_from.Reads as clear-from-reads
 
 read-header-requires : tie.Need-read-header-requires

@@ -1,9 +1,9 @@
 -- `first_token` meets its contract: case by case.
 use borrow.Author.Needs.{needs}
-use Rattle.reader.proofs.first_token.Statement.{statement}
-use Rattle.reader.proofs.first_token.Tie as tie
-use Rattle.reader.proofs.first_token.Reads as reads
-use Rattle.reader.proofs.first_token.Lts as lts
+use Rattle.parser.proofs.first_token.Statement.{statement}
+use Rattle.parser.proofs.first_token.Tie as tie
+use Rattle.parser.proofs.first_token.Reads as reads
+use Rattle.parser.proofs.first_token.Lts as lts
 use Rattle.answers.proofs.Refusal.of.Reads as of-reads
 
 enum-told : tie.Need-enum-told
