@@ -7,8 +7,8 @@ use Rattle.parser.specs.declared.Answer.{Answer}
 use Rattle.parser.specs.declared.Answer.the-variants.{Read, Refuses}
 use Rattle.stored.specs.declared.Answer.{Answer as Restored}
 use Rattle.stored.specs.Stored.{answerNumber, answerCounts}
-use Rattle.host.specs.declared.ReadAnswer.{ReadAnswer}
-use Rattle.host.specs.declared.StoredAnswer.{StoredAnswer}
+use Rattle.told.specs.declared.ReadAnswer.{ReadAnswer}
+use Rattle.told.specs.declared.StoredAnswer.{StoredAnswer}
 
 -- a count as 32 bits; the largest number for a count that does not fit
 unfoldable pub narrowed : ℕ → ℕ

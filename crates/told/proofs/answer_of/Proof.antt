@@ -1,12 +1,12 @@
 -- `answer_of` meets its contract: each arm is a case of the definition.
 use borrow.Author.Needs.{needs}
-use Rattle.host.proofs.Hosts.{answer-read, answer-refuses}
-use Rattle.host.proofs.answer_of.Statement.{statement}
-use Rattle.host.proofs.answer_of.Tie as tie
-use Rattle.host.proofs.answer_of.Reads as reads
-use Rattle.host.proofs.answer_of.Lts as lts
+use Rattle.told.proofs.Told.{answer-read, answer-refuses}
+use Rattle.told.proofs.answer_of.Statement.{statement}
+use Rattle.told.proofs.answer_of.Tie as tie
+use Rattle.told.proofs.answer_of.Reads as reads
+use Rattle.told.proofs.answer_of.Lts as lts
 use Rattle.answers.proofs.Refusal.number.Reads as number-reads
-use Rattle.host.proofs.narrow.Reads as narrow-reads
+use Rattle.told.proofs.narrow.Reads as narrow-reads
 
 enum-known-answer : tie.Need-enum-known-answer
 enum-known-answer c = search needs

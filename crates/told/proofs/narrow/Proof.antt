@@ -1,10 +1,10 @@
 -- `narrow` meets its contract: its test is that of the definition.
 use borrow.Author.Needs.{needs}
-use Rattle.host.proofs.Hosts.{narrow-fits, narrow-not}
-use Rattle.host.proofs.narrow.Statement.{statement}
-use Rattle.host.proofs.narrow.Tie as tie
-use Rattle.host.proofs.narrow.Reads as reads
-use Rattle.host.proofs.narrow.Lts as lts
+use Rattle.told.proofs.Told.{narrow-fits, narrow-not}
+use Rattle.told.proofs.narrow.Statement.{statement}
+use Rattle.told.proofs.narrow.Tie as tie
+use Rattle.told.proofs.narrow.Reads as reads
+use Rattle.told.proofs.narrow.Lts as lts
 
 cast-result : tie.Need-cast-result
 cast-result c = search needs

@@ -14,7 +14,7 @@ use Rattle.parser.specs.declared.Counts.{Counts}
 use Rattle.stored.specs.declared.Answer.{Answer as Restored}
 use Rattle.stored.specs.declared.Counts.{Counts as Pair}
 use Rattle.stored.specs.Stored.{answerNumber, answerCounts}
-use Rattle.host.specs.Hosts.{narrowed, answerOf, storedOf}
+use Rattle.told.specs.Told.{narrowed, answerOf, storedOf}
 
 pub narrow-fits : {n : ℕ} → n < 4294967296 → n ≡ narrowed n
 unfolding narrowed
@@ -33,5 +33,5 @@ pub answer-refuses : {a : Answer} {r : Refusal} {k : ℕ} → a ≡ Refuses r �
     → record { refusal = k; tokens = 0; fonts = 0; colours = 0; blocks = 0; text = 0 } ≡ answerOf a
 answer-refuses e h = rw (e, h)
 
-pub stored-as : {a b : Restored} {n : ℕ} {k : Pair} → a ≡ b → n ≡ answerNumber a → k ≡ answerCounts a → record { refusal = n; blocks = k .blocks; text = k .text } ≡ storedOf b
-stored-as e f g = rw (f, g, e)
+pub stored-as : (a : Restored) {n : ℕ} {k : Pair} → n ≡ answerNumber a → k ≡ answerCounts a → record { refusal = n; blocks = k .blocks; text = k .text } ≡ storedOf a
+stored-as a f g = rw (f, g)
