@@ -23,7 +23,8 @@ use Rattle.tokens.specs.Tokens.{Shown}
 use Rattle.items.specs.declared.Item.the-variants.{Text, Closing, LineBreak, Ignorable, Word, Unknown}
 use Rattle.items.specs.Items.{propertyOf, itemOf, itemAt, shownAll}
 use Rattle.items.proofs.Items.{item-opening, shown-take}
-use Rattle.fonts.specs.Fonts.{Font, fonts, ReadFonts}
+use Rattle.rows.specs.Rows.{Font, ReadFonts}
+use Rattle.fonts.specs.Fonts.{fonts}
 use Rattle.colours.specs.Colours.{colours, ReadColours}
 use Rattle.walk.specs.declared.Aim.{Aim}
 use Rattle.walk.specs.declared.Aim.the-variants.{Nothing, Hide, Fonts, Colours}

@@ -17,7 +17,7 @@ use Rattle.items.specs.declared.Item.{Item}
 use Rattle.items.specs.declared.Item.the-variants.{Text, Opening, Closing, LineBreak, Ignorable, Word, Unknown}
 use Rattle.items.specs.Items.{itemAt, shownOf, shownAll}
 use Rattle.items.proofs.Items.{rest, words-less, shown-none, shown-some, shown-drop}
-use Rattle.fonts.specs.Fonts.{tableWords}
+use Rattle.rows.specs.Rows.{tableWords}
 use Rattle.walk.specs.Walk.{aim, entered, enteredLength, stepOf, passedBy, walk}
 use Rattle.walk.proofs.Walk.{walk-end, walk-one}
 use Rattle.header.specs.declared.Header.the-variants.{Read, Refused}

@@ -10,7 +10,7 @@ use Rattle.answers.specs.Answers.{refusal, Found, found, refused}
 use Rattle.tokens.specs.Tokens.{Shown}
 use Rattle.items.specs.declared.Item.{Item}
 use Rattle.items.specs.declared.Item.the-variants.{Text, Opening, Closing, LineBreak, Ignorable, Word, Unknown}
-use Rattle.fonts.specs.Fonts.{Font, tableWords, InFront}
+use Rattle.rows.specs.Rows.{Font, tableWords, InFront}
 use Rattle.walk.specs.Walk.{aim, entered, enteredLength}
 use Rattle.header.specs.declared.Entered.{Entered}
 use Rattle.header.specs.declared.Entered.the-variants.{On, Bad}

@@ -6,7 +6,8 @@ use mathlib.Core.Bool.{true, false}
 use lib.ListN.{length, take}
 use Rattle.answers.specs.declared.Why.the-variants.{TableLineBreak}
 use Rattle.answers.specs.Answers.{refusal, Found, found, refused}
-use Rattle.fonts.specs.Fonts.{Font, fonts, tableWords, InFront}
+use Rattle.rows.specs.Rows.{Font, tableWords, InFront}
+use Rattle.fonts.specs.Fonts.{fonts}
 use Rattle.colours.specs.Colours.{colours}
 use Rattle.walk.specs.Walk.{Step, kept, hidden, fontTable, colourTable}
 use Rattle.header.specs.declared.Header.{Header}

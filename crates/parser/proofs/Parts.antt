@@ -32,8 +32,8 @@ use Rattle.pages.specs.Laying.{Laying, on, off, told, blank, blockCount, lastPu
 use Rattle.pages.proofs.Settling.{lay-refuses, lay-joins, Joined, Filled, joined-filled}
 use Rattle.walk.specs.Walk.{walk}
 use Rattle.body.specs.Body.{body}
-use Rattle.fonts.specs.Fonts.{tableWords, InFront}
-use Rattle.fonts.proofs.Tables.{length-table}
+use Rattle.rows.specs.Rows.{tableWords, InFront}
+use Rattle.rows.proofs.Tables.{length-table}
 use Rattle.header.specs.declared.Header.{Header}
 use Rattle.header.specs.declared.Header.the-variants.{Read as Headed, Refused as Unheaded}
 use Rattle.header.specs.Header.{Tables, tables, ReadHeader}

@@ -10,7 +10,7 @@ use Rattle.answers.specs.Answers.{refusal, Found, found, refused}
 use Rattle.rooms.specs.Rooms.{filled}
 use Rattle.tokens.specs.Tokens.{Shown}
 use Rattle.tokens.specs.Tokens
-use Rattle.fonts.specs.Fonts.{tableWords}
+use Rattle.rows.specs.Rows.{tableWords}
 use Rattle.pages.specs.Pages.{Piece, blocks, textOf, records}
 use Rattle.parser.specs.declared.Answer.{Answer}
 use Rattle.parser.specs.declared.Answer.the-variants.{Read, Refuses}

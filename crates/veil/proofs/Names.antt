@@ -27,8 +27,10 @@ use Rattle.tokenize.proofs.Places.{Stands}
 use Rattle.cutter.specs.Cutting.{tokenStream}
 use Rattle.cutter.proofs.Places.{Placed, stream-places}
 use Rattle.items.specs.Items.{part}
-use Rattle.fonts.specs.Fonts.{Font, Fonts, noFonts, named, inserted, hasKey, stored, rekeyed, fontWord, fontToken, nextFont}
-use Rattle.fonts.specs.Fonts.{fontsFrom, tableOf, fonts}
+use Rattle.rows.specs.Rows.{Font, Fonts, noFonts, inserted, hasKey, stored}
+use Rattle.fonts.specs.Fonts.{named, rekeyed, fontWord, fontToken, nextFont}
+use Rattle.rows.specs.Rows.{tableOf}
+use Rattle.fonts.specs.Fonts.{fontsFrom, fonts}
 use Rattle.colours.specs.Colours.{colours}
 use Rattle.walk.specs.declared.Aim.{Aim}
 use Rattle.walk.specs.declared.Aim.the-variants.{Nothing, Hide, Fonts as ReadFonts, Colours as ReadColours}

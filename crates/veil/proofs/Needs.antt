@@ -20,7 +20,8 @@ use Rattle.utf8.specs.Utf8.{utf8, written}
 use Rattle.units.specs.Units.{unitOf, units, later, kept, decode, utf8All, runText}
 use Rattle.items.specs.Items.{part as bytesAt}
 use Rattle.walk.specs.Walk.{aimFrom, extent, walkFrom}
-use Rattle.fonts.specs.Fonts.{named as fontNamed, hasKey, inserted, stored, fontWord, fontToken, fontsFrom, fonts}
+use Rattle.rows.specs.Rows.{hasKey, inserted, stored}
+use Rattle.fonts.specs.Fonts.{named as fontNamed, fontWord, fontToken, fontsFrom, fonts}
 use Rattle.colours.specs.Colours.{colourWordOf, colourToken, coloursFrom, colours}
 use Rattle.header.specs.Header.{tablesFrom}
 use Rattle.styles.specs.declared.Reading.the-variants.{Plain}

@@ -20,8 +20,10 @@ use Rattle.tokens.specs.declared.Property.{Property}
 use Rattle.tokens.specs.declared.Property.the-variants.{None, Value}
 use Rattle.tokens.specs.Tokens.{Shown}
 use Rattle.tokens.specs.Tokens
-use Rattle.fonts.specs.Fonts.{Font, Fonts, noFonts, named, hasKey, inserted, stored, rekeyed, fontWord, fontToken, nextFont}
-use Rattle.fonts.specs.Fonts.{fontsFrom, tableOf, fonts}
+use Rattle.rows.specs.Rows.{Font, Fonts, noFonts, hasKey, inserted, stored}
+use Rattle.fonts.specs.Fonts.{named, rekeyed, fontWord, fontToken, nextFont}
+use Rattle.rows.specs.Rows.{tableOf}
+use Rattle.fonts.specs.Fonts.{fontsFrom, fonts}
 use Rattle.colours.specs.Colours.{Colours, colourToken, nextColour, coloursFrom, tableOf as colourTableOf, noColours, colours}
 use Rattle.walk.specs.declared.Aim.{Aim}
 use Rattle.walk.specs.declared.Aim.the-variants.{Nothing, Hide, Fonts as ReadFonts, Colours as ReadColours}

@@ -7,7 +7,7 @@ use lib.ListN.{length, getD, drop}
 use Rattle.answers.specs.declared.Refusal.{Refusal}
 use Rattle.answers.specs.Answers.{Found, found, refused}
 use Rattle.items.specs.Items.{part}
-use Rattle.fonts.specs.Fonts.{Font, fontWidth}
+use Rattle.rows.specs.Rows.{Font, fontWidth}
 use Rattle.styles.specs.declared.Reading.{Reading}
 use Rattle.pages.specs.Pages.{Piece, blocks, textOf}
 use Rattle.parser.specs.Parsing.{Sizes, Letter}

@@ -10,7 +10,8 @@ use Rattle.bytes.specs.Texts.{bytesOf}
 use Rattle.tokens.specs.declared.Property.the-variants.{None, Value}
 use Rattle.tokens.specs.Tokens.{Shown}
 use Rattle.tokens.specs.Tokens
-use Rattle.fonts.specs.Fonts.{Font, fontWords, tableWords, named, hasKey, inserted, stored, fontWord, fontToken, fontsFrom, fonts}
+use Rattle.rows.specs.Rows.{Font, fontWords, tableWords, hasKey, inserted, stored}
+use Rattle.fonts.specs.Fonts.{named, fontWord, fontToken, fontsFrom, fonts}
 
 -- `\f` and a number, and `\f` alone
 f : ℕ → Shown

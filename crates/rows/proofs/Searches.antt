@@ -1,5 +1,4 @@
 -- A key's rank among the records of a room.
---     limit-few, -many, -within  how many records a room holds
 --     half-start, -low, -high, -end   the search that halves
 --     stands-here, stands-apart  whether the record at a rank has the key, and what the others have
 -- Assumes nothing.
@@ -11,24 +10,7 @@ use native.Mathlib.Omega.{arith}
 use borrow.Author.Tests.{ltb-true, ltb-false, lt-ltb, le-ltb, eqb-true, eq-eqb}
 use lib.ListN.{length}
 use lib.Dec.{eqb, ltb}
-use Rattle.rooms.specs.Rooms.{tableLimit, capacity}
-use Rattle.fonts.specs.Rows.{keyAt, Ascends, Rank, stands}
-
-pub limit-few : (n : ℕ) → n / 3 < 256 → n / 3 ≡ tableLimit 3 n
-unfolding tableLimit
-limit-few n h = rw (lt-ltb (n / 3) 256 h)
-
-pub limit-many : (n : ℕ) → 256 ≤ n / 3 → 256 ≡ tableLimit 3 n
-unfolding tableLimit
-limit-many n h = rw (le-ltb (n / 3) 256 h)
-
-pub limit-within : (n : ℕ) → tableLimit 3 n * 3 ≤ n
-unfolding tableLimit
-limit-within n = go (ltb (capacity 3 n) 256) refl
-  where
-    go : (t : Bool) → ltb (n / 3) 256 ≡ t → cond t (n / 3) 256 * 3 ≤ n
-    go true e = omega arith
-    go false e = let h : 256 ≤ n / 3 = ltb-false (n / 3) 256 e in omega arith
+use Rattle.rows.specs.Rows.{keyAt, Ascends, Rank, stands}
 
 -- the records before `low` have smaller keys, those from `high` on do not
 pub record Half (room : List ℕ) (n key low high : ℕ) : Type 0 where

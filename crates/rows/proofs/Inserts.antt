@@ -18,12 +18,12 @@ use Rattle.answers.specs.declared.Why.the-variants.{FontRoom}
 use Rattle.answers.specs.declared.Refusal.{Refusal}
 use Rattle.answers.specs.declared.Outcome.the-variants.{Done, Refused}
 use Rattle.answers.specs.Answers.{refusal, found, refused}
-use Rattle.fonts.specs.declared.Font.{Font as Row}
-use Rattle.fonts.specs.Fonts.{Font, firstFont, fontWords, tableWords, hasKey, inserted, stored, tableOf, InFront, ReadFonts}
-use Rattle.fonts.specs.Rows.{row, rowWords, keyAt, Ascends, Rank, stands, shifted, StoredFont}
-use Rattle.fonts.proofs.Searches.{stands-here, stands-apart}
-use Rattle.fonts.proofs.Shifts.{over, between}
-use Rattle.fonts.proofs.Tables.{table-append, length-table, Ascending, keyOf, up-at}
+use Rattle.rows.specs.declared.Font.{Font as Row}
+use Rattle.rows.specs.Rows.{Font, firstFont, fontWords, tableWords, hasKey, inserted, stored, tableOf, InFront, ReadFonts}
+use Rattle.rows.specs.Rows.{row, rowWords, keyAt, Ascends, Rank, stands, shifted, StoredFont}
+use Rattle.rows.proofs.Searches.{stands-here, stands-apart}
+use Rattle.rows.proofs.Shifts.{over, between}
+use Rattle.rows.proofs.Tables.{table-append, length-table, Ascending, keyOf, up-at}
 
 -- what stands behind a table
 abbrev behind : List Font → List ℕ → List ℕ

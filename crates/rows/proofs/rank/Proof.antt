@@ -2,11 +2,11 @@
 -- what lies between.
 use Prim.Native.Nat.{_-_}
 use native.Mathlib.Omega.{arith}
-use Rattle.fonts.proofs.Searches.{Half, half-start, half-low, half-high, half-end}
-use Rattle.fonts.proofs.rank.Statement.{statement}
-use Rattle.fonts.proofs.rank.Tie as tie
-use Rattle.fonts.proofs.rank.Reads as reads
-use Rattle.fonts.proofs.rank.Lts as lts
+use Rattle.rows.proofs.Searches.{Half, half-start, half-low, half-high, half-end}
+use Rattle.rows.proofs.rank.Statement.{statement}
+use Rattle.rows.proofs.rank.Tie as tie
+use Rattle.rows.proofs.rank.Reads as reads
+use Rattle.rows.proofs.rank.Lts as lts
 
 abbrev Inv-loop : tie.InvT-loop
 Inv-loop room n key low₀ high₀ low high = Half room n key low high

@@ -3,10 +3,10 @@ use native.Mathlib.Numerals.{towards-suc}
 use native.Mathlib.Omega.{arith}
 use lib.ListN.{length-set}
 use borrow.Author.Needs.{needs}
-use Rattle.fonts.proofs.put.Statement.{statement}
-use Rattle.fonts.proofs.put.Tie as tie
-use Rattle.fonts.proofs.put.Reads as reads
-use Rattle.fonts.proofs.put.Lts as lts
+use Rattle.rows.proofs.put.Statement.{statement}
+use Rattle.rows.proofs.put.Tie as tie
+use Rattle.rows.proofs.put.Reads as reads
+use Rattle.rows.proofs.put.Lts as lts
 
 mul-room : tie.Need-mul-room
 mul-room c = search needs

@@ -1,15 +1,15 @@
 -- `store` meets its contract: the record of the key is written over; or there is none, and no room; or the later ones move on.
-use Rattle.fonts.proofs.Inserts.{store-over, store-full, store-new, over-fits}
+use Rattle.rows.proofs.Inserts.{store-over, store-full, store-new, over-fits}
 use borrow.Author.Needs.{needs}
-use Rattle.fonts.proofs.store.Statement.{statement}
-use Rattle.fonts.proofs.store.Tie as tie
-use Rattle.fonts.proofs.store.Reads as reads
-use Rattle.fonts.proofs.store.Lts as lts
+use Rattle.rows.proofs.store.Statement.{statement}
+use Rattle.rows.proofs.store.Tie as tie
+use Rattle.rows.proofs.store.Reads as reads
+use Rattle.rows.proofs.store.Lts as lts
 use Rattle.answers.proofs.Refusal.of.Reads as of-reads
-use Rattle.fonts.proofs.put.Reads as put-reads
-use Rattle.fonts.proofs.rank.Reads as rank-reads
-use Rattle.fonts.proofs.shift.Reads as shift-reads
-use Rattle.fonts.proofs.stands.Reads as stands-reads
+use Rattle.rows.proofs.put.Reads as put-reads
+use Rattle.rows.proofs.rank.Reads as rank-reads
+use Rattle.rows.proofs.shift.Reads as shift-reads
+use Rattle.rows.proofs.stands.Reads as stands-reads
 
 rank-requires : tie.Need-rank-requires
 rank-requires c κs = search needs

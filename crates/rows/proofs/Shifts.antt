@@ -10,7 +10,7 @@ use native.Mathlib.Omega.{arith}
 use lib.ListN.{length, getD, take, drop, set, take-append-drop, length-append, length-set, List·getD-append}
 use lib.Seq.{sets, sets-eq, length-take-le, take-suc, drop-cons, set-at, getD-take, drop-at}
 use lib.Seq.{take-append-seam, drop-append-seam, take-append-add, drop-append-add}
-use Rattle.fonts.specs.Rows.{shifted}
+use Rattle.rows.specs.Rows.{shifted}
 
 shift-none : (to : ℕ) (l : List ℕ) → shifted to to l ≡ l
 unfolding shifted

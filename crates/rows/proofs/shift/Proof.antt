@@ -1,11 +1,11 @@
 -- `shift` meets its contract. The invariant: the words from i on have moved. The measure is i.
 use borrow.Author.Needs.{needs}
 use native.Mathlib.Omega.{arith}
-use Rattle.fonts.proofs.Shifts.{Shifting, shift-start, shift-more, shift-end}
-use Rattle.fonts.proofs.shift.Statement.{statement}
-use Rattle.fonts.proofs.shift.Tie as tie
-use Rattle.fonts.proofs.shift.Reads as reads
-use Rattle.fonts.proofs.shift.Lts as lts
+use Rattle.rows.proofs.Shifts.{Shifting, shift-start, shift-more, shift-end}
+use Rattle.rows.proofs.shift.Statement.{statement}
+use Rattle.rows.proofs.shift.Tie as tie
+use Rattle.rows.proofs.shift.Reads as reads
+use Rattle.rows.proofs.shift.Lts as lts
 
 abbrev Inv-loop : tie.InvT-loop
 Inv-loop room₀ from to i₀ room i = Shifting room₀ from to room i

@@ -1,10 +1,10 @@
 -- `stands` meets its contract.
 use borrow.Author.Tests.{lt-ltb, le-ltb}
 use borrow.Author.Needs.{needs}
-use Rattle.fonts.proofs.stands.Statement.{statement}
-use Rattle.fonts.proofs.stands.Tie as tie
-use Rattle.fonts.proofs.stands.Reads as reads
-use Rattle.fonts.proofs.stands.Lts as lts
+use Rattle.rows.proofs.stands.Statement.{statement}
+use Rattle.rows.proofs.stands.Tie as tie
+use Rattle.rows.proofs.stands.Reads as reads
+use Rattle.rows.proofs.stands.Lts as lts
 
 mul-at : tie.Need-mul-at
 mul-at c = search needs
