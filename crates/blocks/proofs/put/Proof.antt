@@ -2,12 +2,12 @@
 use native.Mathlib.Omega.{arith}
 use lib.ListN.{length-set}
 use Rattle.rooms.proofs.Rooms.{put-out}
-use Rattle.pages.proofs.Writing.{put-thirteen}
+use Rattle.blocks.proofs.Writing.{put-thirteen}
 use borrow.Author.Needs.{needs}
-use Rattle.pages.proofs.put.Statement.{statement}
-use Rattle.pages.proofs.put.Tie as tie
-use Rattle.pages.proofs.put.Reads as reads
-use Rattle.pages.proofs.put.Lts as lts
+use Rattle.blocks.proofs.put.Statement.{statement}
+use Rattle.blocks.proofs.put.Tie as tie
+use Rattle.blocks.proofs.put.Reads as reads
+use Rattle.blocks.proofs.put.Lts as lts
 
 mul-at : tie.Need-mul-at
 mul-at c = search needs
