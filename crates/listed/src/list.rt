@@ -4,7 +4,7 @@
 ghost use mathlib.Core.Path.{_≡_};
 ghost use Prim.Native.Nat.{_<_, _^_};
 ghost use lib.ListN.{length, getD};
-ghost use Rattle.replay.specs.Listed.{wordAt, FrontWhole};
+ghost use Rattle.listed.specs.Listed.{wordAt, FrontWhole};
 
 // The words before the letter.
 pub const HEAD_BYTES: usize = 16;
