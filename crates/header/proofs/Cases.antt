@@ -13,7 +13,8 @@ use Rattle.rows.specs.Rows.{Font, hasKey, inserted, stored}
 use Rattle.fonts.specs.Fonts.{named, fontWord, fontToken, fontsFrom, fonts}
 use Rattle.colours.specs.Colours.{colours, coloursFrom, colourToken, colourWordOf}
 use Rattle.walk.specs.Walk.{aimFrom, extent, walkFrom, walk}
-use Rattle.header.specs.Header.{Tables, noTables, tablesFrom, tables}
+use Rattle.entering.specs.Entering.{Tables}
+use Rattle.header.specs.Header.{noTables, tablesFrom, tables}
 
 abbrev begin : Shown
 begin = Shown.opening

@@ -36,7 +36,8 @@ use Rattle.rows.specs.Rows.{tableWords, InFront}
 use Rattle.rows.proofs.Tables.{length-table}
 use Rattle.header.specs.declared.Header.{Header}
 use Rattle.header.specs.declared.Header.the-variants.{Read as Headed, Refused as Unheaded}
-use Rattle.header.specs.Header.{Tables, tables, ReadHeader}
+use Rattle.entering.specs.Entering.{Tables}
+use Rattle.header.specs.Header.{tables, ReadHeader}
 use Rattle.parser.specs.declared.Answer.{Answer}
 use Rattle.parser.specs.declared.Answer.the-variants.{Read, Refuses}
 use Rattle.parser.specs.Parsing.{Sizes, Letter, begun, ended, placed, bodied, headed, walked}

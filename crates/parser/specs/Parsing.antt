@@ -12,7 +12,8 @@ use Rattle.rooms.specs.Rooms.{tableLimit, capacity}
 use Rattle.tokens.specs.Tokens.{Shown}
 use Rattle.tokens.specs.Tokens
 use Rattle.walk.specs.Walk.{walk}
-use Rattle.header.specs.Header.{Tables, tables}
+use Rattle.entering.specs.Entering.{Tables}
+use Rattle.header.specs.Header.{tables}
 use Rattle.styles.specs.declared.Reading.{Reading}
 use Rattle.pages.specs.Pages.{Piece, blockWords, textCapacity, none, roomy}
 use Rattle.body.specs.Body.{body}

@@ -19,7 +19,8 @@ use Rattle.tokens.specs.Tokens.{Shown, Token}
 use Rattle.tokens.specs.Tokens
 use Rattle.cutter.specs.Cutting.{tokenStream, cutAnswer}
 use Rattle.walk.specs.Walk.{walk}
-use Rattle.header.specs.Header.{Tables, tables}
+use Rattle.entering.specs.Entering.{Tables}
+use Rattle.header.specs.Header.{tables}
 use Rattle.styles.specs.declared.Reading.{Reading}
 use Rattle.pages.specs.Pages.{Piece, none, blocks, textOf, records, blockWords, textCapacity, roomy}
 use Rattle.pages.proofs.Blocks.{text-blocks, length-records}

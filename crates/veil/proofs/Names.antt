@@ -35,7 +35,8 @@ use Rattle.colours.specs.Colours.{colours}
 use Rattle.walk.specs.declared.Aim.{Aim}
 use Rattle.walk.specs.declared.Aim.the-variants.{Nothing, Hide, Fonts as ReadFonts, Colours as ReadColours}
 use Rattle.walk.specs.Walk.{aim, extent, Step, kept, hidden, fontTable, colourTable, entered, stepOf, passedBy, walkFrom, walk}
-use Rattle.header.specs.Header.{Tables, noTables, withFonts, withColours, readStep, nextStep, tablesFrom, tables}
+use Rattle.entering.specs.Entering.{Tables, withFonts, withColours, readStep}
+use Rattle.header.specs.Header.{noTables, nextStep, tablesFrom, tables}
 use Rattle.styles.specs.declared.Reading.{Reading}
 use Rattle.pages.specs.Pages.{Piece}
 use Rattle.parser.specs.Parsing.{Letter, ended}

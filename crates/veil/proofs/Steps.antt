@@ -28,7 +28,8 @@ use Rattle.colours.specs.Colours.{Colours, colourToken, nextColour, coloursFrom
 use Rattle.walk.specs.declared.Aim.{Aim}
 use Rattle.walk.specs.declared.Aim.the-variants.{Nothing, Hide, Fonts as ReadFonts, Colours as ReadColours}
 use Rattle.walk.specs.Walk.{aim, Step, kept, hidden, fontTable, colourTable, entered, passedBy, walkFrom, walk}
-use Rattle.header.specs.Header.{Tables, noTables, withFonts, withColours, readStep, nextStep, tablesFrom, tables}
+use Rattle.entering.specs.Entering.{Tables, withFonts, withColours, readStep}
+use Rattle.header.specs.Header.{noTables, nextStep, tablesFrom, tables}
 use Rattle.styles.specs.declared.State.{State}
 use Rattle.styles.specs.declared.Reading.{Reading}
 use Rattle.styles.specs.Styles.{fresh}

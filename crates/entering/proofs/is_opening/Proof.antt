@@ -1,10 +1,10 @@
 -- `is_opening` meets its contract: kind 1 is the opening bracket.
-use Rattle.header.proofs.Entering.{opens-yes, opens-no}
+use Rattle.entering.proofs.Entering.{opens-yes, opens-no}
 use borrow.Author.Needs.{needs}
-use Rattle.header.proofs.is_opening.Statement.{statement}
-use Rattle.header.proofs.is_opening.Tie as tie
-use Rattle.header.proofs.is_opening.Reads as reads
-use Rattle.header.proofs.is_opening.Lts as lts
+use Rattle.entering.proofs.is_opening.Statement.{statement}
+use Rattle.entering.proofs.is_opening.Tie as tie
+use Rattle.entering.proofs.is_opening.Reads as reads
+use Rattle.entering.proofs.is_opening.Lts as lts
 
 shared-slice-read-kind : tie.Need-shared-slice-read-kind
 shared-slice-read-kind c = search needs

@@ -29,10 +29,10 @@ use Rattle.colours.specs.Colours.{colours, ReadColours}
 use Rattle.walk.specs.declared.Aim.{Aim}
 use Rattle.walk.specs.declared.Aim.the-variants.{Nothing, Hide, Fonts, Colours}
 use Rattle.walk.specs.Walk.{aim, extent, group, fontTable, colourTable}
-use Rattle.header.specs.declared.Entered.{Entered}
-use Rattle.header.specs.declared.Entered.the-variants.{On, Bad}
-use Rattle.header.specs.Header.{Tables, withFonts, withColours, readStep}
-use Rattle.header.specs.Entering.{opens, Holds, passed, FontsMet, ColoursMet, Met, Enters}
+use Rattle.entering.specs.declared.Entered.{Entered}
+use Rattle.entering.specs.declared.Entered.the-variants.{On, Bad}
+use Rattle.entering.specs.Entering.{Tables, withFonts, withColours, readStep}
+use Rattle.entering.specs.Entering.{opens, Holds, passed, FontsMet, ColoursMet, Met, Enters}
 
 module _ (ws : List ℕ) where
   pub opens-yes : getD ws 0 0 ≡ 1 → true ≡ opens (itemAt ws)

@@ -1,5 +1,5 @@
--- An opening bracket, as the code meets it: what its group makes of two rooms that hold tables. Assumes nothing: these are
--- definitions.
+-- What a step of the walk makes of the tables so far (01, Header walk), and an opening bracket, as the code meets it: what its
+-- group makes of two rooms that hold tables. Assumes nothing: these are definitions.
 use Prim.Native.Nat.{ℕ}
 use mathlib.Core.Path.{_≡_}
 use mathlib.Core.List.{List}
@@ -11,10 +11,34 @@ use Rattle.tokens.specs.Tokens.{Shown}
 use Rattle.items.specs.declared.Item.{Item}
 use Rattle.items.specs.declared.Item.the-variants.{Text, Opening, Closing, LineBreak, Ignorable, Word, Unknown}
 use Rattle.rows.specs.Rows.{Font, tableWords, InFront}
-use Rattle.walk.specs.Walk.{aim, entered, enteredLength}
-use Rattle.header.specs.declared.Entered.{Entered}
-use Rattle.header.specs.declared.Entered.the-variants.{On, Bad}
-use Rattle.header.specs.Header.{Tables, readStep}
+use Rattle.fonts.specs.Fonts.{fonts}
+use Rattle.colours.specs.Colours.{colours}
+use Rattle.walk.specs.Walk.{Step, kept, hidden, fontTable, colourTable, aim, entered, enteredLength}
+use Rattle.entering.specs.declared.Entered.{Entered}
+use Rattle.entering.specs.declared.Entered.the-variants.{On, Bad}
+
+pub record Tables : Type 0 where
+  pub fonts : List Font
+  pub colours : List ℕ
+
+-- "A later table replaces an earlier one."
+abbrev pub withFonts : Tables → Found (List Font) → Found Tables
+withFonts s (found fs) = found (record { fonts = fs; colours = s .colours })
+withFonts s (refused r) = refused r
+
+abbrev pub withColours : Tables → Found (List ℕ) → Found Tables
+withColours s (found cs) = found (record { fonts = s .fonts; colours = cs })
+withColours s (refused r) = refused r
+
+-- a step of the walk, where the rooms hold so many fonts and colours; 10: "line breaks stand between a bracket and `\fonttbl`
+-- or `\colortbl`"
+abbrev pub readStep : ℕ → ℕ → Step → Tables → Found Tables
+readStep f c (kept t) s = found s
+readStep f c hidden s = found s
+readStep f c (fontTable true ts) s = refused (refusal TableLineBreak)
+readStep f c (fontTable false ts) s = withFonts s (fonts f ts)
+readStep f c (colourTable true ts) s = refused (refusal TableLineBreak)
+readStep f c (colourTable false ts) s = withColours s (colours c ts)
 
 abbrev pub opens : Item → Bool
 opens Opening = true

@@ -1,12 +1,12 @@
 -- `enter` meets its contract, by what the bracket begins.
-use Rattle.header.proofs.Entering.{enter-nothing, enter-hide, enter-fonts, enter-colours}
+use Rattle.entering.proofs.Entering.{enter-nothing, enter-hide, enter-fonts, enter-colours}
 use borrow.Author.Needs.{needs}
-use Rattle.header.proofs.enter.Statement.{statement}
-use Rattle.header.proofs.enter.Tie as tie
-use Rattle.header.proofs.enter.Reads as reads
-use Rattle.header.proofs.enter.Lts as lts
-use Rattle.header.proofs.colour_table.Reads as colour-table-reads
-use Rattle.header.proofs.font_table.Reads as font-table-reads
+use Rattle.entering.proofs.enter.Statement.{statement}
+use Rattle.entering.proofs.enter.Tie as tie
+use Rattle.entering.proofs.enter.Reads as reads
+use Rattle.entering.proofs.enter.Lts as lts
+use Rattle.entering.proofs.colour_table.Reads as colour-table-reads
+use Rattle.entering.proofs.font_table.Reads as font-table-reads
 use Rattle.walk.proofs.aim_of.Reads as aim-of-reads
 use Rattle.walk.proofs.extent.Reads as extent-reads
 

@@ -1,12 +1,12 @@
 -- `font_table` meets its contract: refused by 10, or as the group's tokens are read.
 use native.Mathlib.Omega.{arith}
 use lib.ListN.{length-take}
-use Rattle.header.proofs.Entering.{late-fonts, fonts-read, fonts-bad}
+use Rattle.entering.proofs.Entering.{late-fonts, fonts-read, fonts-bad}
 use borrow.Author.Needs.{needs}
-use Rattle.header.proofs.font_table.Statement.{statement}
-use Rattle.header.proofs.font_table.Tie as tie
-use Rattle.header.proofs.font_table.Reads as reads
-use Rattle.header.proofs.font_table.Lts as lts
+use Rattle.entering.proofs.font_table.Statement.{statement}
+use Rattle.entering.proofs.font_table.Tie as tie
+use Rattle.entering.proofs.font_table.Reads as reads
+use Rattle.entering.proofs.font_table.Lts as lts
 use Rattle.answers.proofs.Refusal.of.Reads as of-reads
 use Rattle.fonts.proofs.read_fonts.Reads as read-fonts-reads
 use Rattle.walk.proofs.extent.Reads as extent-reads

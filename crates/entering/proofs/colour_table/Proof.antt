@@ -1,12 +1,12 @@
 -- `colour_table` meets its contract: refused by 10, or as the group's tokens are read.
 use native.Mathlib.Omega.{arith}
 use lib.ListN.{length-take}
-use Rattle.header.proofs.Entering.{late-colours, colours-read, colours-bad}
+use Rattle.entering.proofs.Entering.{late-colours, colours-read, colours-bad}
 use borrow.Author.Needs.{needs}
-use Rattle.header.proofs.colour_table.Statement.{statement}
-use Rattle.header.proofs.colour_table.Tie as tie
-use Rattle.header.proofs.colour_table.Reads as reads
-use Rattle.header.proofs.colour_table.Lts as lts
+use Rattle.entering.proofs.colour_table.Statement.{statement}
+use Rattle.entering.proofs.colour_table.Tie as tie
+use Rattle.entering.proofs.colour_table.Reads as reads
+use Rattle.entering.proofs.colour_table.Lts as lts
 use Rattle.answers.proofs.Refusal.of.Reads as of-reads
 use Rattle.colours.proofs.read_colours.Reads as read-colours-reads
 use Rattle.walk.proofs.extent.Reads as extent-reads
