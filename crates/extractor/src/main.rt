@@ -1,9 +1,9 @@
 // The extractor (01, Sample letters): the letter comes by standard input, its listing goes to standard output. A read that fails
 // counts as the letter's end.
+use extraction::PAGE_BYTES;
+use extraction::extract;
 use libc::STDIN_FILENO;
 use libc::STDOUT_FILENO;
-use show::PAGE_BYTES;
-use show::extract;
 
 // The longest letter that is taken, and a byte more, so that a longer one is seen to be longer.
 const LETTER_BYTES: usize = 8193;

@@ -1,8 +1,5 @@
--- Laws. Tables, for the crates above: of the font table that tokens give. Searches: a key's rank among the records. Shifts: records
--- that move on. Inserts: the store of a font. Steps: a token's effect, and the loop over tokens. Cases: telling token lists.
+-- Laws. Tables, for the crates above: of the font table that tokens give. Limits: how many records a room holds. Steps: a token's
+-- effect, and the loop over tokens.
 pub mod Tables
-mod Searches
-mod Shifts
-mod Inserts
+mod Limits
 mod Steps
-mod Cases

@@ -16,7 +16,7 @@ use Rattle.tokens.specs.declared.Property.the-variants.{None, Value}
 use Rattle.items.specs.declared.Item.{Item}
 use Rattle.items.specs.declared.Item.the-variants.{Text, Opening, Closing, LineBreak, Ignorable, Word, Unknown}
 use Rattle.items.specs.Items.{part}
-use Rattle.fonts.specs.declared.Font.{Font as Row}
+use Rattle.rows.specs.declared.Font.{Font as Row}
 use Rattle.fonts.specs.declared.Effect.{Effect}
 use Rattle.fonts.specs.declared.Effect.the-variants.{Set, Store, Unnumbered}
 

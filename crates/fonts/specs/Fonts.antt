@@ -1,13 +1,10 @@
 -- 01, Header walk, "Fonts": the font table that a group's tokens give, or a refusal. Assumes nothing: these are definitions.
 use Prim.Native.Nat.{ℕ, _%_}
-use mathlib.Core.Path.{_≡_}
-use mathlib.Core.List.{List, [], _∷_, _++_}
-use mathlib.Core.Bool.{Bool, true, false, cond, _||_}
-use lib.ListN.{length, take}
-use lib.Dec.{eqb, ltb}
-use Rattle.answers.specs.declared.Why.the-variants.{FontNumber, FontRoom}
-use Rattle.answers.specs.declared.Outcome.{Outcome}
-use Rattle.answers.specs.declared.Outcome.the-variants.{Done, Refused}
+use mathlib.Core.List.{List, [], _∷_}
+use mathlib.Core.Bool.{cond}
+use lib.ListN.{take}
+use lib.Dec.{eqb}
+use Rattle.answers.specs.declared.Why.the-variants.{FontNumber}
 use Rattle.answers.specs.Answers.{refusal, Found, found, refused}
 use Rattle.bytes.specs.declared.Class.the-variants.{Semicolon}
 use Rattle.bytes.specs.Bytes.{inClass, body}
@@ -15,28 +12,7 @@ use Rattle.tokens.specs.declared.Property.{Property}
 use Rattle.tokens.specs.declared.Property.the-variants.{None, Value}
 use Rattle.tokens.specs.Tokens.{Shown}
 use Rattle.tokens.specs.Tokens
-
--- a font: its key, its name, and the source place of that
-pub record Font : Type 0 where
-  pub key : ℕ
-  pub place : ℕ
-  pub name : List ℕ
-
--- "key 0, empty name"
-abbrev pub firstFont : Font
-firstFont = record { key = 0; place = 0; name = [] }
-
--- "Record: key, name place, name length (place 0 if empty)"
-abbrev pub fontWidth : ℕ
-fontWidth = 3
-
-unfoldable pub fontWords : Font → List ℕ
-fontWords f = f .key ∷ f .place ∷ length (f .name) ∷ []
-
--- the records of a table
-unfoldable pub tableWords : List Font → List ℕ
-tableWords [] = []
-tableWords (f ∷ fs) = fontWords f ++ tableWords fs
+use Rattle.rows.specs.Rows.{Font, Fonts, noFonts, stored, tableOf}
 
 -- "Text replaces the name, ending `;`s dropped.", "place 0 if empty"
 unfoldable pub named : Font → ℕ → List ℕ → Font
@@ -47,33 +23,6 @@ named f p bs =
 -- "then the key is the number modulo 65,536": a negative number stands as itself and 2^32, which leaves the same remainder
 abbrev pub keyed : Font → ℕ → Font
 keyed f v = record { key = v % 65536; place = f .place; name = f .name }
-
--- whether a table has a key
-unfoldable pub hasKey : ℕ → List Font → Bool
-hasKey k [] = false
-hasKey k (g ∷ gs) = eqb (g .key) k || hasKey k gs
-
--- the font in its place, "ascending by key"; a font of the same key goes
-unfoldable pub inserted : Font → List Font → List Font
-inserted f [] = f ∷ []
-inserted f (g ∷ gs) =
-    let more = inserted f gs in
-    cond (ltb (g .key) (f .key)) (g ∷ more) (cond (eqb (g .key) (f .key)) (f ∷ gs) (f ∷ g ∷ gs))
-
--- the table so far, and the current font
-pub record Fonts : Type 0 where
-  pub table : List Font
-  pub font : Font
-
-abbrev pub noFonts : Fonts
-noFonts = record { table = []; font = firstFont }
-
--- "store the current font under its key"; 17: "a new font key .. beyond 256 or the lent room"
-unfoldable pub stored : ℕ → Fonts → Found Fonts
-stored limit s =
-    cond (hasKey (s .font .key) (s .table) || ltb (length (s .table)) limit)
-    (found (record { table = inserted (s .font) (s .table); font = s .font }))
-    (refused (refusal FontRoom))
 
 -- "At `\f` store .., then the key is the number"; 11: "`\f` without a number". The store comes first, as in the crate, and so
 -- does its refusal
@@ -105,19 +54,6 @@ unfoldable pub fontsFrom : ℕ → Found Fonts → List Shown → Found Fonts
 fontsFrom limit acc [] = acc
 fontsFrom limit acc (t ∷ ts) = fontsFrom limit (nextFont limit acc t) ts
 
-abbrev pub tableOf : Found Fonts → Found (List Font)
-tableOf (found s) = found (s .table)
-tableOf (refused r) = refused r
-
 -- the table of a group's tokens
 unfoldable pub fonts : ℕ → List Shown → Found (List Font)
 fonts limit ts = tableOf (fontsFrom limit (found noFonts) ts)
-
--- the records are the front of the room
-abbrev pub InFront : List ℕ → List ℕ → Type 0
-InFront ws room = take (length ws) room ≡ ws
-
--- what a function that reads a font table answers, and what it leaves in the room
-abbrev pub ReadFonts : Found (List Font) → Outcome → List ℕ → Type 0
-ReadFonts (found fs) r room = (r ≡ Done (length fs)) × InFront (tableWords fs) room
-ReadFonts (refused q) r room = r ≡ Refused q

@@ -1,5 +1,3 @@
--- Fonts: the table of fonts that a group's tokens give. Rows: a table as words in a room. Effects: what a token does to the
--- current font.
+-- Fonts: the table of fonts that a group's tokens give. Effects: what a token does to the current font.
 pub mod Fonts
-pub mod Rows
 pub mod Effects

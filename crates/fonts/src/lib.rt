@@ -1,12 +1,9 @@
 // The font table (01, Header walk, "Fonts"; `Parser::parse_font_table` in the crate): a group's tokens become records of three
 // words in a lent room, ascending by key.
 //
-//   Font        the current font: key, place and length of its name
 //   Effect      what a token does: a new current font; the current one stored first; stored, and then no number
 //   key_of      a number as a key
 //   step        a token's effect
-//   rank        where a key stands, or would stand, among the records
-//   store       puts the current font in its place
 //   read_fonts  the whole table
 use answers::Outcome;
 use answers::Refusal;
@@ -16,25 +13,19 @@ use bytes::body_of;
 use items::Item;
 use items::item_at;
 use items::part;
+use rows::Font;
+use rows::store;
 use tokens::Property;
 ghost use mathlib.Core.Path.{_≡_};
-ghost use mathlib.Core.List.{List};
-ghost use Prim.Native.Nat.{ℕ, _+_, _*_, _%_, _≤_};
+ghost use Prim.Native.Nat.{_*_, _%_, _≤_};
 ghost use lib.ListN.{length};
-ghost use lib.Seq.{sets};
 ghost use Rattle.bytes.specs.declared.Class.the-variants.{Semicolon};
 ghost use Rattle.bytes.specs.Bytes.{inClass, body};
 ghost use Rattle.items.specs.Items.{part as partOf, shownAll};
 ghost use Rattle.rooms.specs.Rooms.{tableLimit};
-ghost use Rattle.fonts.specs.Fonts.{Font as Named, fonts as fontsOf, ReadFonts};
-ghost use Rattle.fonts.specs.Rows.{rowWords, Ascends, Rank, stands as standsOf, shifted, StoredFont};
+ghost use Rattle.rows.specs.Rows.{ReadFonts};
+ghost use Rattle.fonts.specs.Fonts.{fonts as fontsOf};
 ghost use Rattle.fonts.specs.Effects.{namedRow, numbered as numberedOf, wordEffect, effectOf, unnumbered as unnumberedOf};
-
-pub struct Font {
-    pub key: u32,
-    pub place: u32,
-    pub length: u32,
-}
 
 pub enum Effect {
     Set(Font),
@@ -135,86 +126,6 @@ fn step(source: &[u8], i: Item, f: Font) -> Effect
         Item::Ignorable => Effect::Set(f),
         Item::Unknown(_, _, _) => Effect::Set(f),
     }
-}
-
-// How many of the first n records have a smaller key: the records ascend, so the search halves them.
-fn rank(room: &[u32], n: usize, key: u32) -> usize
-    requires { ⌜ (n * 3 ≤ length (now room)) × (n ≤ 256) × Ascends n (now room) ⌝ }
-    ensures { λ r. ⌜ Rank n (now (room .entry)) key r ⌝ }
-{
-    let mut low: usize = 0;
-    let mut high = n;
-    while low < high {
-        let half = (high - low) / 2;
-        let middle = low + half;
-        let at = middle * 3;
-        let k = room[at];
-        if k < key {
-            low = middle + 1;
-        } else {
-            high = middle;
-        }
-    }
-    low
-}
-
-// Whether the record at a rank has the key.
-fn stands(room: &[u32], n: usize, r: usize, key: u32) -> bool
-    requires { ⌜ (n * 3 ≤ length (now room)) × (n ≤ 256) ⌝ }
-    ensures { λ b. ⌜ b ≡ standsOf n (now (room .entry)) r key ⌝ }
-{
-    if r < n {
-        let at = r * 3;
-        let k = room[at];
-        return k == key;
-    }
-    false
-}
-
-// Moves the words between two places on by one record, the last one first.
-fn shift(room: &mut [u32], from: usize, to: usize)
-    requires { ⌜ (from ≤ to) × (to + 3 ≤ length (now room)) ⌝ }
-    ensures { λ _. ⌜ now (room .exit) ≡ shifted from to (now (room .entry)) ⌝ }
-{
-    let mut i = to;
-    while from < i {
-        i -= 1;
-        let w = room[i];
-        let next = i + 3;
-        room[next] = w;
-    }
-}
-
-// Writes a font's record.
-fn put(room: &mut [u32], at: usize, f: Font)
-    requires { ⌜ at + 3 ≤ length (now room) ⌝ }
-    ensures { λ _. ⌜ now (room .exit) ≡ sets (now (room .entry)) at (rowWords f) ⌝ }
-{
-    room[at] = f.key;
-    room[at + 1] = f.place;
-    room[at + 2] = f.length;
-}
-
-// Puts the current font among the n records of a table: over the record of the same key, or in its place, where the later ones
-// move on by one; 17 if that would be a record too many. The answer is how many records there are then.
-fn store(room: &mut [u32], n: usize, f: Font, limit: usize) -> Outcome
-    requires { ⌜ (n ≤ limit) × (limit ≤ 256) × (limit * 3 ≤ length (now room)) × Ascends n (now room) ⌝ }
-    ensures { λ r. ⌜ ((fs : List Named) (g : Named) → StoredFont limit n f fs g (now (room .entry)) r (now (room .exit))) ⌝ }
-{
-    let key = f.key;
-    let r = rank(room, n, key);
-    let at = r * 3;
-    if stands(room, n, r, key) {
-        put(room, at, f);
-        return Outcome::Done(n);
-    }
-    if limit <= n {
-        return Outcome::Refused(Refusal::of(Why::FontRoom));
-    }
-    let end = n * 3;
-    shift(room, at, end);
-    put(room, at, f);
-    Outcome::Done(n + 1)
 }
 
 // What `\f` without a number answers, after the store: the store's refusal comes first.

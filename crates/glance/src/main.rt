@@ -5,7 +5,7 @@ use io::write_all;
 use libc::STDERR_FILENO;
 use libc::STDIN_FILENO;
 use libc::STDOUT_FILENO;
-use reader::Answer;
+use parser::Answer;
 use reader::read;
 use styles::Reading;
 

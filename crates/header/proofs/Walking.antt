@@ -17,14 +17,15 @@ use Rattle.items.specs.declared.Item.{Item}
 use Rattle.items.specs.declared.Item.the-variants.{Text, Opening, Closing, LineBreak, Ignorable, Word, Unknown}
 use Rattle.items.specs.Items.{itemAt, shownOf, shownAll}
 use Rattle.items.proofs.Items.{rest, words-less, shown-none, shown-some, shown-drop}
-use Rattle.fonts.specs.Fonts.{tableWords}
+use Rattle.rows.specs.Rows.{tableWords}
 use Rattle.walk.specs.Walk.{aim, entered, enteredLength, stepOf, passedBy, walk}
 use Rattle.walk.proofs.Walk.{walk-end, walk-one}
 use Rattle.header.specs.declared.Header.the-variants.{Read, Refused}
-use Rattle.header.specs.declared.Entered.{Entered}
-use Rattle.header.specs.declared.Entered.the-variants.{On, Bad}
-use Rattle.header.specs.Header.{Tables, noTables, readStep, tablesFrom, tables, ReadHeader}
-use Rattle.header.specs.Entering.{opens, Holds, passed, Met, Enters}
+use Rattle.entering.specs.declared.Entered.{Entered}
+use Rattle.entering.specs.declared.Entered.the-variants.{On, Bad}
+use Rattle.entering.specs.Entering.{Tables, readStep}
+use Rattle.header.specs.Header.{noTables, tablesFrom, tables, ReadHeader}
+use Rattle.entering.specs.Entering.{opens, Holds, passed, Met, Enters}
 use Rattle.header.proofs.Tables.{tables-refused}
 
 -- what the whole letter gives

@@ -2,41 +2,16 @@
 use Prim.Native.Nat.{ℕ}
 use mathlib.Core.Path.{_≡_}
 use mathlib.Core.List.{List, [], _∷_}
-use mathlib.Core.Bool.{true, false}
 use lib.ListN.{length, take}
-use Rattle.answers.specs.declared.Why.the-variants.{TableLineBreak}
-use Rattle.answers.specs.Answers.{refusal, Found, found, refused}
-use Rattle.fonts.specs.Fonts.{Font, fonts, tableWords, InFront}
-use Rattle.colours.specs.Colours.{colours}
-use Rattle.walk.specs.Walk.{Step, kept, hidden, fontTable, colourTable}
+use Rattle.answers.specs.Answers.{Found, found, refused}
+use Rattle.rows.specs.Rows.{tableWords, InFront}
+use Rattle.walk.specs.Walk.{Step}
+use Rattle.entering.specs.Entering.{Tables, readStep}
 use Rattle.header.specs.declared.Header.{Header}
 use Rattle.header.specs.declared.Header.the-variants.{Read, Refused}
 
-pub record Tables : Type 0 where
-  pub fonts : List Font
-  pub colours : List ℕ
-
 abbrev pub noTables : Tables
 noTables = record { fonts = []; colours = [] }
-
--- "A later table replaces an earlier one."
-abbrev pub withFonts : Tables → Found (List Font) → Found Tables
-withFonts s (found fs) = found (record { fonts = fs; colours = s .colours })
-withFonts s (refused r) = refused r
-
-abbrev pub withColours : Tables → Found (List ℕ) → Found Tables
-withColours s (found cs) = found (record { fonts = s .fonts; colours = cs })
-withColours s (refused r) = refused r
-
--- a step of the walk, where the rooms hold so many fonts and colours; 10: "line breaks stand between a bracket and `\fonttbl`
--- or `\colortbl`"
-abbrev pub readStep : ℕ → ℕ → Step → Tables → Found Tables
-readStep f c (kept t) s = found s
-readStep f c hidden s = found s
-readStep f c (fontTable true ts) s = refused (refusal TableLineBreak)
-readStep f c (fontTable false ts) s = withFonts s (fonts f ts)
-readStep f c (colourTable true ts) s = refused (refusal TableLineBreak)
-readStep f c (colourTable false ts) s = withColours s (colours c ts)
 
 abbrev pub nextStep : ℕ → ℕ → Found Tables → Step → Found Tables
 nextStep f c (found s) x = readStep f c x s

@@ -1,3 +1,2 @@
--- Header: the tables that the walk reads. Entering: a group, as the code meets it.
+-- Header: the tables that the walk's steps give.
 pub mod Header
-pub mod Entering

@@ -7,20 +7,24 @@
 //
 // Every function is total, and says what the crate below says.
 use checks::check;
-use reader::Answer;
 use reader::read;
 use stored::read_list;
 use storing::write_list;
 use styles::Reading;
+use told::ReadAnswer;
+use told::StoredAnswer;
+use told::answer_of;
+use told::stored_of;
 ghost use mathlib.Core.Path.{_≡_};
 ghost use lib.ListN.{length};
 ghost use Rattle.answers.specs.Answers.{outcomeNumber, outcomeCount};
 ghost use Rattle.cutter.specs.Cutting.{cutAnswer, cutRoom};
-ghost use Rattle.reader.specs.Reading.{sizes, readAnswer, tokenRoom, fontRoom, colourRoom, blockRoom, textRoom};
+ghost use Rattle.parser.specs.Parsing.{sizes};
+ghost use Rattle.reader.specs.Reading.{readAnswer, tokenRoom, fontRoom, colourRoom, blockRoom, textRoom};
 ghost use Rattle.checks.specs.Checks.{checked};
 ghost use Rattle.stored.specs.Stored.{storedAnswer, storedBlocks, storedText};
 ghost use Rattle.storing.specs.Storing.{writeAnswer, writeRoom};
-ghost use Rattle.host.specs.Hosts.{narrowed, answerOf, storedOf};
+ghost use Rattle.told.specs.Told.{answerOf, storedOf};
 
 // The answer's number, 0 or a refusal's, and how many tokens stand in the room.
 #[repr(C)]
@@ -41,60 +45,6 @@ pub extern "C" fn elduvarn_cut(source: &[u8], tokens: &mut [u32]) -> CutAnswer
     CutAnswer {
         refusal: refusal,
         tokens: count,
-    }
-}
-
-// The answer's number, 0 or a refusal's; how many tokens, fonts, colours, blocks and text bytes stand in the rooms.
-#[repr(C)]
-pub struct ReadAnswer {
-    pub refusal: u32,
-    pub tokens: u32,
-    pub fonts: u32,
-    pub colours: u32,
-    pub blocks: u32,
-    pub text: u32,
-}
-
-// A count as 32 bits; the largest number for a count that does not fit.
-fn narrow(count: usize) -> u32
-    ensures { λ r. ⌜ r ≡ narrowed count ⌝ }
-{
-    if count < 4294967296 {
-        return count as u32;
-    }
-    4294967295
-}
-
-fn answer_of(answer: Answer) -> ReadAnswer
-    ensures { λ r. ⌜ r ≡ answerOf answer ⌝ }
-{
-    match answer {
-        Answer::Read(counts) => {
-            let tokens = narrow(counts.tokens);
-            let fonts = narrow(counts.fonts);
-            let colours = narrow(counts.colours);
-            let blocks = narrow(counts.blocks);
-            let text = narrow(counts.text);
-            ReadAnswer {
-                refusal: 0,
-                tokens: tokens,
-                fonts: fonts,
-                colours: colours,
-                blocks: blocks,
-                text: text,
-            }
-        }
-        Answer::Refuses(why) => {
-            let refusal = why.number();
-            ReadAnswer {
-                refusal: refusal,
-                tokens: 0,
-                fonts: 0,
-                colours: 0,
-                blocks: 0,
-                text: 0,
-            }
-        }
     }
 }
 
@@ -146,14 +96,6 @@ pub extern "C" fn elduvarn_read_paragraphs(
     answer_of(answer)
 }
 
-// The answer's number; how many blocks and text bytes stand in the rooms.
-#[repr(C)]
-pub struct StoredAnswer {
-    pub refusal: u32,
-    pub blocks: usize,
-    pub text: usize,
-}
-
 // The answer's number; how many bytes stand in the room.
 #[repr(C)]
 pub struct WriteAnswer {
@@ -181,13 +123,7 @@ pub extern "C" fn elduvarn_stored_read(
     ensures text_room { λ _. ⌜ now (text .exit) ≡ storedText (length (now (blocks .entry))) (length (now (text .entry))) (now (list .entry)) ⌝ }
 {
     let answer = read_list(list, blocks, text);
-    let refusal = answer.number();
-    let counts = answer.counts();
-    StoredAnswer {
-        refusal: refusal,
-        blocks: counts.blocks,
-        text: counts.text,
-    }
+    stored_of(answer)
 }
 
 #[no_mangle]

@@ -1,3 +1,2 @@
--- Fronts: what is known of a letter that was found. Same: when two runs of bytes are the same.
+-- Fronts: what is known of a letter that was found.
 mod Fronts
-mod Same

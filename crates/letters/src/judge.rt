@@ -2,32 +2,11 @@
 use crate::list::LENGTH_BYTES;
 use crate::list::Letter;
 use crate::say;
-use show::extract;
-ghost use mathlib.Core.Path.{_≡_};
-ghost use mathlib.Core.Bool.{true};
+use extraction::extract;
+use listed::same;
 ghost use Prim.Native.Nat.{_≤_};
 ghost use lib.ListN.{length};
 ghost use Rattle.letters.specs.Listed.{Whole};
-
-// Whether two runs of bytes are the same.
-fn same(a: &[u8], b: &[u8]) -> bool
-    ensures sound { λ r. ⌜ (r ≡ true → now (a .entry) ≡ now (b .entry)) ⌝ }
-    ensures complete { λ r. ⌜ (now (a .entry) ≡ now (b .entry) → r ≡ true) ⌝ }
-{
-    if a.len() != b.len() {
-        return false;
-    }
-    let mut i = 0;
-    while i < a.len() {
-        let left = a[i];
-        let right = b[i];
-        if left != right {
-            return false;
-        }
-        i += 1;
-    }
-    true
-}
 
 // One more letter that got this answer.
 fn count_in(answer: u32, answers: &mut [u32]) {

@@ -12,12 +12,12 @@ mod list;
 mod say;
 mod small;
 
+use extraction::PAGE_BYTES;
 use judge::read_and_judge;
 use list::Front;
 use list::next;
 use say::End;
 use say::Tally;
-use show::PAGE_BYTES;
 
 // The longest file that is read, and a byte more.
 const FILE_ROOM: usize = 524288;
@@ -55,27 +55,40 @@ fn replay(file: &[u8], page: &mut [u8], answers: &mut [u32]) -> Tally {
     }
 }
 
-fn main() {
+// Reads the file, and judges every letter of it.
+fn run(bytes: &mut [u8], page: &mut [u8], answers: &mut [u32]) {
     let file = os::open_read(b"listings.bin");
     if file < 0 {
         say::text(b"listings.bin cannot be opened\n");
         return;
     }
-    let mut bytes = [0u8; FILE_ROOM];
-    let n = io::read_full(file, &mut bytes);
+    let n = io::read_full(file, bytes);
     libc::close(file);
     if n == 0 {
         say::text(b"listings.bin is empty or cannot be read\n");
         return;
     }
-    if n == FILE_ROOM {
+    if n == bytes.len() {
         say::text(b"listings.bin is longer than this program reads\n");
         return;
     }
     small::all();
+    let tally = replay(&bytes[..n], page, answers);
+    say::answers(answers);
+    say::last_line(tally);
+}
+
+fn in_rooms(
+    bytes: &mut [u8; FILE_ROOM],
+    page: &mut [u8; PAGE_BYTES],
+    answers: &mut [u32; ANSWERS],
+) {
+    run(bytes, page, answers);
+}
+
+fn main() {
+    let mut bytes = [0u8; FILE_ROOM];
     let mut page = [0u8; PAGE_BYTES];
     let mut answers = [0u32; ANSWERS];
-    let tally = replay(&bytes[..n], &mut page, &mut answers);
-    say::answers(&answers);
-    say::last_line(tally);
+    in_rooms(&mut bytes, &mut page, &mut answers);
 }

@@ -3,18 +3,22 @@
 // refusal is all of every room.
 use crate::say::number;
 use crate::say::text;
-use reader::Answer;
-use show::BLOCK;
-use show::COLOUR;
-use show::FONT;
-use show::Summary;
-use show::TOKEN;
-use show::sum_up;
+use parser::Answer;
+use parser::Counts;
 use styles::Reading;
 ghost use mathlib.Core.Path.{_≡_};
 ghost use mathlib.Core.Bool.{true};
 ghost use Prim.Native.Nat.{ℕ, _<_, _≤_};
 ghost use lib.ListN.{length, getD};
+
+// The words of a record.
+const TOKEN: usize = 6;
+
+const FONT: usize = 3;
+
+const COLOUR: usize = 1;
+
+const BLOCK: usize = 13;
 
 // No word or byte that the reader should leave.
 const JUNK: u32 = 0xa5a5_5a5a;
@@ -131,10 +135,9 @@ fn say_question(letter: &[u8], paragraphs: bool, sizes: Sizes) {
 }
 
 // Answer, counts and text.
-fn say_told(told: Summary, room: &[u8]) {
-    let counts = told.counts;
+fn say_told(told: u32, counts: Counts, room: &[u8]) {
     text(b": ");
-    number(told.number as u64);
+    number(told as u64);
     item(counts.tokens);
     item(counts.fonts);
     item(counts.colours);
@@ -160,9 +163,8 @@ fn say_answer(
     blocks: &[u32],
     room: &[u8],
 ) {
-    let told = sum_up(answer);
-    let counts = told.counts;
-    say_told(told, room);
+    let counts = answer.counts();
+    say_told(answer.number(), counts, room);
     let token_rest = rest_zero(tokens, counts.tokens, TOKEN);
     let font_rest = rest_zero(fonts, counts.fonts, FONT);
     let colour_rest = rest_zero(colours, counts.colours, COLOUR);

@@ -2,19 +2,13 @@
 //
 // The first line has the answer's number and the count of tokens. Then each token has a line: its six words in
 // decimal, with the number as a signed one. A read that fails counts as the letter's end.
-//
-//   lines  the lines, as text
-//   out    the text, through a buffer
-mod lines;
-mod out;
-
 use libc::STDIN_FILENO;
-use lines::answer_line;
-use lines::token_line;
-use out::Buffer;
-use out::SIZE;
-use out::flush;
-ghost use Prim.Native.Nat.{_≤_};
+use libc::STDOUT_FILENO;
+use lines::number;
+use lines::records;
+ghost use lib.ListN.{length};
+ghost use Rattle.lines.specs.Pages.{Put};
+ghost use Rattle.listing.specs.Tokens.{tokenLines};
 
 // The longest letter, and a byte more, so that a longer one is seen to be longer.
 const LETTER_BYTES: usize = 65537;
@@ -24,32 +18,38 @@ const TOKEN_WORDS: usize = 6;
 // No letter has more tokens than the longest has bytes: 65,536 records.
 const ROOM_WORDS: usize = 393216;
 
-// A line for each record that is there whole, behind the `at` bytes that wait in `out`.
-fn token_lines(records: &[u32], out: &mut Buffer, at: usize) -> usize
-    requires { ⌜ at ≤ 4096 ⌝ }
-    ensures { λ r. ⌜ r ≤ 4096 ⌝ }
+// A token's line has at most 31 bytes.
+const PAGE_BYTES: usize = 2097152;
+
+// The list of a letter's tokens, cut in a room, on a page; how many bytes it has.
+fn list(letter: &[u8], room: &mut [u32], page: &mut [u8]) -> usize
+    ensures { λ r. ⌜ Put (now (page .entry)) 0 (tokenLines (now (letter .entry)) (length (now (room .entry)))) (now (page .exit)) r ⌝ }
 {
-    let mut rest = records;
-    let mut end = at;
-    while TOKEN_WORDS <= rest.len() {
-        end = token_line(&rest[..TOKEN_WORDS], out, end);
-        rest = &rest[TOKEN_WORDS..];
-    }
-    end
+    let outcome = cutter::cut(letter, room);
+    let count = outcome.count();
+    let answer = number(outcome.number() as u64, b' ', page, 0);
+    let first = number(count as u64, b'\n', page, answer);
+    records(room, count, TOKEN_WORDS, page, first)
 }
 
-fn list(number: u32, count: usize, records: &[u32]) {
-    let mut out = [0u8; SIZE];
-    let first = answer_line(number, count, &mut out);
-    let end = token_lines(records, &mut out, first);
-    flush(&out, end);
+// Reads the letter, and writes the list.
+fn run(letter: &mut [u8], room: &mut [u32], page: &mut [u8]) {
+    let n = io::read_full(STDIN_FILENO, letter);
+    let end = list(&letter[..n], room, page);
+    io::write_all(STDOUT_FILENO, &page[..end]);
+}
+
+fn in_rooms(
+    letter: &mut [u8; LETTER_BYTES],
+    room: &mut [u32; ROOM_WORDS],
+    page: &mut [u8; PAGE_BYTES],
+) {
+    run(letter, room, page);
 }
 
 fn main() {
     let mut letter = [0u8; LETTER_BYTES];
-    let n = io::read_full(STDIN_FILENO, &mut letter);
     let mut room = [0u32; ROOM_WORDS];
-    let outcome = cutter::cut(&letter[..n], &mut room);
-    let count = outcome.count();
-    list(outcome.number(), count, &room[..count * TOKEN_WORDS]);
+    let mut page = [0u8; PAGE_BYTES];
+    in_rooms(&mut letter, &mut room, &mut page);
 }

@@ -1,5 +1,4 @@
 -- The code's steps, one law for each way through it: what its tests say, what its callees promise.
---     put-thirteen          a record's words, stored one by one
 --     last-put, last-none   the open block's record
 --     count-.., cap-le      how much is counted
 --     copy-more, copy-end   a copy, byte by byte
@@ -7,10 +6,9 @@
 --     still-..              and what it asks holds again
 -- Assumes nothing.
 use mathlib.Core.Path.{_≡_, refl, sym, ap, _∙_}
-use mathlib.Core.List.{List, [], _∷_}
+use mathlib.Core.List.{List, [], _∷_, _++_}
 use mathlib.Core.Bool.{Bool, true, false, cond, _&&_}
 use Prim.Native.Nat.{ℕ, suc, _+_, _-_, _*_, _<_, _≤_}
-use native.Mathlib.Nat.{add-suc}
 use native.Mathlib.Numerals.{add-one}
 use native.Mathlib.Omega.{arith}
 use borrow.Author.Tests.{lt-ltb, le-ltb, ltb-true, ltb-false}
@@ -21,40 +19,16 @@ use Rattle.answers.specs.declared.Refusal.{Refusal}
 use Rattle.answers.specs.declared.Why.the-variants.{BlockRoom, TextRoom}
 use Rattle.answers.specs.Answers.{refusal}
 use Rattle.rooms.specs.Rooms.{capacity, put}
-use Rattle.rooms.proofs.Rooms.{put-in}
 use Rattle.styles.specs.declared.Style.{Style}
-use Rattle.styles.specs.Styles.{sameStyle}
+use Rattle.styles.specs.Styles.{styleWords, sameStyle}
 use Rattle.pages.specs.declared.Page.{Page}
 use Rattle.pages.specs.Pages.{blockWords, blockRecord, textCapacity}
 use Rattle.pages.specs.Laying.{Laying, on, off, lastPut, blockCount, startOf, appendOf, addOf, ReadyBlocks, Ready}
 
--- stores at places that are counted from one place on
-abbrev stores : List ℕ → ℕ → ℕ → List ℕ → List ℕ
-stores l at i [] = l
-stores l at i (a ∷ vs) = stores (set l (at + i) a) at (suc i) vs
-
-as-sets : (vs l : List ℕ) (at i : ℕ) → stores l at i vs ≡ sets l (at + i) vs
-as-sets [] l at i = refl
-as-sets (a ∷ vs) l at i = as-sets vs (set l (at + i) a) at (suc i) ∙ ap (λ (k : ℕ). sets (set l (at + i) a) k vs) (add-suc at i)
-
-stored : (a : ℕ) (vs l : List ℕ) (at : ℕ) → stores (set l at a) at 1 vs ≡ sets l at (a ∷ vs)
-stored a vs l at = as-sets vs (set l at a) at 1 ∙ ap (λ (k : ℕ). sets (set l at a) k vs) (add-one at)
-
-module _ (room : List ℕ) (n : ℕ) (s : Style) (place count : ℕ) where
-  pub put-thirteen : n < capacity blockWords (length room)
-      → set (set (set (set (set (set (set (set (set (set (set (set (set room (n * 13) (s .colour)) (n * 13 + 1) (s .font)) (n * 13 + 2) (s .size))
-      (n * 13 + 3) (s .flags)) (n * 13 + 4) (s .alignment)) (n * 13 + 5) (s .before)) (n * 13 + 6) (s .after)) (n * 13 + 7) (s .kind))
-      (n * 13 + 8) (s .line)) (n * 13 + 9) (s .multiplier)) (n * 13 + 10) (s .tab)) (n * 13 + 11) place) (n * 13 + 12) count
-      ≡ put blockWords room n (blockRecord s place count)
-  unfolding blockRecord
-  put-thirteen h =
-      stored (s .colour) (s .font ∷ s .size ∷ s .flags ∷ s .alignment ∷ s .before ∷ s .after ∷ s .kind ∷ s .line ∷ s .multiplier ∷ s .tab ∷ place ∷ count ∷ [])
-      room (n * 13)
-      ∙ put-in blockWords room n (blockRecord s place count) h
-
 module _ (p : Page) where
   pub last-put : (b : List ℕ) {b′ : List ℕ} → p .begun ≡ true
-      → b′ ≡ put blockWords b (p .blocks) (blockRecord (p .style) (p .from) (p .text - p .from)) → b′ ≡ lastPut p b
+      → b′ ≡ put blockWords b (p .blocks) (styleWords (p .style) ++ (p .from ∷ (p .text - p .from) ∷ [])) → b′ ≡ lastPut p b
+  unfolding blockRecord
   last-put b e h = rw e h
 
   pub last-none : (b : List ℕ) → p .begun ≡ false → b ≡ lastPut p b

@@ -5,10 +5,9 @@
 //   append   text behind the text
 //   add      both
 //   finish   the last block's record
-//
-// A block's record has 13 words.
 use answers::Refusal;
 use answers::Why;
+use blocks::put;
 use styles::Style;
 use styles::same_style;
 ghost use mathlib.Core.Path.{_≡_};
@@ -16,12 +15,11 @@ ghost use mathlib.Core.List.{List};
 ghost use Prim.Native.Nat.{ℕ, _+_, _≤_};
 ghost use lib.ListN.{length};
 ghost use lib.Seq.{sets};
-ghost use Rattle.rooms.specs.Rooms.{put as putWords};
-ghost use Rattle.pages.specs.Pages.{blockWords, blockRecord, textCapacity};
+ghost use Rattle.pages.specs.Pages.{textCapacity};
 ghost use Rattle.pages.specs.Laying.{told, blank as blankPage, blockCount, lastPut, startOf, appendOf, addOf, ReadyBlocks, Ready, Still};
 
 // How many words a block's record has.
-pub const BLOCK_WORDS: usize = 13;
+pub const BLOCK_WORDS: usize = blocks::BLOCK_WORDS;
 
 // `blocks` records and `text` bytes are written. If `begun`, a block of `style` is open, whose text starts at `from`.
 pub struct Page {
@@ -73,28 +71,6 @@ impl Page {
             return self.blocks + 1;
         }
         self.blocks
-    }
-}
-
-// A record of thirteen words at place n, if the room holds that place.
-fn put(room: &mut [u32], n: usize, s: Style, place: u32, count: u32)
-    ensures { λ _. ⌜ now (room .exit) ≡ putWords blockWords (now (room .entry)) n (blockRecord s place count) ⌝ }
-{
-    if n < room.len() / BLOCK_WORDS {
-        let at = n * BLOCK_WORDS;
-        room[at] = s.colour;
-        room[at + 1] = s.font;
-        room[at + 2] = s.size;
-        room[at + 3] = s.flags;
-        room[at + 4] = s.alignment;
-        room[at + 5] = s.before;
-        room[at + 6] = s.after;
-        room[at + 7] = s.kind;
-        room[at + 8] = s.line;
-        room[at + 9] = s.multiplier;
-        room[at + 10] = s.tab;
-        room[at + 11] = place;
-        room[at + 12] = count;
     }
 }
 

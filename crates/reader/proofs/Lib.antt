@@ -1,7 +1,4 @@
--- Laws: Tokens, of a token room that the cutter filled; Parts, of the functions inside; Whole, of `read`; Tight, that one result
--- is permitted; Samples, 01's letters.
+-- Laws: Tokens, of a token room that the cutter filled; Whole, of `read`; Tight, that one result is permitted.
 pub mod Tokens
-pub mod Parts
 pub mod Whole
 pub mod Tight
-mod Samples

@@ -4,8 +4,8 @@ use mathlib.Core.Path.{_≡_, sym, _∙_}
 use mathlib.Core.List.{List}
 use Prim.Native.Nat.{ℕ}
 use Rattle.styles.specs.declared.Reading.{Reading}
-use Rattle.reader.specs.declared.Answer.{Answer}
-use Rattle.reader.specs.Reading.{Sizes}
+use Rattle.parser.specs.declared.Answer.{Answer}
+use Rattle.parser.specs.Parsing.{Sizes}
 use Rattle.reader.proofs.Whole.{Reads}
 
 module _ {rd : Reading} {src : List ℕ} {z : Sizes} {r r′ : Answer} {tk fs cs bs tx tk′ fs′ cs′ bs′ tx′ : List ℕ}

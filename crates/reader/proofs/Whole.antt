@@ -1,6 +1,6 @@
 -- The whole of `read`, one law for each way through the code.
---     cut-refused, start-refused, letter-of   what the letter is, by what the parts answered
---     read-refused, read-done                 the answer and the five rooms
+--     cut-refused, cut-parsed      what was cut and parsed
+--     read-refused, read-done      the answer and the five rooms
 -- Assumes nothing.
 use mathlib.Core.Path.{_≡_, refl, sym, ap, _∙_}
 use mathlib.Core.List.{List, [], _∷_, _++_}
@@ -12,20 +12,17 @@ use Rattle.answers.specs.declared.Outcome.{Outcome}
 use Rattle.answers.specs.declared.Outcome.the-variants.{Done, Refused}
 use Rattle.answers.specs.Answers.{Found, found, refused}
 use Rattle.rooms.specs.Streams.{items}
-use Rattle.rooms.specs.Rooms.{encode, tableLimit}
-use Rattle.rooms.proofs.Streams.{done-refused}
+use Rattle.rooms.specs.Rooms.{encode, filled}
 use Rattle.tokens.specs.Tokens.{Shown, tokenLayout}
-use Rattle.tokens.specs.Tokens
 use Rattle.cutter.specs.Cutting.{tokenStream, cutAnswer, cutRoom}
 use Rattle.items.specs.Items.{shownAll}
-use Rattle.walk.specs.Walk.{walk}
-use Rattle.header.specs.Header.{tables}
 use Rattle.styles.specs.declared.Reading.{Reading}
-use Rattle.reader.specs.declared.Counts.{Counts}
-use Rattle.reader.specs.declared.Answer.{Answer}
-use Rattle.reader.specs.declared.Answer.the-variants.{Read, Refuses}
-use Rattle.reader.specs.Reading.{shownBy, begun, Sizes, Letter, headed, walked, cut, letterOf, answered, readAnswer, holding, tokenRoom, fontRoom, colourRoom, blockRoom, textRoom}
-use Rattle.reader.specs.Parts.{Starts, LetterInto}
+use Rattle.parser.specs.declared.Counts.{Counts}
+use Rattle.parser.specs.declared.Answer.{Answer}
+use Rattle.parser.specs.declared.Answer.the-variants.{Read, Refuses}
+use Rattle.parser.specs.Parsing.{begun, Sizes, Letter, walked}
+use Rattle.parser.specs.Parts.{LetterInto}
+use Rattle.reader.specs.Reading.{shownBy, cut, letterOf, tokenCount, answered, readAnswer, holding, tokenRoom, fontRoom, colourRoom, blockRoom, textRoom}
 use Rattle.reader.proofs.Tokens.{cut-counts, cut-room, cut-shown, length-items}
 
 -- what the contract of `read` says
@@ -60,60 +57,54 @@ module _ (rd : Reading) (src : List ℕ) (z : Sizes) where
   }
 
   -- refused by the cutter
-  pub cut-refused : {o : Outcome} {k : Refusal} → o ≡ cutAnswer src (z .tokens) → o ≡ Refused k → letterOf rd src z ≡ refused k
+  pub cut-refused : {o : Outcome} {k : Refusal} → o ≡ cutAnswer src (z .tokens) → o ≡ Refused k → (m : ℕ) (fs cs bs tx : List ℕ)
+      → LetterInto (letterOf rd src z) m (Refuses k) fs cs bs tx (z .fonts) (z .colours) (z .blocks) (z .text)
   unfolding letterOf
-  cut-refused e d = ap (cut rd z (items (tokenStream src))) (sym e ∙ d)
+  cut-refused e d m fs cs bs tx = rw (sym e ∙ d) refl
 
-  module _ {o : Outcome} {n : ℕ} (e : o ≡ cutAnswer src (z .tokens)) (d : o ≡ Done n) {room : List ℕ} (q : room ≡ cutRoom src (z .tokens)) where
-    letter-begun : letterOf rd src z ≡ walked rd z (begun (shownAll src n room))
+  -- cut: the parser's answer stands
+  pub cut-parsed : {o : Outcome} {n : ℕ} → o ≡ cutAnswer src (z .tokens) → o ≡ Done n → (room : List ℕ) → room ≡ cutRoom src (z .tokens) → {t : ℕ} → t ≡ z .tokens → (a : Answer) (fs cs bs tx : List ℕ)
+      → LetterInto (walked rd (record { tokens = t; fonts = z .fonts; colours = z .colours; blocks = z .blocks; text = z .text }) (begun (shownAll src n room))) n a fs cs bs tx (z .fonts) (z .colours) (z .blocks) (z .text)
+      → LetterInto (letterOf rd src z) (tokenCount src) a fs cs bs tx (z .fonts) (z .colours) (z .blocks) (z .text)
+  unfolding letterOf
+  cut-parsed {o} {n} e d room q i a fs cs bs tx g =
+      let l : letterOf rd src z ≡ walked rd z (begun (shownAll src n room)) =
+      ap (cut rd z (items (tokenStream src))) (sym e ∙ d) ∙ ap (λ (ts : List Shown). walked rd z (begun ts)) (sym (cut-shown src (z .tokens) e d q)) in
+      let m : n ≡ tokenCount src = cut-counts src (z .tokens) e d .0 ∙ sym (length-items (tokenStream src)) in
+      rw (l, ← m) (rw i at g)
+
+  module _ (a : Answer) (fs cs bs tx : List ℕ) (g : LetterInto (letterOf rd src z) (tokenCount src) a fs cs bs tx (z .fonts) (z .colours) (z .blocks) (z .text)) where
+    pub letter-refuses : {k : Refusal} → a ≡ Refuses k → letterOf rd src z ≡ refused k
+    letter-refuses {k} i = go (letterOf rd src z) g
+      where
+        go : (x : Found Letter) → LetterInto x (tokenCount src) a fs cs bs tx (z .fonts) (z .colours) (z .blocks) (z .text) → x ≡ refused k
+        go (found l) y = absurd (let w : Read _ ≡ Refuses k = sym (y .0) ∙ i in let v : _≡_ {A = ℕ} 0 1 = cc in omega arith)
+        go (refused r) y = let w : Refuses r ≡ Refuses k = sym y ∙ i in cc
+
+    -- a letter that was read was cut
+    was-cut : (l : Letter) → letterOf rd src z ≡ found l → cutRoom src (z .tokens) ≡ filled (z .tokens) (encode tokenLayout (tokenStream src))
     unfolding letterOf
-    letter-begun =
-        ap (cut rd z (items (tokenStream src))) (sym e ∙ d) ∙ ap (λ (ts : List Shown). walked rd z (begun ts)) (sym (cut-shown src (z .tokens) e d q))
+    was-cut l v = go (cutAnswer src (z .tokens)) refl
+      where
+        go : (o : Outcome) → o ≡ cutAnswer src (z .tokens) → cutRoom src (z .tokens) ≡ filled (z .tokens) (encode tokenLayout (tokenStream src))
+        go (Done n) e = cut-room src (z .tokens) e refl
+        go (Refused r) e = absurd (let w : refused r ≡ found l = ap (cut rd z (items (tokenStream src))) e ∙ v in let u : _≡_ {A = ℕ} 0 1 = cc in omega arith)
 
-    -- refused by its first token
-    begun-refused : (x : Found (List Shown)) {s : Outcome} {k : Refusal} → Starts x s → s ≡ Refused k → walked rd z x ≡ refused k
-    begun-refused (found ts) h f = absurd (done-refused (sym h ∙ f))
-    begun-refused (refused r) {s} {k} h f = let w : Refused r ≡ Refused k = sym h ∙ f in cc
+    into-done : (l : Letter) → letterOf rd src z ≡ found l → LetterInto (found l) (tokenCount src) a fs cs bs tx (z .fonts) (z .colours) (z .blocks) (z .text)
+        → {tk : List ℕ} → tk ≡ filled (z .tokens) (encode tokenLayout (tokenStream src)) → Reads rd src z a tk fs cs bs tx
+    unfolding readAnswer tokenRoom fontRoom colourRoom blockRoom textRoom
+    into-done l v y q = record {
+      answer = rw v (y .0);
+      token-room = rw v q;
+      font-room = rw v (y .1);
+      colour-room = rw v (y .2);
+      block-room = rw v (y .3);
+      text-room = rw v (y .4);
+    }
 
-    pub start-refused : {s : Outcome} {k : Refusal} → ((src′ : List ℕ) → Starts (begun (shownAll src′ n room)) s) → s ≡ Refused k → letterOf rd src z ≡ refused k
-    start-refused h f = letter-begun ∙ begun-refused (begun (shownAll src n room)) (h src) f
-
-    -- not refused by it
-    begun-found : (ts : List Shown) {s : Outcome} {m : ℕ} → Starts (begun ts) s → s ≡ Done m → begun ts ≡ found ts
-    begun-found [] h f = absurd (done-refused (sym f ∙ h))
-    begun-found (Shown.opening ∷ ts) h f = refl
-    begun-found (Shown.closing ∷ ts) h f = absurd (done-refused (sym f ∙ h))
-    begun-found (Shown.lineBreak ∷ ts) h f = absurd (done-refused (sym f ∙ h))
-    begun-found (Shown.ignorable ∷ ts) h f = absurd (done-refused (sym f ∙ h))
-    begun-found (Shown.text p bs ∷ ts) h f = absurd (done-refused (sym f ∙ h))
-    begun-found (Shown.word w num ∷ ts) h f = absurd (done-refused (sym f ∙ h))
-    begun-found (Shown.unknown p bs num ∷ ts) h f = absurd (done-refused (sym f ∙ h))
-
-    module _ {s : Outcome} {m : ℕ} (h : (src′ : List ℕ) → Starts (begun (shownAll src′ n room)) s) (f : s ≡ Done m) where
-      letter-of : letterOf rd src z ≡ headed rd (z .blocks) (z .text) (shownAll src n room) (tables (tableLimit 3 (z .fonts)) (tableLimit 1 (z .colours)) (walk (shownAll src n room)))
-      letter-of = letter-begun ∙ ap (walked rd z) (begun-found (shownAll src n room) (h src) f)
-
-      module _ (a : Answer) (fs cs bs tx : List ℕ)
-          (g : LetterInto (headed rd (z .blocks) (z .text) (shownAll src n room) (tables (tableLimit 3 (z .fonts)) (tableLimit 1 (z .colours)) (walk (shownAll src n room)))) n a fs cs bs tx (z .fonts) (z .colours) (z .blocks) (z .text)) where
-        into-refused : (x : Found Letter) → LetterInto x n a fs cs bs tx (z .fonts) (z .colours) (z .blocks) (z .text) → {k : Refusal} → a ≡ Refuses k → x ≡ refused k
-        into-refused (found l) y {k} i = absurd (let w : Read _ ≡ Refuses k = sym (y .0) ∙ i in let v : _≡_ {A = ℕ} 0 1 = cc in omega arith)
-        into-refused (refused r) y {k} i = let w : Refuses r ≡ Refuses k = sym y ∙ i in cc
-
-        pub letter-refuses : {k : Refusal} → a ≡ Refuses k → letterOf rd src z ≡ refused k
-        letter-refuses i = letter-of ∙ into-refused (headed rd (z .blocks) (z .text) (shownAll src n room) (tables (tableLimit 3 (z .fonts)) (tableLimit 1 (z .colours)) (walk (shownAll src n room)))) g i
-
-        into-done : (x : Found Letter) → letterOf rd src z ≡ x → LetterInto x n a fs cs bs tx (z .fonts) (z .colours) (z .blocks) (z .text) → {c : Counts} → a ≡ Read c → Reads rd src z a room fs cs bs tx
-        unfolding readAnswer tokenRoom fontRoom colourRoom blockRoom textRoom
-        into-done (refused r) v y {c} i = absurd (let w : Read c ≡ Refuses r = sym i ∙ y in let u : _≡_ {A = ℕ} 0 1 = cc in omega arith)
-        into-done (found l) v y i = record {
-          answer =
-              rw v (rw (cut-counts src (z .tokens) e d .0 ∙ sym (length-items (tokenStream src))) at (y .0));
-          token-room = rw v (q ∙ cut-room src (z .tokens) e d);
-          font-room = rw v (y .1);
-          colour-room = rw v (y .2);
-          block-room = rw v (y .3);
-          text-room = rw v (y .4);
-        }
-
-        pub read-done : {c : Counts} → a ≡ Read c → Reads rd src z a room fs cs bs tx
-        read-done i = into-done _ letter-of g i
+    pub read-done : {c : Counts} → a ≡ Read c → {tk : List ℕ} → tk ≡ cutRoom src (z .tokens) → Reads rd src z a tk fs cs bs tx
+    read-done {c} i {tk} q = go (letterOf rd src z) refl g
+      where
+        go : (x : Found Letter) → letterOf rd src z ≡ x → LetterInto x (tokenCount src) a fs cs bs tx (z .fonts) (z .colours) (z .blocks) (z .text) → Reads rd src z a tk fs cs bs tx
+        go (refused r) v y = absurd (let w : Read c ≡ Refuses r = sym i ∙ y in let u : _≡_ {A = ℕ} 0 1 = cc in omega arith)
+        go (found l) v y = into-done l v y (q ∙ was-cut l v)

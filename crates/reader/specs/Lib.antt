@@ -1,3 +1,2 @@
--- Reading: the one answer and the one content of the five rooms. Parts: what the functions inside promise.
+-- Reading: the one answer and the one content of the five rooms.
 pub mod Reading
-pub mod Parts

@@ -1,26 +1,21 @@
 // Replays listed answers of the Rust crate through our cutter, and says where ours differ.
 //
-//   list   how the list is laid out, and where its next answer stands
-//   judge  one answer of ours against the listed one
-//   say    the lines that are written
-//
+// How the list is laid out and when answers are the same stands in the crate `listed`; `say` has the lines that are written.
 // The list is data/letters.bin; data/README.md says what it holds and how it was made.
-mod judge;
-mod list;
 mod say;
 
-use judge::Verdict;
-use judge::cut_and_compare;
-use list::Answer;
-use list::Front;
-use list::HEAD_BYTES;
-use list::ROOM_MOST;
-use list::next;
+use listed::judge::Verdict;
+use listed::judge::cut_and_compare;
+use listed::list::Answer;
+use listed::list::Front;
+use listed::list::HEAD_BYTES;
+use listed::list::ROOM_MOST;
+use listed::list::next;
 use say::End;
 use say::Tally;
 ghost use Prim.Native.Nat.{_≤_};
 ghost use lib.ListN.{length};
-ghost use Rattle.replay.specs.Listed.{Whole};
+ghost use Rattle.listed.specs.Listed.{Whole};
 
 // What every word of a room holds before the cut: no word that the cutter should leave there.
 const JUNK: u32 = 0xa5a5_5a5a;
@@ -94,22 +89,31 @@ fn replay(list: &[u8]) -> Tally {
     }
 }
 
-fn main() {
+// Reads the list and replays it.
+fn run(list: &mut [u8]) {
     let file = os::open_read(b"letters.bin");
     if file < 0 {
         say::text(b"letters.bin cannot be opened\n");
         return;
     }
-    let mut list = [0u8; LIST_ROOM];
-    let n = io::read_full(file, &mut list);
+    let n = io::read_full(file, list);
     libc::close(file);
     if n == 0 {
         say::text(b"letters.bin is empty or cannot be read\n");
         return;
     }
-    if n == LIST_ROOM {
+    if n == list.len() {
         say::text(b"letters.bin is longer than this program reads\n");
         return;
     }
     say::last_line(replay(&list[..n]));
+}
+
+fn in_room(list: &mut [u8; LIST_ROOM]) {
+    run(list);
+}
+
+fn main() {
+    let mut list = [0u8; LIST_ROOM];
+    in_room(&mut list);
 }

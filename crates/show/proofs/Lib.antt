@@ -1,4 +1,2 @@
--- Pages: bytes put on a page, one after the other. Decimals: the digits of a number. Listings: the lines of a listing.
-mod Pages
-mod Decimals
+-- Listings: the lines of a listing.
 mod Listings

@@ -1,3 +1,2 @@
--- Pages: bytes put on a page. Listings: what an answer's listing says, as text.
-pub mod Pages
+-- Listings: what an answer's listing says, as text.
 pub mod Listings

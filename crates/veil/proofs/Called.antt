@@ -15,14 +15,16 @@ use Rattle.answers.specs.Answers.{Found, found, refused}
 use Rattle.rooms.specs.Rooms.{filled}
 use Rattle.rooms.specs.Streams.{items}
 use Rattle.cutter.specs.Cutting.{tokenStream, cutAnswer}
-use Rattle.fonts.specs.Fonts.{Font, fontWords, tableWords}
+use Rattle.rows.specs.Rows.{Font, fontWords, tableWords}
 use Rattle.styles.specs.declared.Reading.{Reading}
 use Rattle.pages.specs.Pages.{Piece, blocks, textOf, records}
-use Rattle.reader.specs.declared.Counts.{Counts}
-use Rattle.reader.specs.declared.Answer.{Answer}
-use Rattle.reader.specs.declared.Answer.the-variants.{Read}
-use Rattle.reader.specs.Reading.{Sizes, Letter, cut, letterOf, answered, readAnswer, holding, fontRoom, colourRoom, blockRoom}
-use Rattle.reader.specs.Reading.{textRoom, answerNumber, answerCounts}
+use Rattle.parser.specs.declared.Counts.{Counts}
+use Rattle.parser.specs.declared.Answer.{Answer}
+use Rattle.parser.specs.declared.Answer.the-variants.{Read}
+use Rattle.parser.specs.Parsing.{Sizes, Letter}
+use Rattle.reader.specs.Reading.{cut, letterOf, answered, readAnswer, holding, fontRoom, colourRoom, blockRoom}
+use Rattle.parser.specs.Parsing.{answerNumber, answerCounts}
+use Rattle.reader.specs.Reading.{textRoom}
 use Rattle.reader.proofs.Whole.{Reads}
 use Rattle.veil.specs.Veil.{veil, Alike}
 use Rattle.veil.specs.Said.{Named, nameIn, namesIn, Content, Said, refuses, says, saidBy, said, SameRooms, fontsAt}

@@ -18,7 +18,8 @@ use Rattle.tokens.specs.Tokens.{Shown, tokenLayout}
 use Rattle.cutter.specs.Cutting.{tokenStream, cutAnswer}
 use Rattle.walk.specs.Walk.{Step, walk}
 use Rattle.styles.specs.declared.Reading.{Reading}
-use Rattle.reader.specs.Reading.{shownBy, Sizes, cut, letterOf}
+use Rattle.parser.specs.Parsing.{Sizes}
+use Rattle.reader.specs.Reading.{shownBy, cut, letterOf}
 use Rattle.veil.specs.Veil.{veil, Alike}
 use Rattle.veil.specs.Said.{saidBy, said, SameRooms}
 use Rattle.veil.specs.Promise.{Promise, LiteralPromise}

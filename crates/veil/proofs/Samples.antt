@@ -17,7 +17,7 @@ use Rattle.tokenize.specs.Tokenize.{wordTail, word, other as otherBytes, escape
 use Rattle.cutter.specs.Cutting.{located, last, allSlices, trimmed, tokenStream, cutAnswer}
 use Rattle.walk.specs.Walk.{aimFrom}
 use Rattle.styles.specs.declared.Reading.{Reading}
-use Rattle.reader.specs.Reading.{Sizes}
+use Rattle.parser.specs.Parsing.{Sizes}
 use Rattle.veil.specs.Veil.{part, parts, pieces, join, shown, mask, veil, behind, own, endsBare, Ignored, Alike, same}
 use Rattle.veil.specs.Veil.{other}
 use Rattle.veil.specs.Said.{said, SameRooms}

@@ -7,10 +7,11 @@ use lib.ListN.{length, getD, drop}
 use Rattle.answers.specs.declared.Refusal.{Refusal}
 use Rattle.answers.specs.Answers.{Found, found, refused}
 use Rattle.items.specs.Items.{part}
-use Rattle.fonts.specs.Fonts.{Font, fontWidth}
+use Rattle.rows.specs.Rows.{Font, fontWidth}
 use Rattle.styles.specs.declared.Reading.{Reading}
 use Rattle.pages.specs.Pages.{Piece, blocks, textOf}
-use Rattle.reader.specs.Reading.{Sizes, Letter, letterOf}
+use Rattle.parser.specs.Parsing.{Sizes, Letter}
+use Rattle.reader.specs.Reading.{letterOf}
 
 -- "Record: key, name place, name length": a font by its key and its name's bytes
 pub record Named : Type 0 where

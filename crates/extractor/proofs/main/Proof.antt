@@ -8,7 +8,7 @@ use Rattle.extractor.proofs.main.Reads as reads
 use Rattle.extractor.proofs.main.Lts as lts
 use Rattle.io.proofs.read_full.Reads as read-full-reads
 use Rattle.io.proofs.write_all.Reads as write-all-reads
-use Rattle.show.proofs.extract.Reads as extract-reads
+use Rattle.extraction.proofs.extract.Reads as extract-reads
 
 slice-aggregate-read-full : tie.Need-slice-aggregate-read-full
 slice-aggregate-read-full c = search needs

@@ -1,5 +1,5 @@
 -- `limit_of` meets its contract.
-use Rattle.fonts.proofs.Searches.{limit-few, limit-many}
+use Rattle.fonts.proofs.Limits.{limit-few, limit-many}
 use Rattle.fonts.proofs.limit_of.Statement.{statement}
 use Rattle.fonts.proofs.limit_of.Tie as tie
 use Rattle.fonts.proofs.limit_of.Reads as reads

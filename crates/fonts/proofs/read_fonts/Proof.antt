@@ -10,7 +10,7 @@ use Rattle.fonts.proofs.read_fonts.Reads as reads
 use Rattle.fonts.proofs.read_fonts.Lts as lts
 use Rattle.fonts.proofs.limit_of.Reads as limit-of-reads
 use Rattle.fonts.proofs.step.Reads as step-reads
-use Rattle.fonts.proofs.store.Reads as store-reads
+use Rattle.rows.proofs.store.Reads as store-reads
 use Rattle.fonts.proofs.unnumbered.Reads as unnumbered-reads
 use Rattle.items.proofs.item_at.Reads as item-at-reads
 

@@ -5,7 +5,7 @@ use Rattle.pages.proofs.finish.Statement.{statement}
 use Rattle.pages.proofs.finish.Tie as tie
 use Rattle.pages.proofs.finish.Reads as reads
 use Rattle.pages.proofs.finish.Lts as lts
-use Rattle.pages.proofs.put.Reads as put-reads
+use Rattle.blocks.proofs.put.Reads as put-reads
 
 cast-place : tie.Need-cast-place
 cast-place c = search needs

@@ -1,15 +1,12 @@
 -- `head` meets its contract: six numbers, one behind the other.
 use borrow.Author.Needs.{needs}
-use Rattle.show.proofs.Pages.{put-then}
+use Rattle.lines.proofs.Pages.{put-then}
 use Rattle.show.specs.Listings.{headLine}
 use Rattle.show.proofs.head.Statement.{statement}
 use Rattle.show.proofs.head.Tie as tie
 use Rattle.show.proofs.head.Reads as reads
 use Rattle.show.proofs.head.Lts as lts
-use Rattle.show.proofs.lines.number.Reads as number-reads
-
-cast-number : tie.Need-cast-number
-cast-number c = search needs
+use Rattle.lines.proofs.number.Reads as number-reads
 
 number-requires : tie.Need-number-requires
 number-requires c κs = search needs
@@ -45,7 +42,6 @@ pub head-spec : {M : Type 1} → statement M
 head-spec =
     tie.close
     (tie.spec
-    cast-number
     number-requires
     number-requires-2
     number-requires-3

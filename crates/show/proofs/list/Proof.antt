@@ -1,20 +1,22 @@
 -- `list` meets its contract: the lines stand one behind the other, and a refusal has the first alone.
 use borrow.Author.Needs.{needs}
-use mathlib.Core.Path.{ap, sym}
-use Rattle.show.specs.declared.Summary.{Summary}
-use Rattle.show.proofs.Pages.{put-as, put-then}
+use Rattle.lines.proofs.Pages.{put-as, put-then}
 use Rattle.show.proofs.Listings.{listing-refused, listing-read}
 use Rattle.show.proofs.list.Statement.{statement}
 use Rattle.show.proofs.list.Tie as tie
 use Rattle.show.proofs.list.Reads as reads
 use Rattle.show.proofs.list.Lts as lts
+use Rattle.lines.proofs.records.Reads as records-reads
+use Rattle.parser.proofs.Answer.counts.Reads as counts-reads
+use Rattle.parser.proofs.Answer.number.Reads as number-reads
 use Rattle.show.proofs.head.Reads as head-reads
-use Rattle.show.proofs.lines.records.Reads as records-reads
-use Rattle.show.proofs.sum_up.Reads as sum-up-reads
 use Rattle.show.proofs.text_line.Reads as text-line-reads
 
-sum-up-requires : tie.Need-sum-up-requires
-sum-up-requires c κs = search needs
+number-requires : tie.Need-number-requires
+number-requires c κs = search needs
+
+counts-requires : tie.Need-counts-requires
+counts-requires c κs = search needs
 
 head-requires : tie.Need-head-requires
 head-requires c κs = search needs
@@ -24,8 +26,8 @@ same-length c = search needs
 
 returns : tie.Need-returns
 returns c = (
-  ap (λ (s : Summary). s .number) (c .before .before .before .before .before .before .sum-up .ensures),
-  rw (← c .before .before .before .before .before .before .sum-up .ensures) (put-as (listing-refused _ _ _ _ _ (c .if1 .taken)) (c .before .before .before .before .head .ensures)),
+  c .before .before .before .before .before .before .number .ensures,
+  rw (← c .before .before .before .before .before .before .number .ensures, ← c .before .before .before .before .before .counts .ensures) (put-as (listing-refused _ _ _ _ _ _ (c .if1 .taken)) (c .before .before .before .head .ensures)),
 )
 
 records-requires : tie.Need-records-requires
@@ -45,10 +47,10 @@ same-length-2 c = search needs
 
 returns-2 : tie.Need-returns-2
 returns-2 c = (
-  ap (λ (s : Summary). s .number) (c .before .before .before .before .before .before .before .before .before .before .before .before .before .before .before .before .before .before .before .before .before .before .before .sum-up .ensures),
-  rw (← c .before .before .before .before .before .before .before .before .before .before .before .before .before .before .before .before .before .before .before .before .before .before .before .sum-up .ensures)
-      (put-as (listing-read _ _ _ _ _ (c .before .before .before .before .before .before .before .before .before .before .before .before .before .before .before .before .before .if1 .left))
-      (put-then (c .before .before .before .before .before .before .before .before .before .before .before .before .before .before .before .before .before .before .before .before .before .head .ensures) (c .before .before .before .before .before .before .before .before .before .before .before .before .before .before .before .before .before .before .before .before .before .head .kept .1 .0)
+  c .before .before .before .before .before .before .before .before .before .before .before .before .before .before .before .before .before .before .before .before .before .before .number .ensures,
+  rw (← c .before .before .before .before .before .before .before .before .before .before .before .before .before .before .before .before .before .before .before .before .before .before .number .ensures, ← c .before .before .before .before .before .before .before .before .before .before .before .before .before .before .before .before .before .before .before .before .before .counts .ensures)
+      (put-as (listing-read _ _ _ _ _ _ (c .before .before .before .before .before .before .before .before .before .before .before .before .before .before .before .before .if1 .left))
+      (put-then (c .before .before .before .before .before .before .before .before .before .before .before .before .before .before .before .before .before .before .before .head .ensures) (c .before .before .before .before .before .before .before .before .before .before .before .before .before .before .before .before .before .before .before .head .kept .1 .1 .0)
       (put-then (c .before .before .before .before .before .before .before .before .before .before .before .before .before .before .records .ensures) (c .before .before .before .before .before .before .before .before .before .before .before .before .before .before .records .kept .1 .1 .1 .0)
       (put-then (c .before .before .before .before .before .before .before .before .before .before .records2 .ensures) (c .before .before .before .before .before .before .before .before .before .before .records2 .kept .1 .1 .1 .0)
       (put-then (c .before .before .before .before .before .before .records3 .ensures) (c .before .before .before .before .before .before .records3 .kept .1 .1 .1 .0) (c .before .before .text-line .ensures)))))),
@@ -58,7 +60,8 @@ pub list-spec : {M : Type 1} → statement M
 list-spec =
     tie.close
     (tie.spec
-    sum-up-requires
+    number-requires
+    counts-requires
     head-requires
     same-length
     returns

@@ -2,14 +2,14 @@
 use borrow.Author.Needs.{needs}
 use native.Mathlib.Omega.{arith}
 use lib.ListN.{length-take}
-use Rattle.show.proofs.Pages.{put-as, put-then}
+use Rattle.lines.proofs.Pages.{put-as, put-then}
 use Rattle.show.proofs.Listings.{text-part, text-all}
 use Rattle.show.proofs.text_line.Statement.{statement}
 use Rattle.show.proofs.text_line.Tie as tie
 use Rattle.show.proofs.text_line.Reads as reads
 use Rattle.show.proofs.text_line.Lts as lts
-use Rattle.show.proofs.page.append.Reads as append-reads
-use Rattle.show.proofs.page.push.Reads as push-reads
+use Rattle.lines.proofs.append.Reads as append-reads
+use Rattle.lines.proofs.push.Reads as push-reads
 
 slice-aggregate-append : tie.Need-slice-aggregate-append
 slice-aggregate-append c = simp length-take (omega arith)

@@ -1,0 +1,2 @@
+-- Writing: words stored one by one.
+mod Writing

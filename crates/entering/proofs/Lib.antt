@@ -1,0 +1,2 @@
+-- Entering: a group, by what its bracket begins.
+mod Entering

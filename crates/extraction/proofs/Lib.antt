@@ -1,0 +1,2 @@
+-- Extractor: the extractor, by the letter's length.
+mod Extractor

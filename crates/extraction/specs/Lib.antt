@@ -1,0 +1,2 @@
+-- Extractor: what the extractor prints of a letter.
+pub mod Extractor

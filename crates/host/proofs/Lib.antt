@@ -1,2 +1,0 @@
--- Hosts: an answer as a host gets it, by its case.
-mod Hosts

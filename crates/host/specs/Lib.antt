@@ -1,2 +1,0 @@
--- Hosts: answers as a host gets them.
-pub mod Hosts

@@ -1,0 +1,3 @@
+-- Pages: bytes put on a page. Lines: numbers and records, as text.
+pub mod Pages
+pub mod Lines

@@ -1,0 +1,61 @@
+-- `run` is safe: the list lies within the page.
+use mathlib.Core.Path.{sym}
+use native.Mathlib.Omega.{arith}
+use lib.Seq.{length-take-le}
+use borrow.Author.Needs.{needs}
+use Rattle.listing.proofs.run.Statement.{statement}
+use Rattle.listing.proofs.run.Tie as tie
+use Rattle.listing.proofs.run.Reads as reads
+use Rattle.listing.proofs.run.Lts as lts
+use Rattle.io.proofs.read_full.Reads as read-full-reads
+use Rattle.io.proofs.write_all.Reads as write-all-reads
+use Rattle.listing.proofs.list.Reads as list-reads
+
+read-full-requires : tie.Need-read-full-requires
+read-full-requires c κs = search needs
+
+slice-reshare-prefix-list : tie.Need-slice-reshare-prefix-list
+slice-reshare-prefix-list c = search needs
+
+slice-aggregate-list : tie.Need-slice-aggregate-list
+slice-aggregate-list c = search needs
+
+list-requires : tie.Need-list-requires
+list-requires c κs = search needs
+
+slice-reshare-prefix-write-all : tie.Need-slice-reshare-prefix-write-all
+slice-reshare-prefix-write-all c = search needs
+
+slice-aggregate-write-all : tie.Need-slice-aggregate-write-all
+slice-aggregate-write-all c = sym (length-take-le _ _ (omega (arith, c .before .before .before .before .before .list .ensures .within, c .before .before .before .before .before .list .kept .1 .1 .0)))
+
+write-all-requires : tie.Need-write-all-requires
+write-all-requires c κs = search needs
+
+same-length : tie.Need-same-length
+same-length c = search needs
+
+same-length-2 : tie.Need-same-length-2
+same-length-2 c = search needs
+
+same-length-3 : tie.Need-same-length-3
+same-length-3 c = search needs
+
+returns : tie.Need-returns
+returns c = search needs
+
+pub run-spec : {M : Type 1} → statement M
+run-spec =
+    tie.close
+    (tie.spec
+    read-full-requires
+    slice-reshare-prefix-list
+    slice-aggregate-list
+    list-requires
+    slice-reshare-prefix-write-all
+    slice-aggregate-write-all
+    write-all-requires
+    same-length
+    same-length-2
+    same-length-3
+    returns)

@@ -1,0 +1,2 @@
+-- Tokens: what the program prints of a letter.
+pub mod Tokens

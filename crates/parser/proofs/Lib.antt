@@ -1,0 +1,2 @@
+-- Parts: the functions of the parser, one law for each way through the code.
+mod Parts

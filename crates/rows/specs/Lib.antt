@@ -1,0 +1,2 @@
+-- Rows: a table of fonts, as a list and as words in a room.
+pub mod Rows

@@ -1,0 +1,2 @@
+-- Told: answers as a host gets them.
+pub mod Told
