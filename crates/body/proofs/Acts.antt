@@ -8,12 +8,12 @@
 use mathlib.Core.Path.{_≡_, refl, sym, ap, _∙_}
 use mathlib.Core.List.{List, [], _∷_}
 use mathlib.Core.Bool.{Bool, true, false, cond, false≢true}
-use Prim.Native.Nat.{ℕ, zero, suc, _+_, _-_, _*_, _≤_, _<_}
+use Prim.Native.Nat.{ℕ, zero, suc, _-_, _≤_, _<_}
 use native.Mathlib.Omega.{arith}
 use lib.ListN.{length, take, drop}
 use lib.Dec.{eqb}
 use Rattle.answers.specs.declared.Refusal.{Refusal}
-use Rattle.answers.specs.declared.Why.the-variants.{IgnorableInBody, NoState, TooDeep}
+use Rattle.answers.specs.declared.Why.the-variants.{IgnorableInBody, TooDeep}
 use Rattle.answers.specs.Answers.{refusal}
 use Rattle.tokens.specs.declared.Property.{Property}
 use Rattle.tokens.specs.Tokens.{Shown}
@@ -35,7 +35,7 @@ use Rattle.styles.specs.Styles.{change, styleOf}
 use Rattle.pages.specs.declared.Page.{Page}
 use Rattle.pages.specs.declared.Laid.{Laid}
 use Rattle.pages.specs.declared.Laid.the-variants.{On, Full}
-use Rattle.pages.specs.Laying.{Laying, on, off, told, addOf, layAll, Ready, Still}
+use Rattle.pages.specs.Laying.{Laying, on, off, told, addOf, layAll, Still}
 use Rattle.pages.proofs.Laying.{lay-stop, lay-more, lay-off}
 use Rattle.walk.specs.declared.Aim.{Aim}
 use Rattle.walk.specs.declared.Aim.the-variants.{Nothing, Hide, Fonts, Colours}
@@ -44,7 +44,7 @@ use Rattle.runs.specs.Runs.{isUnit, runLength, runNumbers, numbersOf, some, run
 use Rattle.runs.proofs.Numbers.{run-numbers}
 use Rattle.body.specs.declared.Act.{Act}
 use Rattle.body.specs.declared.Act.the-variants.{Push, Pop, Keep, Said, Bad}
-use Rattle.body.specs.Body.{Asked, changed, tokenAsks, runAsks, run, asks, statesOf, uttered, stackLimit}
+use Rattle.body.specs.Body.{Asked, changed, tokenAsks, run, asks, statesOf, uttered}
 use Rattle.body.specs.Acting.{from, saidBy, onward, StillAct, Onward, OnwardFrom, isOpening}
 use Rattle.body.proofs.Items.{from-run, from-token}
 

@@ -8,7 +8,7 @@
 use mathlib.Core.Path.{_≡_, refl, sym, ap, _∙_}
 use mathlib.Core.List.{List, [], _∷_}
 use mathlib.Core.Bool.{Bool, true, false, cond, false≢true}
-use Prim.Native.Nat.{ℕ, zero, suc, _<_}
+use Prim.Native.Nat.{zero, suc, _<_}
 use native.Mathlib.Omega.{arith}
 use lib.ListN.{drop}
 use lib.Dec.{eqb}
@@ -23,11 +23,11 @@ use Rattle.styles.specs.declared.Reading.{Reading}
 use Rattle.pages.specs.Pages.{Piece}
 use Rattle.walk.specs.declared.Aim.{Aim}
 use Rattle.walk.specs.declared.Aim.the-variants.{Nothing, Hide, Fonts, Colours}
-use Rattle.walk.specs.Walk.{aimFrom, aim, level, extent, Step, entered, enteredLength, stepOf, passedBy, walkFrom, walk}
+use Rattle.walk.specs.Walk.{aimFrom, aim, level, extent, entered, enteredLength, stepOf, passedBy, walkFrom, walk}
 use Rattle.walk.proofs.Walk.{walk-one}
 use Rattle.runs.specs.Runs.{isUnit, runLength, numberOf, runNumbers}
 use Rattle.body.specs.Acting.{from}
-use Rattle.body.specs.Body.{Item, token, run, apart, joined, keptItems, stepItems, gather, Asked, bareAsks, asks, statesOf, uttered, bodyFrom}
+use Rattle.body.specs.Body.{Item, token, run, apart, joined, stepItems, gather, Asked, bareAsks, asks, statesOf, uttered, bodyFrom}
 
 -- the tokens' items, from the first one on
 abbrev pub items : List Shown → List Item

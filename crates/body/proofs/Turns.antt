@@ -5,13 +5,13 @@
 -- Assumes nothing.
 use mathlib.Core.Path.{_≡_, refl, sym, ap, _∙_}
 use mathlib.Core.List.{List, [], _∷_}
-use mathlib.Core.Bool.{Bool, true, false, cond}
+use mathlib.Core.Bool.{cond}
 use Prim.Native.Nat.{ℕ, zero, suc, _+_, _-_, _*_, _<_, _≤_}
 use native.Mathlib.Nat.{not-suc-le-zero}
 use native.Mathlib.Omega.{arith}
 use native.Mathlib.Numerals.{add-one}
 use borrow.Author.Tests.{eq-eqb, ne-eqb}
-use lib.ListN.{length, getD, set, take, drop, length-drop, length-take, length-set}
+use lib.ListN.{length, getD, set, drop, length-drop, length-take, length-set}
 use lib.Dec.{eqb}
 use lib.Seq.{getD-set-same, getD-set-other}
 use Rattle.answers.specs.declared.Refusal.{Refusal}
@@ -27,17 +27,16 @@ use Rattle.styles.specs.declared.Reading.{Reading}
 use Rattle.styles.specs.Styles.{freshFlags, freshParagraph, fresh}
 use Rattle.pages.specs.declared.Page.{Page}
 use Rattle.pages.specs.declared.Laid.{Laid}
-use Rattle.pages.specs.declared.Laid.the-variants.{On, Full}
-use Rattle.pages.specs.Laying.{Laying, on, off, told, blank, layAll, Ready, Still}
+use Rattle.pages.specs.declared.Laid.the-variants.{Full}
+use Rattle.pages.specs.Laying.{Laying, on, off, blank, layAll, Ready, Still}
 use Rattle.pages.proofs.Laying.{lay-end, lay-stop, ready-blank}
 use Rattle.walk.specs.Walk.{passedBy}
 use Rattle.body.specs.declared.Act.{Act}
 use Rattle.body.specs.declared.Act.the-variants.{Push, Pop, Keep, Said, Bad}
 use Rattle.body.specs.declared.Bare.{Bare}
 use Rattle.body.specs.declared.Bare.the-variants.{Opens, Refuses}
-use Rattle.body.specs.Body.{Asked, token, asks, statesOf, uttered, bareAsks}
-use Rattle.body.specs.Acting.{from, onward, StillAct, OnwardFrom, bareOf}
-use Rattle.runs.specs.Runs.{isUnit}
+use Rattle.body.specs.Body.{Asked, token, statesOf, uttered, bareAsks}
+use Rattle.body.specs.Acting.{from, onward, OnwardFrom, bareOf}
 use Rattle.body.proofs.Items.{from-end, from-group, from-bare}
 
 -- what an array's place that is not there would give

@@ -38,7 +38,6 @@ ghost use Rattle.pages.specs.Laying.{told, on, layAll, blank as blankPage, Read
 ghost use Rattle.body.specs.Acting.{from, saidBy, Onward, OnwardFrom, bareOf, isOpening};
 ghost use Rattle.body.specs.Body.{changed, tokenAsks};
 ghost use Rattle.styles.specs.Styles.{change as changeOf};
-ghost use Rattle.runs.specs.Runs.{isUnit};
 
 pub enum Act {
     Push,

@@ -20,7 +20,7 @@ use Rattle.rooms.specs.Rooms.{capacity}
 use Rattle.sevens.specs.declared.Numeral.{Numeral}
 use Rattle.sevens.specs.declared.Numeral.the-variants.{Is as Numbered, Bad as BadNumber, Short}
 use Rattle.sevens.specs.Sevens.{numberOf}
-use Rattle.pages.specs.Pages.{Piece, Last, none, last, starts, roomy, textCapacity}
+use Rattle.pages.specs.Pages.{Piece, Last, none, last, starts, roomy}
 use Rattle.entries.specs.declared.Entry.{Entry}
 use Rattle.entries.specs.declared.Entry.the-variants.{Is, Bad}
 use Rattle.entries.specs.Entries.{entry}

@@ -3,7 +3,7 @@
 --     colours-few         at most as many colours as the limit says
 --     colours-few-256     for a room of any length, at most 256
 --     colour-word-small   a word of values that fit is below 2^24
---     words-at, colours-words, colours-small   every word of a table is, as a list and by index
+--     words-at, colours-words   every word of a table is, as a list and by index
 --     sound-start, sound-from   what holds after every token: the above, and the current colour's values fit
 -- Assumes nothing.
 use mathlib.Core.Path.{_≡_, refl}
@@ -47,11 +47,6 @@ Words (w ∷ ws) = (w < 16777216) × Words ws
 words-snoc : (ws : List ℕ) (w : ℕ) → Words ws → w < 16777216 → Words (ws ++ (w ∷ []))
 words-snoc [] w h k = (k, tt)
 words-snoc (x ∷ ws) w h k = (h .0, words-snoc ws w (h .1) k)
-
-pub words-at : (ws : List ℕ) → Words ws → (i : ℕ) → i < length ws → getD ws i 0 < 16777216
-words-at [] h i l = absurd (omega arith)
-words-at (w ∷ ws) h zero l = h .0
-words-at (w ∷ ws) h (suc i) l = words-at ws (h .1) i (omega arith)
 
 -- what holds of the colours after every token
 pub record Sound (limit : ℕ) (s : Colours) : Type 0 where
@@ -140,9 +135,6 @@ module _ (limit : ℕ) (ts : List Shown) (cs : List ℕ) where
 
   pub colours-words : colours limit ts ≡ found cs → Words cs
   colours-words e = sound-colours e .1
-
-  pub colours-small : colours limit ts ≡ found cs → (i : ℕ) → i < length cs → getD cs i 0 < 16777216
-  colours-small e = words-at cs (sound-colours e .1)
 
 pub colours-few-256 : (total : ℕ) (ts : List Shown) (cs : List ℕ) → colours (tableLimit 1 total) ts ≡ found cs → length cs ≤ 256
 colours-few-256 total ts cs e = let h : length cs ≤ tableLimit 1 total = colours-few (tableLimit 1 total) ts cs e in omega (arith, limit-256 1 total)

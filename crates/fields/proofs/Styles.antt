@@ -14,7 +14,7 @@ use lib.Seq.{drop-cons}
 use Rattle.styles.specs.declared.Style.{Style}
 use Rattle.styles.specs.Styles.{sameStyle, styleWords}
 use Rattle.pages.specs.Pages.{starts}
-use Rattle.fields.specs.Fields.{folded, unfolded, styleNumbers, styleFrom, lastOf}
+use Rattle.fields.specs.Fields.{styleNumbers, styleFrom, lastOf}
 use Rattle.fields.proofs.Folds.{unfold-fold, fold-unfold, folded-small, unfolded-small}
 
 pub follows-as : (begun : Bool) (before s : Style) {x : Bool} → x ≡ sameStyle before s → not (begun && x) ≡ starts (lastOf begun before) s

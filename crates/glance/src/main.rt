@@ -45,22 +45,52 @@ fn say(answer: Answer, text: &[u8]) {
     }
 }
 
+// Reads the letter, and says its text.
+fn run(
+    letter: &mut [u8],
+    tokens: &mut [u32],
+    fonts: &mut [u32],
+    colours: &mut [u32],
+    blocks: &mut [u32],
+    text: &mut [u8],
+) {
+    let n = io::read_full(STDIN_FILENO, letter);
+    let answer = read(
+        &letter[..n],
+        Reading::Paragraphs,
+        tokens,
+        fonts,
+        colours,
+        blocks,
+        text,
+    );
+    say(answer, text);
+}
+
+fn in_rooms(
+    letter: &mut [u8; LETTER_BYTES],
+    tokens: &mut [u32; TOKEN_WORDS],
+    fonts: &mut [u32; FONT_WORDS],
+    colours: &mut [u32; COLOUR_WORDS],
+    blocks: &mut [u32; BLOCK_WORDS],
+    text: &mut [u8; TEXT_BYTES],
+) {
+    run(letter, tokens, fonts, colours, blocks, text);
+}
+
 fn main() {
     let mut letter = [0u8; LETTER_BYTES];
-    let n = io::read_full(STDIN_FILENO, &mut letter);
     let mut tokens = [0u32; TOKEN_WORDS];
     let mut fonts = [0u32; FONT_WORDS];
     let mut colours = [0u32; COLOUR_WORDS];
     let mut blocks = [0u32; BLOCK_WORDS];
     let mut text = [0u8; TEXT_BYTES];
-    let answer = read(
-        &letter[..n],
-        Reading::Paragraphs,
+    in_rooms(
+        &mut letter,
         &mut tokens,
         &mut fonts,
         &mut colours,
         &mut blocks,
         &mut text,
     );
-    say(answer, &text);
 }

@@ -14,7 +14,7 @@ use borrow.Author.Tests.{ltb-true, ltb-false, lt-ltb, le-ltb}
 use lib.Dec.{ltb}
 use lib.ListN.{length, take, drop, getD, length-drop, drop-of-length-le}
 use lib.Seq.{drop-cons, take-all}
-use Rattle.lines.specs.Lines.{decimal, item, signed, mark, line, lines}
+use Rattle.lines.specs.Lines.{item, signed, mark, line, lines}
 
 add-one : (i : ℕ) → i + 1 ≡ suc i
 add-one i = omega arith

@@ -5,12 +5,12 @@
 --     put-as              the same bytes by another name
 --     left-start, -more, -end   a loop over what is left: whoever puts that has put all
 -- Assumes nothing.
-use Prim.Native.Nat.{ℕ, zero, suc, _+_, _-_, _≤_, _<_, min}
+use Prim.Native.Nat.{ℕ, zero, suc, _+_, _-_, _≤_, _<_}
 use mathlib.Core.Path.{_≡_, refl, sym, ap, _∙_}
 use mathlib.Core.List.{List, [], _∷_, _++_, append-nil, append-assoc}
 use native.Mathlib.Omega.{arith}
-use lib.ListN.{length, take, drop, set, length-take, length-append, length-set}
-use lib.Seq.{take-all, length-take-le, take-suc-set, drop-set-lt, take-append-seam, drop-drop}
+use lib.ListN.{length, take, drop, set, length-take, length-append}
+use lib.Seq.{take-all, take-suc-set, drop-set-lt, take-append-seam, drop-drop}
 use Rattle.lines.specs.Pages.{Put}
 
 -- what was left out at the end of a page stays out

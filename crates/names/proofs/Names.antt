@@ -1,6 +1,5 @@
 -- What the table of names says, in the terms of the code's two loops, and what a word's number means.
 --     same-bytes-eq, same-bytes-self           `sameBytes` is equality
---     word-number-small, word-number-name      a number is at most 49, and below 49 it is that of its name
 --     row-..                                   the loop over the bytes of a row
 --     place-..                                 the loop over the rows
 -- Assumes nothing.
@@ -19,11 +18,6 @@ use Rattle.bytes.specs.Bytes.{isLetter}
 use Rattle.bytes.specs.Texts.{bytesOf}
 use Rattle.bytes.proofs.Runs.{and-left, and-right}
 use Rattle.names.specs.Names.{names, sameBytes, placeIn, wordNumber, nameOf, firstWith, row, rowsFrom, headsFrom, rows}
-
-pub same-bytes-self : (a : List ℕ) → sameBytes a a ≡ true
-unfolding sameBytes
-same-bytes-self [] = refl
-same-bytes-self (x ∷ a) = rw (eq-eqb x x refl) (same-bytes-self a)
 
 pub same-bytes-eq : (a b : List ℕ) → sameBytes a b ≡ true → a ≡ b
 unfolding sameBytes
@@ -45,33 +39,6 @@ same-bytes-length a b f = go (sameBytes a b) refl
     go : (t : Bool) → sameBytes a b ≡ t → false ≡ t
     go true q = absurd (f (ap length (same-bytes-eq a b q)))
     go false q = refl
-
--- the place of a word in a list of names is at most the list's length; if below, the name there is the word
-place-small : (ns : List (List ℕ)) (w : List ℕ) → placeIn ns w ≤ length ns
-unfolding placeIn
-place-small [] w = omega arith
-place-small (n ∷ ns) w = go (sameBytes w n) (place-small ns w)
-  where
-    go : (t : Bool) → placeIn ns w ≤ length ns → cond t zero (suc (placeIn ns w)) ≤ suc (length ns)
-    go true h = omega arith
-    go false h = omega arith
-
-place-name : (ns : List (List ℕ)) (w : List ℕ) → placeIn ns w < length ns → getD ns (placeIn ns w) [] ≡ w
-unfolding placeIn
-place-name [] w h = absurd (not-suc-le-zero h)
-place-name (n ∷ ns) w h = go (sameBytes w n) refl (place-name ns w) h
-  where
-    go : (t : Bool) → sameBytes w n ≡ t → (placeIn ns w < length ns → getD ns (placeIn ns w) [] ≡ w) → cond t zero (suc (placeIn ns w)) < suc (length ns) → getD (n ∷ ns) (cond t zero (suc (placeIn ns w))) [] ≡ w
-    go true q f h = sym (same-bytes-eq w n q)
-    go false q f h = f (le-of-suc-le-suc h)
-
-pub word-number-small : (w : List ℕ) → wordNumber w ≤ 49
-unfolding wordNumber
-word-number-small w = place-small names w
-
-pub word-number-name : (w : List ℕ) → wordNumber w < 49 → nameOf (wordNumber w) ≡ w
-unfolding wordNumber nameOf
-word-number-name w h = place-name names w h
 
 -- a name that starts with another byte is another word
 other-first : (w n : List ℕ) → eqb (getD n 0 0) (getD w 0 0) ≡ false → sameBytes w n ≡ false

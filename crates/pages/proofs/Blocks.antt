@@ -1,5 +1,5 @@
 -- Blocks and text of pieces.
---     sameStyle-refl, sameStyle-eq   styles are the same if all their words are
+--     sameStyle-eq   styles are the same if all their words are
 --     textOf-append, text-blocks     joining keeps the text
 --     length-record, length-records, records-append   the records' words
 --     blocks-differ                  blocks that stand side by side differ in style
@@ -20,22 +20,6 @@ use Rattle.pages.specs.Pages.{Piece, piece, blocksFrom, blocks, textOf, 
 
 same : (n : ℕ) → eqb n n ≡ true
 same n = eq-eqb n n refl
-
-pub sameStyle-refl : (a : Style) → sameStyle a a ≡ true
-sameStyle-refl a =
-    rw (
-      same (a .colour),
-      same (a .font),
-      same (a .size),
-      same (a .flags),
-      same (a .alignment),
-      same (a .before),
-      same (a .after),
-      same (a .kind),
-      same (a .line),
-      same (a .multiplier),
-      same (a .tab),
-    )
 
 first : (n m : ℕ) (y : Bool) → (eqb n m && y) ≡ true → n ≡ m
 first n m y e = eqb-true n m (and-left (eqb n m) y e)
@@ -79,11 +63,6 @@ sameStyle-eq a b e =
       tab = eqb-true (a .tab) (b .tab) e11 i;
     }
 
-pub textOf-append : (xs ys : List Piece) → textOf (xs ++ ys) ≡ textOf xs ++ textOf ys
-unfolding textOf
-textOf-append [] ys = refl
-textOf-append (x ∷ xs) ys = rw (textOf-append xs ys) (sym (append-assoc (x .bytes) (textOf xs) (textOf ys)))
-
 text-cons : (x : Piece) (xs : List Piece) → textOf (x ∷ xs) ≡ x .bytes ++ textOf xs
 unfolding textOf
 text-cons x xs = refl
@@ -114,15 +93,6 @@ length-records [] n = omega arith
 length-records (x ∷ xs) n =
     length-append (blockRecord (x .style) n (length (x .bytes))) (records (n + length (x .bytes)) xs)
     ∙ rw (length-record (x .style) n (length (x .bytes)), length-records xs (n + length (x .bytes))) (omega arith)
-
-pub records-append : (xs ys : List Piece) (n : ℕ) → records n (xs ++ ys) ≡ records n xs ++ records (n + length (textOf xs)) ys
-unfolding records textOf
-records-append [] ys n = rw (add-zero n)
-records-append (x ∷ xs) ys n =
-    let k : n + length (x .bytes ++ textOf xs) ≡ n + length (x .bytes) + length (textOf xs) = rw length-append (omega arith) in
-    let m : ℕ = n + length (x .bytes) in
-    rw (records-append xs ys (n + length (x .bytes)), k)
-    (sym (append-assoc (blockRecord (x .style) n (length (x .bytes))) (records m xs) (records (m + length (textOf xs)) ys)))
 
 -- blocks side by side, where a block of a style stands in front
 abbrev pub ApartFrom : Style → List Piece → Type 0

@@ -1,9 +1,7 @@
 -- Pieces laid one after the other.
 --     lay-end, lay-stop, lay-off, lay-more   by what comes next
 --     append-append, append-none             text behind text
---     add-start, add-none, add-append        a block, and then text in parts
---     start-.., append-.., add-.., lay-lengths   both rooms stay as long as they are
---     ready-blank, ready-start, ready-append, ready-add, ready-lay   a page that fits its rooms stays one
+--     ready-blank                            a page without blocks fits all rooms
 --     ready-finish, ready-count              and is fit for what comes last
 -- Assumes nothing.
 use mathlib.Core.Path.{_≡_, refl, sym, ap, _∙_}
@@ -142,30 +140,6 @@ kept-on : (w v : ℕ) (l : Laying) (x : Piece) → Kept w v l → Kept w v (laid
 kept-on w v (on p b t) x k = rw (← k .0, ← k .1) (kept-add p (x .style) (x .bytes) b t)
 kept-on w v (off r) x k = tt
 
-kept-stop : (w v : ℕ) (l : Laying) (r : Refusal) → Kept w v (layAll l (stop r))
-unfolding layAll
-kept-stop w v (on p b t) r = tt
-kept-stop w v (off q) r = tt
-
-kept-lay : (w v : ℕ) (s : Stream Piece) (l : Laying) → Kept w v l → Kept w v (layAll l s)
-unfolding layAll
-kept-lay w v end l k = k
-kept-lay w v (stop r) l k = kept-stop w v l r
-kept-lay w v (x ▸ s) l k = kept-lay w v s (laidOn l x) (kept-on w v l x k)
-
-module _ {p′ : Page} {b′ t′ : List ℕ} where
-  pub start-lengths : (p : Page) (s : Style) (b t : List ℕ) → startOf p s b t ≡ on p′ b′ t′ → (length b′ ≡ length b) × (length t′ ≡ length t)
-  start-lengths p s b t e = rw e at (kept-start p s b t)
-
-  pub append-lengths : (p : Page) (bytes b t : List ℕ) → appendOf p bytes b t ≡ on p′ b′ t′ → (length b′ ≡ length b) × (length t′ ≡ length t)
-  append-lengths p bytes b t e = rw e at (kept-append p bytes b t)
-
-  pub add-lengths : (p : Page) (s : Style) (bytes b t : List ℕ) → addOf p s bytes b t ≡ on p′ b′ t′ → (length b′ ≡ length b) × (length t′ ≡ length t)
-  add-lengths p s bytes b t e = rw e at (kept-add p s bytes b t)
-
-  pub lay-lengths : (p : Page) (b t : List ℕ) (s : Stream Piece) → layAll (on p b t) s ≡ on p′ b′ t′ → (length b′ ≡ length b) × (length t′ ≡ length t)
-  lay-lengths p b t s e = rw e at (kept-lay (length b) (length t) s (on p b t) (refl, refl))
-
 -- a page that fits its rooms
 pub ready-blank : (w v : ℕ) → Ready blank w v
 ready-blank w v =
@@ -173,102 +147,6 @@ ready-blank w v =
   where
     zero-le : (n : ℕ) → 0 ≤ n
     zero-le n = omega arith
-
-abbrev ReadyIn : ℕ → ℕ → Laying → Type 0
-ReadyIn w v (on p b t) = Ready p w v
-ReadyIn w v (off r) = Unit {0}
-
-in-start : (p : Page) (s : Style) (b t : List ℕ) (v : ℕ) → Ready p (length b) v → ReadyIn (length b) v (startOf p s b t)
-unfolding startOf
-in-start p s b t v h = go (p .begun && sameStyle (p .style) s) (ltb (blockCount p) (capacity blockWords (length b))) refl
-  where
-    go : (x y : Bool) → ltb (blockCount p) (capacity blockWords (length b)) ≡ y
-        → ReadyIn (length b) v (cond x (on p b t) (cond y (on (opened p s) (lastPut p b) t) (off (refusal BlockRoom))))
-    go true y e = h
-    go false true e = still-new p s (length b) v (blockCount p) (h .page) (ltb-true (blockCount p) (capacity blockWords (length b)) e) (h .text)
-    go false false e = tt
-
-in-append : (p : Page) (bytes b t : List ℕ) (w : ℕ) → Ready p w (length t) → ReadyIn w (length t) (appendOf p bytes b t)
-unfolding appendOf
-in-append p bytes b t w h = go (ltb (textCapacity (length t) - p .text) (length bytes)) refl
-  where
-    go : (x : Bool) → ltb (textCapacity (length t) - p .text) (length bytes) ≡ x
-        → ReadyIn w (length t) (cond x (off (refusal TextRoom)) (on (longer p (length bytes)) b (sets t (p .text) bytes)))
-    go true e = tt
-    go false e =
-        let l : length bytes ≤ textCapacity (length t) - p .text = ltb-false (textCapacity (length t) - p .text) (length bytes) e in
-        still-more p w (length t) (textCapacity (length t)) (length bytes) (h .page) refl (h .text) l
-
-in-to : (w v : ℕ) (l : Laying) (bytes : List ℕ) → Kept w v l → ReadyIn w v l → ReadyIn w v (appendTo l bytes)
-in-to w v (on p b t) bytes k h = rw (← k .1) (in-append p bytes b t w (rw (k .1) h))
-in-to w v (off r) bytes k h = tt
-
-in-add : (p : Page) (s : Style) (bytes b t : List ℕ) → Ready p (length b) (length t) → ReadyIn (length b) (length t) (addOf p s bytes b t)
-unfolding addOf
-in-add p s bytes b t h = in-to (length b) (length t) (startOf p s b t) bytes (kept-start p s b t) (in-start p s b t (length t) h)
-
-in-on : (w v : ℕ) (l : Laying) (x : Piece) → Kept w v l → ReadyIn w v l → ReadyIn w v (laidOn l x)
-in-on w v (on p b t) x k h = rw (← k .0, ← k .1) (in-add p (x .style) (x .bytes) b t (rw (k .0, k .1) h))
-in-on w v (off r) x k h = tt
-
-in-stop : (w v : ℕ) (l : Laying) (r : Refusal) → ReadyIn w v (layAll l (stop r))
-unfolding layAll
-in-stop w v (on p b t) r = tt
-in-stop w v (off q) r = tt
-
-in-lay : (w v : ℕ) (s : Stream Piece) (l : Laying) → Kept w v l → ReadyIn w v l → ReadyIn w v (layAll l s)
-unfolding layAll
-in-lay w v end l k h = h
-in-lay w v (stop r) l k h = in-stop w v l r
-in-lay w v (x ▸ s) l k h = in-lay w v s (laidOn l x) (kept-on w v l x k) (in-on w v l x k h)
-
-module _ {p′ : Page} {b′ t′ : List ℕ} where
-  pub ready-start : (p : Page) (s : Style) (b t : List ℕ) → Ready p (length b) (length t) → startOf p s b t ≡ on p′ b′ t′ → Ready p′ (length b′) (length t′)
-  ready-start p s b t h e =
-      let k = start-lengths p s b t e in
-      let g : Ready p′ (length b) (length t) = rw e at (in-start p s b t (length t) h) in
-      rw (k .0, k .1) g
-
-  pub ready-append : (p : Page) (bytes b t : List ℕ) → Ready p (length b) (length t) → appendOf p bytes b t ≡ on p′ b′ t′ → Ready p′ (length b′) (length t′)
-  ready-append p bytes b t h e =
-      let k = append-lengths p bytes b t e in
-      let g : Ready p′ (length b) (length t) = rw e at (in-append p bytes b t (length b) h) in
-      rw (k .0, k .1) g
-
-  pub ready-add : (p : Page) (s : Style) (bytes b t : List ℕ) → Ready p (length b) (length t)
-      → addOf p s bytes b t ≡ on p′ b′ t′ → Ready p′ (length b′) (length t′)
-  ready-add p s bytes b t h e =
-      let k = add-lengths p s bytes b t e in
-      let g : Ready p′ (length b) (length t) = rw e at (in-add p s bytes b t h) in
-      rw (k .0, k .1) g
-
-  pub ready-lay : (p : Page) (b t : List ℕ) (s : Stream Piece) → Ready p (length b) (length t)
-      → layAll (on p b t) s ≡ on p′ b′ t′ → Ready p′ (length b′) (length t′)
-  ready-lay p b t s h e =
-      let k = lay-lengths p b t s e in
-      let g : Ready p′ (length b) (length t) = rw e at (in-lay (length b) (length t) s (on p b t) (refl, refl) h) in
-      rw (k .0, k .1) g
-
--- a block, and then text in parts
-pub add-start : (p : Page) (s : Style) (bytes b t : List ℕ) → addOf p s bytes b t ≡ appendTo (startOf p s b t) bytes
-unfolding addOf
-add-start p s bytes b t = refl
-
-to-none : (l : Laying) → appendTo l [] ≡ l
-to-none (on p b t) = append-none p b t
-to-none (off r) = refl
-
-to-append : (w v : ℕ) (l : Laying) (a c : List ℕ) → Kept w v l → ReadyIn w v l → appendTo (appendTo l a) c ≡ appendTo l (a ++ c)
-to-append w v (on p b t) a c k h = append-append p a c b t (rw (k .1) (h .text))
-to-append w v (off r) a c k h = refl
-
-pub add-none : (p : Page) (s : Style) (b t : List ℕ) → addOf p s [] b t ≡ startOf p s b t
-unfolding addOf
-add-none p s b t = to-none (startOf p s b t)
-
-pub add-append : (p : Page) (s : Style) (a c b t : List ℕ) → Ready p (length b) (length t) → appendTo (addOf p s a b t) c ≡ addOf p s (a ++ c) b t
-unfolding addOf
-add-append p s a c b t h = to-append (length b) (length t) (startOf p s b t) a c (kept-start p s b t) (in-start p s b t (length t) h)
 
 -- what `finish` and `count` ask
 pub ready-finish : (p : Page) (w v : ℕ) → Ready p w v → (p .from ≤ p .text) × (p .text ≤ 2147483647)

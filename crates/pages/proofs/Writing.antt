@@ -5,10 +5,10 @@
 --     start-.., append-.., add-..   what the code answers is what laying says
 --     still-..              and what it asks holds again
 -- Assumes nothing.
-use mathlib.Core.Path.{_≡_, refl, sym, ap, _∙_}
+use mathlib.Core.Path.{_≡_, refl, sym, _∙_}
 use mathlib.Core.List.{List, [], _∷_, _++_}
 use mathlib.Core.Bool.{Bool, true, false, cond, _&&_}
-use Prim.Native.Nat.{ℕ, suc, _+_, _-_, _*_, _<_, _≤_}
+use Prim.Native.Nat.{ℕ, _+_, _-_, _<_, _≤_}
 use native.Mathlib.Numerals.{add-one}
 use native.Mathlib.Omega.{arith}
 use borrow.Author.Tests.{lt-ltb, le-ltb, ltb-true, ltb-false}
@@ -33,12 +33,6 @@ module _ (p : Page) where
 
   pub last-none : (b : List ℕ) → p .begun ≡ false → b ≡ lastPut p b
   last-none b e = rw e
-
-  pub count-begun : p .begun ≡ true → p .blocks + 1 ≡ blockCount p
-  count-begun e = rw e
-
-  pub count-none : p .begun ≡ false → p .blocks ≡ blockCount p
-  count-none e = rw e
 
   pub count-le : p .blocks ≤ blockCount p
   count-le = go (p .begun)

@@ -6,7 +6,7 @@
 -- Assumes nothing.
 use mathlib.Core.Path.{_≡_, refl, sym, ap, _∙_}
 use mathlib.Core.List.{List, [], _∷_, _++_}
-use Prim.Native.Nat.{ℕ, _+_, _-_, _*_, _≤_, _<_}
+use Prim.Native.Nat.{ℕ, _+_, _-_, _*_, _≤_}
 use native.Mathlib.Omega.{arith}
 use lib.ListN.{length, take, replicate, length-take}
 use Rattle.answers.specs.declared.Refusal.{Refusal}
@@ -25,14 +25,14 @@ use Rattle.styles.specs.declared.Reading.{Reading}
 use Rattle.pages.specs.declared.Page.{Page}
 use Rattle.pages.specs.declared.Laid.{Laid}
 use Rattle.pages.specs.declared.Laid.the-variants.{On, Full}
-use Rattle.rooms.specs.Rooms.{capacity, filled, tableLimit}
+use Rattle.rooms.specs.Rooms.{filled, tableLimit}
 use Rattle.rooms.proofs.Clearing.{filled-front}
-use Rattle.pages.specs.Pages.{Piece, blocks, textOf, records, textCapacity}
-use Rattle.pages.specs.Laying.{Laying, on, off, told, blank, blockCount, lastPut, layAll}
+use Rattle.pages.specs.Pages.{Piece, blocks}
+use Rattle.pages.specs.Laying.{on, told, blank, blockCount, lastPut, layAll}
 use Rattle.pages.proofs.Settling.{lay-refuses, lay-joins, Joined, Filled, joined-filled}
 use Rattle.walk.specs.Walk.{walk}
 use Rattle.body.specs.Body.{body}
-use Rattle.rows.specs.Rows.{tableWords, InFront}
+use Rattle.rows.specs.Rows.{tableWords}
 use Rattle.rows.proofs.Tables.{length-table}
 use Rattle.header.specs.declared.Header.{Header}
 use Rattle.header.specs.declared.Header.the-variants.{Read as Headed, Refused as Unheaded}
@@ -40,7 +40,7 @@ use Rattle.entering.specs.Entering.{Tables}
 use Rattle.header.specs.Header.{tables, ReadHeader}
 use Rattle.parser.specs.declared.Answer.{Answer}
 use Rattle.parser.specs.declared.Answer.the-variants.{Read, Refuses}
-use Rattle.parser.specs.Parsing.{Sizes, Letter, begun, ended, placed, bodied, headed, walked}
+use Rattle.parser.specs.Parsing.{Sizes, begun, ended, placed, bodied, headed, walked}
 use Rattle.parser.specs.Parts.{Starts, firstOf, BodyInto, LetterInto}
 
 -- the first token
@@ -75,9 +75,6 @@ module _ (rd : Reading) (ts : List Shown) (b t : List ℕ) (n f c : ℕ) where
       joined : Joined stream b t p b₁ t₁
       unfolding placed
       joined = lay-joins (body rd (walk ts)) b t (sym h ∙ ap (λ (m : Laid). told m b₁ t₁) e)
-
-      pub count-fits : (blockCount p ≤ capacity 13 (length b)) × (p .text ≤ textCapacity (length t))
-      count-fits = (joined .fits, joined .room)
 
       pub body-laid : {cnt : ℕ} {b₂ b₃ t₂ : List ℕ} → b₂ ≡ lastPut p b₁ → cnt ≡ blockCount p → b₃ ≡ take (cnt * 13) b₂ ++ replicate (length b₂ - cnt * 13) 0
           → t₂ ≡ take (p .text) t₁ ++ replicate (length t₁ - p .text) 0

@@ -5,15 +5,14 @@
 --     cut-shown         those of a source
 -- Assumes nothing.
 use mathlib.Core.Path.{_≡_, refl, sym, ap, _∙_}
-use mathlib.Core.List.{List, [], _∷_, _++_}
+use mathlib.Core.List.{List, _∷_, _++_}
 use mathlib.Core.Bool.{Bool, true, false, cond}
-use Prim.Native.Nat.{ℕ, zero, suc, _+_, _-_, _*_, _≤_, _<_}
+use Prim.Native.Nat.{ℕ, suc, _+_, _-_, _*_, _≤_, _<_}
 use native.Mathlib.Nat.{div-mul-le-self, mul-le-mul-right, le-trans}
 use native.Mathlib.Omega.{arith}
 use borrow.Author.Tests.{ne-eqb, leb-true}
-use lib.ListN.{length, take, drop, replicate}
+use lib.ListN.{length, replicate}
 use lib.Dec.{leb, eqb}
-use Rattle.answers.specs.declared.Refusal.{Refusal}
 use Rattle.answers.specs.declared.Why.the-variants.{TokenRoom}
 use Rattle.answers.specs.declared.Outcome.{Outcome}
 use Rattle.answers.specs.declared.Outcome.the-variants.{Done, Refused}
@@ -31,7 +30,7 @@ use Rattle.cutter.proofs.Places.{Placed, stream-places}
 use Rattle.cutter.proofs.Counts.{count-stream}
 use Rattle.items.specs.declared.Item.{Item}
 use Rattle.items.specs.declared.Item.the-variants.{Unknown, Word}
-use Rattle.items.specs.Items.{propertyOf, wordItem, itemOf, itemAt, part, shownOf, shownAll}
+use Rattle.items.specs.Items.{propertyOf, itemOf, itemAt, part, shownOf, shownAll}
 use Rattle.reader.specs.Reading.{shownBy}
 
 number-back : (num : Property) → propertyOf (hasOf num) (valueOf num) ≡ num

@@ -3,10 +3,10 @@
 --     read-refused, read-done      the answer and the five rooms
 -- Assumes nothing.
 use mathlib.Core.Path.{_≡_, refl, sym, ap, _∙_}
-use mathlib.Core.List.{List, [], _∷_, _++_}
-use Prim.Native.Nat.{ℕ, _*_, _≤_}
+use mathlib.Core.List.{List}
+use Prim.Native.Nat.{ℕ}
 use native.Mathlib.Omega.{arith}
-use lib.ListN.{length, replicate}
+use lib.ListN.{replicate}
 use Rattle.answers.specs.declared.Refusal.{Refusal}
 use Rattle.answers.specs.declared.Outcome.{Outcome}
 use Rattle.answers.specs.declared.Outcome.the-variants.{Done, Refused}
@@ -22,7 +22,7 @@ use Rattle.parser.specs.declared.Answer.{Answer}
 use Rattle.parser.specs.declared.Answer.the-variants.{Read, Refuses}
 use Rattle.parser.specs.Parsing.{begun, Sizes, Letter, walked}
 use Rattle.parser.specs.Parts.{LetterInto}
-use Rattle.reader.specs.Reading.{shownBy, cut, letterOf, tokenCount, answered, readAnswer, holding, tokenRoom, fontRoom, colourRoom, blockRoom, textRoom}
+use Rattle.reader.specs.Reading.{cut, letterOf, tokenCount, readAnswer, tokenRoom, fontRoom, colourRoom, blockRoom, textRoom}
 use Rattle.reader.proofs.Tokens.{cut-counts, cut-room, cut-shown, length-items}
 
 -- what the contract of `read` says

@@ -20,12 +20,6 @@ done-done : (n m : ℕ) → Done n ≡ Done m → n ≡ m
 done-done n m e = cc
 
 module _ {A : Type 0} where
-  pub then-end : (a : Stream A) → andThen a end ≡ a
-  unfolding andThen
-  then-end end = refl
-  then-end (stop r) = refl
-  then-end (x ▸ a) = ap (λ (s : Stream A). x ▸ s) (then-end a)
-
   pub then-then : (a b c : Stream A) → andThen (andThen a b) c ≡ andThen a (andThen b c)
   unfolding andThen
   then-then end b c = refl
@@ -59,12 +53,6 @@ module _ {A : Type 0} where
     answer-stops (x ▸ a) n r e = answer-stops a (n + 1) r e
 
 module _ {A B : Type 0} (f : A → B) where
-  pub each-then : (a b : Stream A) → each f (andThen a b) ≡ andThen (each f a) (each f b)
-  unfolding each andThen
-  each-then end b = refl
-  each-then (stop r) b = refl
-  each-then (x ▸ a) b = ap (λ (s : Stream B). f x ▸ s) (each-then a b)
-
   pub count-each : (s : Stream A) → count (each f s) ≡ count s
   unfolding each count
   count-each end = refl
@@ -94,13 +82,6 @@ module _ {A : Type 0} (P : A → Type 0) where
   Each-weaken Q f end h = tt
   Each-weaken Q f (stop r) h = tt
   Each-weaken Q f (x ▸ s) h = (f x (h .0), Each-weaken Q f s (h .1))
-
-  pub Each-items : (s : Stream A) → Each P s → (i : ℕ) (d : A) → i < length (items s) → P (getD (items s) i d)
-  unfolding items
-  Each-items end h i d l = absurd (omega arith)
-  Each-items (stop r) h i d l = absurd (omega arith)
-  Each-items (x ▸ s) h zero d l = h .0
-  Each-items (x ▸ s) h (suc i) d l = Each-items s (h .1) i d (omega arith)
 
   -- either way of a choice
   pub Each-either : (t : Bool) (a b : Stream A) → Each P a → Each P b → Each P (cond t a b)

@@ -6,20 +6,20 @@
 --     Reads, stored-reads              what a list reads to
 -- Assumes nothing.
 use mathlib.Core.Path.{_≡_, refl, sym, ap, _∙_}
-use mathlib.Core.List.{List, [], _∷_, _++_, append-nil}
+use mathlib.Core.List.{List, [], _∷_, _++_}
 use mathlib.Core.Bool.{Bool, true, false, cond, not, _&&_}
-use Prim.Native.Nat.{ℕ, zero, suc, _+_, _-_, _≤_, _<_}
+use Prim.Native.Nat.{ℕ, zero, suc, _+_, _-_, _≤_}
 use native.Mathlib.Omega.{arith}
 use borrow.Author.Tests.{le-ltb, ne-eqb, ltb-false}
 use lib.ListN.{length, take, replicate, length-append}
 use lib.Seq.{take-at}
 use lib.Dec.{ltb, eqb}
 use Rattle.answers.specs.declared.Outcome.{Outcome}
-use Rattle.answers.specs.declared.Outcome.the-variants.{Done, Refused}
+use Rattle.answers.specs.declared.Outcome.the-variants.{Done}
 use Rattle.answers.specs.declared.Why.the-variants.{BlockRoom, TextRoom}
 use Rattle.answers.specs.Answers.{refusal}
 use Rattle.rooms.proofs.Streams.{done-refused}
-use Rattle.rooms.specs.Streams.{Stream, end, stop, _▸_, items, count, answer}
+use Rattle.rooms.specs.Streams.{Stream, end, stop, _▸_, items, answer}
 use Rattle.styles.specs.declared.Style.{Style}
 use Rattle.rooms.specs.Rooms.{filled}
 use Rattle.styles.specs.Styles.{sameStyle, styleWords}

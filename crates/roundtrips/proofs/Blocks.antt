@@ -5,13 +5,12 @@ use mathlib.Core.List.{List, [], _∷_, _++_, append-assoc}
 use mathlib.Core.Bool.{Bool, true, false, cond, _&&_}
 use Prim.Native.Nat.{ℕ, zero, suc, _+_, _-_, _≤_, _<_}
 use native.Mathlib.Omega.{arith}
-use borrow.Author.Tests.{le-leb, lt-ltb, ltb-true}
-use lib.ListN.{length, take, drop, getD, length-append, length-take, length-drop}
-use lib.Seq.{drop-append-seam, take-append-seam, take-add, take-suc, length-take-le, take-all, drop-drop}
+use borrow.Author.Tests.{le-leb, lt-ltb}
+use lib.ListN.{length, take, drop, getD, length-append, length-drop}
+use lib.Seq.{drop-append-seam, take-append-seam, take-add, take-suc, length-take-le, take-all}
 use lib.Dec.{ltb, leb}
 use Rattle.answers.specs.declared.Why.the-variants.{StoredShort, StoredField}
 use Rattle.answers.specs.Answers.{refusal, Found, found, refused}
-use Rattle.bytes.proofs.Runs.{and-left, and-right}
 use Rattle.wellformed.specs.WellFormed.{isUtf8}
 use Rattle.styles.specs.declared.Style.{Style}
 use Rattle.styles.specs.Styles.{styleWords}

@@ -6,12 +6,12 @@
 use mathlib.Core.Path.{_≡_, refl, sym, ap, _∙_}
 use mathlib.Core.List.{List, [], _∷_, _++_, append-assoc}
 use mathlib.Core.Bool.{true}
-use Prim.Native.Nat.{ℕ, zero, suc, _+_, _≤_, _<_}
+use Prim.Native.Nat.{ℕ, zero, suc, _+_, _<_}
 use native.Mathlib.Omega.{arith}
-use lib.ListN.{length, take, drop, length-append, take-append-drop}
+use lib.ListN.{length, take, drop, take-append-drop}
 use lib.Seq.{drop-append-seam, take-append-seam, drop-drop}
-use Rattle.answers.specs.declared.Outcome.the-variants.{Done, Refused}
-use Rattle.rooms.specs.Streams.{Stream, end, stop, _▸_, items, answer}
+use Rattle.answers.specs.declared.Outcome.the-variants.{Done}
+use Rattle.rooms.specs.Streams.{Stream, _▸_, items, answer}
 use Rattle.rooms.proofs.Streams.{done-refused}
 use Rattle.sevens.specs.declared.Numeral.{Numeral}
 use Rattle.sevens.specs.declared.Numeral.the-variants.{Is as Numbered, Bad as BadNumber, Short}

@@ -1,10 +1,10 @@
 -- Numbers one after the other, there and back.
 -- Assumes nothing.
-use mathlib.Core.Path.{_≡_, refl, sym, ap, _∙_}
+use mathlib.Core.Path.{_≡_, refl, ap, _∙_}
 use mathlib.Core.List.{List, [], _∷_, _++_, append-assoc}
 use Prim.Native.Nat.{ℕ, zero, suc, _+_, _≤_, _<_}
 use native.Mathlib.Omega.{arith}
-use lib.ListN.{length, take, drop, getD, length-append}
+use lib.ListN.{length, take, drop, length-append}
 use lib.Seq.{drop-append-seam, take-add}
 use Rattle.answers.specs.Answers.{Found, found, refused}
 use Rattle.sevens.specs.declared.Numeral.{Numeral}

@@ -4,7 +4,7 @@
 --     one-form        so two lists that read as the same blocks and text are the same bytes
 -- All are about the definitions that the contracts of `stored::read_list` and `storing::write_list` cite. Assumes nothing.
 use mathlib.Core.Path.{_≡_, refl, sym, ap, subst, _∙_}
-use mathlib.Core.List.{List, _++_}
+use mathlib.Core.List.{List}
 use mathlib.Core.Bool.{Bool, true, false, cond}
 use Prim.Native.Nat.{ℕ, _+_, _*_, _/_, _≤_, _<_}
 use native.Mathlib.Omega.{arith}
@@ -25,8 +25,8 @@ use Rattle.pages.specs.Pages.{Piece, none, blocks, textOf, records, roomy, text
 use Rattle.pages.proofs.Blocks.{length-records}
 use Rattle.stored.specs.declared.Counts.{Counts}
 use Rattle.stored.specs.declared.Answer.{Answer}
-use Rattle.stored.specs.declared.Answer.the-variants.{Read, Refuses}
-use Rattle.stored.specs.Stored.{stored, placed, countsOf, answered, storedAnswer, storedBlocks, storedText}
+use Rattle.stored.specs.declared.Answer.the-variants.{Read}
+use Rattle.stored.specs.Stored.{stored, placed, answered, storedAnswer, storedBlocks, storedText}
 use Rattle.putting.specs.Blocks.{listBytes}
 use Rattle.storing.specs.Good.{Good}
 use Rattle.lists.specs.Lists.{listStream}
@@ -34,7 +34,7 @@ use Rattle.storing.specs.Storing.{writeAnswer, writeRoom}
 use Rattle.storing.proofs.Writing.{stream-ends, write-good}
 use Rattle.roundtrips.specs.Trips.{Bytes, Words, Small, all}
 use Rattle.roundtrips.proofs.Lists.{list-written, Accepted, list-read}
-use Rattle.roundtrips.proofs.Ample.{items-all, roomy-all, roomy-whole, roomy-text, blocks-apart, small-records, take-filled, Reads, stored-reads}
+use Rattle.roundtrips.proofs.Ample.{roomy-all, roomy-whole, roomy-text, small-records, take-filled, Reads, stored-reads}
 
 -- ---- what the writer writes
 

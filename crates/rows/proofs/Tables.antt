@@ -54,11 +54,6 @@ up-at (f ∷ fs) h i zero a b = absurd (omega arith)
 up-at (f ∷ fs) h zero (suc j) a b = above-at (f .key) fs (h .0) j (omega arith)
 up-at (f ∷ fs) h (suc i) (suc j) a b = up-at fs (h .1) i j (omega arith) (omega arith)
 
-pub keys-at : (fs : List Font) → Keys fs → (i : ℕ) → i < length fs → keyOf fs i < 65536
-keys-at [] h i l = absurd (omega arith)
-keys-at (f ∷ fs) h zero l = h .0
-keys-at (f ∷ fs) h (suc i) l = keys-at fs (h .1) i (omega arith)
-
 above-weaken : (j k : ℕ) → j ≤ k → (fs : List Font) → Above k fs → Above j fs
 above-weaken j k l [] h = tt
 above-weaken j k l (f ∷ fs) h = (let u : k < f .key = h .0 in omega arith, above-weaken j k l fs (h .1))

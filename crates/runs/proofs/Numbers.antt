@@ -1,5 +1,5 @@
 -- A run's numbers, read from the room. Assumes nothing.
-use mathlib.Core.Path.{_≡_, refl, sym, ap, _∙_}
+use mathlib.Core.Path.{_≡_, refl, ap, _∙_}
 use mathlib.Core.List.{List, [], _∷_}
 use mathlib.Core.Bool.{Bool, true, false, cond, false≢true}
 use Prim.Native.Nat.{ℕ, zero, suc, _≤_}
@@ -7,7 +7,6 @@ use native.Mathlib.Omega.{arith}
 use lib.ListN.{getD, drop}
 use lib.Dec.{eqb}
 use Rattle.tokens.specs.declared.Property.{Property}
-use Rattle.tokens.specs.Tokens.{Shown}
 use Rattle.items.specs.declared.Item.{Item}
 use Rattle.items.specs.declared.Item.the-variants.{Text, Opening, Closing, LineBreak, Ignorable, Word, Unknown}
 use Rattle.items.specs.Items.{itemOf, itemAt, shownOf, shownAll, numberAt}
@@ -43,13 +42,3 @@ run-numbers src (suc n) ws = go (isUnit (shownOf src (itemAt ws))) refl (run-num
         → numbersOf (cond u (suc (runLength (shownAll src n (drop 6 ws)))) zero) ws ≡ cond u (numberOf (shownOf src (itemAt ws)) ∷ runNumbers (shownAll src n (drop 6 ws))) []
     go true e ih = ap (λ (m : Property). m ∷ numbersOf (runLength (shownAll src n (drop 6 ws))) (drop 6 ws)) (unit-number src ws e) ∙ ap (λ (ns : List Property). numberOf (shownOf src (itemAt ws)) ∷ ns) ih
     go false e ih = refl
-
--- it is no longer than the tokens
-pub run-fits : (src : List ℕ) (n : ℕ) (ws : List ℕ) → runLength (shownAll src n ws) ≤ n
-unfolding shownAll runLength
-run-fits src zero ws = omega arith
-run-fits src (suc n) ws = go (isUnit (shownOf src (itemAt ws))) (run-fits src n (drop 6 ws))
-  where
-    go : (u : Bool) → runLength (shownAll src n (drop 6 ws)) ≤ n → cond u (suc (runLength (shownAll src n (drop 6 ws)))) zero ≤ suc n
-    go true h = omega arith
-    go false h = omega arith

@@ -7,10 +7,10 @@
 use mathlib.Core.Path.{_≡_, refl, sym, ap, _∙_}
 use mathlib.Core.List.{List, [], _∷_, _++_}
 use mathlib.Core.Bool.{Bool, true, false, cond}
-use Prim.Native.Nat.{ℕ, zero, suc, _+_, _-_, _*_, _≤_, _<_}
+use Prim.Native.Nat.{ℕ, _+_, _-_, _*_, _≤_, _<_}
 use native.Mathlib.Omega.{arith}
 use borrow.Author.Tests.{ltb-false}
-use lib.ListN.{length, take, drop, length-take}
+use lib.ListN.{length, take, length-take}
 use lib.Seq.{sets}
 use lib.Dec.{ltb}
 use Rattle.answers.specs.declared.Refusal.{Refusal}
@@ -25,7 +25,7 @@ use Rattle.utf8.specs.Utf8.{written, encodedOf}
 use Rattle.utf8.proofs.Utf8.{encoded-length, encoded-bytes}
 use Rattle.units.specs.declared.Run.{Run}
 use Rattle.units.specs.declared.Gave.{Gave}
-use Rattle.units.specs.Units.{units, utf8All, values, flushed, step, before, runText}
+use Rattle.units.specs.Units.{units, utf8All, values, step, before, runText}
 use Rattle.units.proofs.Units.{Fit, fit-before, fit-step, rest, text-start, text-step, text-end, text-values, text-flushed}
 use Rattle.styles.specs.declared.Style.{Style}
 use Rattle.pages.specs.declared.Page.{Page}

@@ -24,7 +24,7 @@ ghost use mathlib.Core.List.{List, _++_};
 ghost use Prim.Native.Nat.{ℕ, _*_, _≤_, _<_};
 ghost use lib.ListN.{length};
 ghost use Rattle.items.specs.Items.{shownOf, shownAll};
-ghost use Rattle.units.specs.Units.{units as unitsOf, unitOf, utf8All, values, runText};
+ghost use Rattle.units.specs.Units.{units as unitsOf, unitOf, values, runText};
 ghost use Rattle.pages.specs.Pages.{textCapacity};
 ghost use Rattle.pages.specs.Laying.{told, Ready, Still};
 ghost use Rattle.runs.specs.Runs.{isUnit, runLength, numbersOf, some as someOf, saidOf, Appends, runLaid};

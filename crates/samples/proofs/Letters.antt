@@ -1,7 +1,7 @@
 -- 01's sample letters, as one list under one statement: each is computed through the whole of the definitions. Assumes nothing.
 use mathlib.Core.Path.{_≡_, refl}
-use mathlib.Core.List.{List, [], _∷_, _++_}
-use mathlib.Core.Bool.{Bool, true, false, _&&_}
+use mathlib.Core.List.{List, [], _∷_}
+use mathlib.Core.Bool.{Bool, true, _&&_}
 use Prim.Native.Nat.{ℕ}
 use Prim.Native.String.{String}
 use lib.ListN.{length}
@@ -12,7 +12,7 @@ use Rattle.bytes.specs.Texts.{bytesOf}
 use Rattle.names.specs.Names.{sameBytes, placeIn, wordNumber}
 use Rattle.numbers.specs.Numbers.{hexDigit, hexPair, digitsFrom, digits, decimal}
 use Rattle.rooms.specs.Streams.{andThen, each, answer, items}
-use Rattle.rooms.specs.Rooms.{encode, settled, content, tableLimit}
+use Rattle.rooms.specs.Rooms.{settled, tableLimit}
 use Rattle.slices.specs.Slices.{split, slices}
 use Rattle.tokens.specs.Tokens.{recordOf}
 use Rattle.tokenize.specs.Tokenize.{mark, plain, hexValue, hexEscape, lineBreakAnd, shownWord, numbered, named, bareLength, wordTail, word, other, escaped, tokens}
@@ -26,9 +26,8 @@ use Rattle.colours.specs.Colours.{colourWordOf, colourToken, coloursFrom, colou
 use Rattle.header.specs.Header.{tablesFrom}
 use Rattle.styles.specs.declared.Reading.the-variants.{Plain}
 use Rattle.styles.specs.Styles.{flagged, fitted, alignment, spacing, measured, character, change, flagsNumber, styleOf}
-use Rattle.pages.specs.Pages.{blocksFrom, blocks, textOf, blockRecord, records, roomy}
+use Rattle.pages.specs.Pages.{blocksFrom, blocks, textOf, records, roomy}
 use Rattle.body.specs.Body.{gather, asks, bodyFrom}
-use Rattle.parser.specs.declared.Answer.{Answer}
 use Rattle.parser.specs.Parsing.{Sizes, Letter, placed, bodied, answerNumber}
 use Rattle.reader.specs.Reading.{shownBy, letterOf, answered}
 

@@ -2,7 +2,7 @@
 -- groups that may have the high bit: n < 128 ^ suc k.
 --     groups-sum, written-sum          the groups' sum of powers is the number
 --     groups-length, written-length    1 to 5 bytes
---     groups-bytes, written-bytes      below 256
+--     groups-bytes                     below 256
 --     high-groups, groups-least        how many have the high bit; as few as can be
 --     Whole, whole-is, is-whole        what it takes for a list to start with a number, and its value and length
 --     number-within                    a number that was read has 1 to 5 bytes of the list, and 32 bits
@@ -76,26 +76,6 @@ groups-length (suc k) n =
 
 pub written-length : (n : ℕ) → (1 ≤ length (written n)) × (length (written n) ≤ 5)
 written-length n = groups-length 4 n
-
--- by the first byte
-bytes-cons : (b : ℕ) (s : List ℕ) → b < 256 → ((i : ℕ) → getD s i 0 < 256) → (i : ℕ) → getD (b ∷ s) i 0 < 256
-bytes-cons b s h t zero = h
-bytes-cons b s h t (suc i) = t i
-
-bytes-one : (b : ℕ) → b < 256 → (i : ℕ) → getD (b ∷ []) i 0 < 256
-bytes-one b h zero = h
-bytes-one b h (suc i) = omega arith
-
-pub groups-bytes : (k n : ℕ) → n < 128 ^ suc k → (i : ℕ) → getD (groups k n) i 0 < 256
-unfolding groups
-groups-bytes zero n h = bytes-one n (omega arith)
-groups-bytes (suc k) n h =
-    by-groups k n (λ (s : List ℕ). (i : ℕ) → getD s i 0 < 256)
-    (λ l. bytes-one n (omega arith))
-    (λ l. bytes-cons (128 + n % 128) (groups k (n / 128)) (omega arith) (groups-bytes k (n / 128) (fewer k n h)))
-
-pub written-bytes : (n : ℕ) → n < 4294967296 → (i : ℕ) → getD (written n) i 0 < 256
-written-bytes n h = groups-bytes 4 n (omega arith)
 
 -- ---- bytes with the high bit
 

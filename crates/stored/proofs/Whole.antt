@@ -20,7 +20,6 @@ use Rattle.pages.specs.declared.Laid.the-variants.{On, Full}
 use Rattle.pages.specs.Pages.{Piece, none, blocks}
 use Rattle.pages.specs.Laying.{Laying, on, off, told, blank, blockCount, lastPut, layAll}
 use Rattle.pages.proofs.Settling.{lay-refuses, lay-joins, Joined, Filled, joined-filled}
-use Rattle.stored.specs.declared.Counts.{Counts}
 use Rattle.stored.specs.declared.Answer.{Answer}
 use Rattle.stored.specs.declared.Answer.the-variants.{Read, Refuses}
 use Rattle.stored.specs.Stored.{blocksFrom, stored, placed, storedAnswer, storedBlocks, storedText}

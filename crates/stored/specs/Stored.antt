@@ -3,11 +3,10 @@
 use Prim.Native.Nat.{ℕ, zero, suc, _+_}
 use mathlib.Core.List.{List, [], _∷_}
 use lib.ListN.{length, take, drop, replicate}
-use Rattle.answers.specs.declared.Refusal.{Refusal}
 use Rattle.answers.specs.declared.Outcome.{Outcome}
 use Rattle.answers.specs.declared.Outcome.the-variants.{Done, Refused}
 use Rattle.answers.specs.declared.Why.the-variants.{StoredNumber, StoredShort, StoredLong}
-use Rattle.answers.specs.Answers.{refusal, whyNumber, outcomeNumber}
+use Rattle.answers.specs.Answers.{refusal, whyNumber}
 use Rattle.rooms.specs.Streams.{Stream, end, stop, _▸_, items, answer}
 use Rattle.rooms.specs.Rooms.{capacity, filled}
 use Rattle.sevens.specs.declared.Numeral.{Numeral}

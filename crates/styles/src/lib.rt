@@ -11,7 +11,6 @@ use answers::Why;
 use tokens::Property;
 ghost use mathlib.Core.Path.{_≡_};
 ghost use Prim.Native.Nat.{_≤_, _<_};
-ghost use mathlib.Core.Bool.{cond};
 ghost use Rattle.styles.specs.Styles.{freshFlags, freshPainter, freshParagraph, fresh as freshState, isOn, flagged, flagging, fitted, fitting, alignment as alignmentOf, aligning, lined, spacing, measured, character as characterOf, ending as endingOf, change as changeOf, bit as bitOf, flagsNumber, styleOf, sameStyle};
 
 pub struct Flags {

@@ -24,7 +24,6 @@ use tokens::Property;
 use tokens::Record;
 use tokens::put;
 ghost use mathlib.Core.Path.{_≡_};
-ghost use mathlib.Core.List.{_∷_};
 ghost use Prim.Native.Nat.{_+_, _≤_, _<_};
 ghost use lib.ListN.{length};
 ghost use Rattle.names.specs.Names.{rows};

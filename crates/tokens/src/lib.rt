@@ -6,7 +6,6 @@
 //
 // The definitions say more of a token than its six words do: they keep the slice that it was cut from.
 ghost use mathlib.Core.Path.{_≡_};
-ghost use Prim.Native.Nat.{_≤_};
 ghost use Rattle.rooms.specs.Rooms.{put as putWords};
 ghost use Rattle.tokens.specs.Tokens.{tokenWords, recordWords, hasOf, valueOf, bareRecord, textRecord, wordRecord, unknownRecord};
 

@@ -7,8 +7,7 @@
 --     unitOf-small, units-small, kept-small              units are below 65,536 if numbers fit their words
 --     decode-scalars, run-scalars, value-scalar, values-scalars     values are scalar values
 --     value-written, text-values, text-flushed           so `encode` writes their UTF-8
---     begun-keeps, begun-unit, still-step, step-none, values-nothing, units-none    which runs have begun
---     runText-none, runText-some         a text is empty if there is no unit, and only then
+--     runText-some                       a text is not empty if there is a unit
 -- Assumes nothing.
 use mathlib.Core.Path.{_≡_, refl, sym, ap, _∙_}
 use mathlib.Core.List.{List, [], _∷_, _++_, append-nil, append-assoc}
@@ -160,10 +159,6 @@ staying-keeps skip run u us = go (run .begun)
         → cond t (later skip (run .skipped) (u ∷ us)) (kept skip (u ∷ us)) ≡ u ∷ later skip 0 us
     go true p = rw p
     go false p = refl
-
--- a kept unit: the run has begun
-begun-taken : (run : Run) (u : ℕ) → taken run u .run .begun ≡ true
-begun-taken run u = by-taken run u (λ (g : Gave). g .run .begun ≡ true) (λ p q. refl) (λ p q. refl) (λ p q. refl)
 
 staying-taken : (skip : ℕ) (run : Run) (u : ℕ) (us : List ℕ) → staying skip (taken run u .run) us ≡ later skip 0 us
 unfolding staying
@@ -359,48 +354,6 @@ text-flushed run = go (ltb 0 (run .high))
     go : (t : Bool) → utf8All (cond t (65533 ∷ []) []) ≡ cond t (written 65533) []
     go true = rw (written-scalar 65533 refl, append-nil)
     go false = refl
-
--- ---- whether a run has begun
-
-module _ (skip : ℕ) (run : Run) (n : Property) where
-  pub begun-keeps : run .begun ≡ true → step skip run n .run .begun ≡ true
-  unfolding step metAny
-  begun-keeps b =
-      by-unit n (λ (us : List ℕ). metAny skip run us .run .begun ≡ true) b
-      (λ u. by-met skip run u (λ (g : Gave). g .run .begun ≡ true) (λ p q. refl) (λ p. begun-taken run u))
-
-  pub begun-unit : (u : ℕ) (us : List ℕ) → unitOf n ≡ u ∷ us → step skip run n .run .begun ≡ true
-  unfolding step metAny
-  begun-unit u us e = rw e (by-met skip run u (λ (g : Gave). g .run .begun ≡ true) (λ p q. refl) (λ p. begun-taken run u))
-
-  -- a number without a unit changes nothing
-  pub step-none : unitOf n ≡ [] → step skip run n ≡ nothing run
-  unfolding step metAny
-  step-none e = rw e
-
-  -- a run that has not begun behind a number had not before it, and the number gave no unit
-  pub still-step : step skip run n .run .begun ≡ false → (run .begun ≡ false) × (unitOf n ≡ [])
-  unfolding step metAny
-  still-step =
-      by-unit n (λ (us : List ℕ). metAny skip run us .run .begun ≡ false → (run .begun ≡ false) × (us ≡ []))
-      (λ p. (p, refl))
-      (λ u p. absurd (true≢false (sym (by-met skip run u (λ (g : Gave). g .run .begun ≡ true) (λ q r. refl) (λ q. begun-taken run u)) ∙ p)))
-
-pub values-nothing : (run : Run) → values (nothing run) ≡ []
-unfolding values
-values-nothing run = refl
-
-pub units-none : (n : Property) (ns : List Property) → units (n ∷ ns) ≡ [] → (unitOf n ≡ []) × (units ns ≡ [])
-unfolding units
-units-none n ns = go (unitOf n)
-  where
-    go : (us : List ℕ) → us ++ units ns ≡ [] → (us ≡ []) × (units ns ≡ [])
-    go [] e = (refl, e)
-    go (u ∷ us) e = absurd (omega (arith, ap length e))
-
-pub runText-none : (skip : ℕ) (ns : List Property) → units ns ≡ [] → runText skip ns ≡ []
-unfolding runText kept decode utf8All
-runText-none skip ns e = rw e
 
 decode-some : (u : ℕ) (us : List ℕ) → 1 ≤ length (decode (u ∷ us))
 unfolding decode

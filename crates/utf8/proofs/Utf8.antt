@@ -1,26 +1,25 @@
 -- What a sequence of UTF-8 looks like, and that it gives its value back. All but the first byte's range is said once, over
 -- the count n of bytes behind the first, each of which is a digit to the base 64.
 --     utf8-sequence, length-utf8                    `utf8` as a sequence by its count; its length
---     value-sequence, value-utf8, value-three       round trip, a sum of powers of 64; at three bytes
+--     value-sequence, value-utf8                    round trip, a sum of powers of 64
 --     utf8-injective                                so two values with one sequence are equal
 --     written-scalar, value-written, written-injective    the same of `written`, for scalar values
 --     low-scalar                                    a scalar value is at most 0x10FFFF
 --     length-written                                1 to 4 bytes
---     byte-written, first-written, rest-written     below 256; the first is no 10xxxxxx, the others are
---     encoded-length, encoded-small, encoded-bytes  what a caller of `encode` holds
+--     encoded-length, encoded-bytes                 what a caller of `encode` holds
 --     one-byte .. four-bytes, encoded-scalar, encoded-other    a branch of the code each
 -- Assumes nothing.
 use mathlib.Core.Path.{_≡_, refl, sym, ap, _∙_}
 use mathlib.Core.List.{List, [], _∷_}
 use mathlib.Core.Bool.{Bool, true, false, cond, not, _&&_}
-use Prim.Native.Nat.{ℕ, zero, suc, _+_, _-_, _*_, _/_, _%_, _^_, _≤_, _<_}
+use Prim.Native.Nat.{ℕ, zero, suc, _+_, _-_, _/_, _%_, _^_, _≤_, _<_}
 use native.Mathlib.Omega.{arith}
 use native.Mathlib.Nat.{add-sub-cancel-left, div-add-mod', div-one, mod-one, one-le-pow, pow-succ', zero-add}
 use lib.Arith.{mod-mul}
 use lib.Dec.{leb, ltb}
 use lib.ListN.{length, getD, take, replicate}
 use lib.Seq.{take-at}
-use borrow.Author.Tests.{leb-true, ltb-true, ltb-false, lt-leb, le-leb, lt-ltb, le-ltb}
+use borrow.Author.Tests.{leb-true, ltb-true, ltb-false, le-leb, lt-ltb, le-ltb}
 use Rattle.utf8.specs.declared.Encoded.{Encoded}
 use Rattle.utf8.specs.Utf8.{isScalar, tail, utf8, written, padded, encodedOf, isTail, mark, tailValue, valueOf}
 
@@ -83,11 +82,6 @@ value-sequence n c = rw (length-tails n c, value-tails n c, add-sub-cancel-left)
 pub value-utf8 : (c : ℕ) → valueOf (utf8 c) ≡ c
 value-utf8 c = ap valueOf (utf8-sequence c) ∙ value-sequence (behind c) c
 
--- the law at three bytes, written out
-pub value-three : (a b d c : ℕ) → utf8 c ≡ a ∷ (b ∷ (d ∷ [])) → (a - 224) * 4096 + (b - 128) * 64 + (d - 128) ≡ c
-unfolding valueOf tailValue
-value-three a b d c e = omega (arith, sym (ap valueOf e) ∙ value-utf8 c)
-
 pub utf8-injective : (c d : ℕ) → utf8 c ≡ utf8 d → c ≡ d
 utf8-injective c d e = sym (value-utf8 c) ∙ ap valueOf e ∙ value-utf8 d
 
@@ -127,64 +121,11 @@ length-written = written-by (λ (s : List ℕ). (1 ≤ length s) × (length s �
     go : (c : ℕ) → c ≤ 1114111 → (1 ≤ length (sequence (behind c) c)) × (length (sequence (behind c) c) ≤ 4)
     go c h = (omega arith, omega (arith, length-tails (behind c) c, behind-small c))
 
--- a byte 10xxxxxx holds a digit
-tail-is : (c : ℕ) → isTail (tail c) ≡ true
-tail-is c = rw (le-leb 128 (tail c) (omega arith), le-leb (tail c) 191 (omega arith))
-
-not-tail-low : (a : ℕ) → a < 128 → isTail a ≡ false
-not-tail-low a h = rw (lt-leb 128 a h)
-
-not-tail-high : (a : ℕ) → 192 ≤ a → isTail a ≡ false
-not-tail-high a h = rw (le-leb 128 a (omega arith), lt-leb a 191 (omega arith))
-
-tails-are : (n c i : ℕ) → i < n → isTail (getD (tails n c) i 0) ≡ true
-unfolding tails
-tails-are zero c i h = absurd (omega arith)
-tails-are (suc n) c zero h = tail-is (c / 64 ^ n)
-tails-are (suc n) c (suc i) h = tails-are n c i (omega arith)
-
-tails-small : (n c i : ℕ) → getD (tails n c) i 0 < 256
-unfolding tails
-tails-small zero c i = omega arith
-tails-small (suc n) c zero = omega arith
-tails-small (suc n) c (suc i) = tails-small n c i
-
-pub first-written : (c : ℕ) → isTail (getD (written c) 0 0) ≡ false
-unfolding sequence
-first-written = written-by (λ (s : List ℕ). isTail (getD s 0 0) ≡ false) go
-  where
-    go : (c : ℕ) → c ≤ 1114111 → isTail (getD (sequence (behind c) c) 0 0) ≡ false
-    go c h =
-        ranges c (λ (n : ℕ). isTail (mark n + c / 64 ^ n) ≡ false)
-        (λ k. not-tail-low (0 + c / 1) (omega arith))
-        (λ k l. not-tail-high (192 + c / 64) (omega arith))
-        (λ k l. not-tail-high (224 + c / 4096) (omega arith))
-        (λ k. not-tail-high (240 + c / 262144) (omega arith))
-
-pub rest-written : (c i : ℕ) → suc i < length (written c) → isTail (getD (written c) (suc i) 0) ≡ true
-unfolding sequence
-rest-written c i = written-by (λ (s : List ℕ). suc i < length s → isTail (getD s (suc i) 0) ≡ true) go c
-  where
-    go : (c : ℕ) → c ≤ 1114111 → suc i < length (sequence (behind c) c) → isTail (getD (sequence (behind c) c) (suc i) 0) ≡ true
-    go c h k = tails-are (behind c) c i (omega (arith, length-tails (behind c) c))
-
-pub byte-written : (c i : ℕ) → getD (written c) i 0 < 256
-unfolding sequence
-byte-written c i = written-by (λ (s : List ℕ). getD s i 0 < 256) (go i) c
-  where
-    go : (i c : ℕ) → c ≤ 1114111 → getD (sequence (behind c) c) i 0 < 256
-    go zero c h =
-        ranges c (λ (n : ℕ). mark n + c / 64 ^ n < 256) (λ k. omega arith) (λ k l. omega arith) (λ k l. omega arith) (λ k. omega arith)
-    go (suc i) c h = tails-small (behind c) c i
-
 -- in the terms of a caller of `encode`
 module _ (c : ℕ) (r : Encoded) (q : r ≡ encodedOf c) where
   pub encoded-length : r .length ≡ length (written c)
   unfolding encodedOf padded
   encoded-length = rw q
-
-  pub encoded-small : (1 ≤ r .length) × (r .length ≤ 4)
-  encoded-small = rw encoded-length (length-written c)
 
   pub encoded-bytes : take (r .length) (r .bytes) ≡ written c
   unfolding encodedOf padded

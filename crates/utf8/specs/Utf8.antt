@@ -40,10 +40,6 @@ padded s = record { length = length s; bytes = s ++ replicate (4 - length s) 0 }
 unfoldable pub encodedOf : ℕ → Encoded
 encodedOf c = padded (written c)
 
--- 10xxxxxx, as a test
-abbrev pub isTail : ℕ → Bool
-isTail b = leb 128 b && leb b 191
-
 -- what the first byte adds to its bits, by the count of bytes behind it
 abbrev pub mark : ℕ → ℕ
 mark zero = 0

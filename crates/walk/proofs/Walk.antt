@@ -2,19 +2,18 @@
 --     walk-passed     tokens that are passed over
 --     walk-end        no token is left
 --     walk-one        any token, by its step
---     walk-opening    an opening bracket that begins nothing
---     walk-hidden, -fonts, -colours   one that begins a group to pass over, or a table
+--     walk-fonts, -colours   an opening bracket that begins a table
 -- Assumes nothing.
-use mathlib.Core.Path.{_≡_, refl, sym, ap, _∙_}
-use mathlib.Core.List.{List, [], _∷_, _++_}
+use mathlib.Core.Path.{_≡_, refl, ap, _∙_}
+use mathlib.Core.List.{List, [], _∷_}
 use Prim.Native.Nat.{ℕ, zero, suc}
 use mathlib.Core.Bool.{Bool}
 use lib.ListN.{drop}
 use Rattle.tokens.specs.Tokens.{Shown}
 use Rattle.tokens.specs.Tokens
 use Rattle.walk.specs.declared.Aim.{Aim}
-use Rattle.walk.specs.declared.Aim.the-variants.{Nothing, Hide, Fonts, Colours}
-use Rattle.walk.specs.Walk.{aim, extent, Step, kept, hidden, fontTable, colourTable, group, entered, enteredLength, stepOf, passedBy, walkFrom, walk}
+use Rattle.walk.specs.declared.Aim.the-variants.{Fonts, Colours}
+use Rattle.walk.specs.Walk.{aim, extent, Step, fontTable, colourTable, group, entered, enteredLength, stepOf, passedBy, walkFrom, walk}
 
 -- tokens that are passed over
 pub walk-passed : (w : ℕ) (ts : List Shown) → walkFrom w ts ≡ walk (drop w ts)
@@ -33,12 +32,6 @@ unfolding walkFrom
 walk-one t ts = ap (λ (ss : List Step). stepOf t ts ∷ ss) (walk-passed (passedBy t ts) ts)
 
 module _ (ts : List Shown) where
-  pub walk-opening : aim ts ≡ Nothing → walk (Shown.opening ∷ ts) ≡ kept Shown.opening ∷ walk ts
-  walk-opening e = walk-one Shown.opening ts ∙ ap (λ (a : Aim). entered a ts ∷ walk (drop (enteredLength a ts) ts)) e
-
-  pub walk-hidden : aim ts ≡ Hide → walk (Shown.opening ∷ ts) ≡ hidden ∷ walk (drop (extent 1 ts) ts)
-  walk-hidden e = walk-one Shown.opening ts ∙ ap (λ (a : Aim). entered a ts ∷ walk (drop (enteredLength a ts) ts)) e
-
   module _ {late : Bool} where
     pub walk-fonts : aim ts ≡ Fonts late → walk (Shown.opening ∷ ts) ≡ fontTable late (group ts) ∷ walk (drop (extent 1 ts) ts)
     walk-fonts e = walk-one Shown.opening ts ∙ ap (λ (a : Aim). entered a ts ∷ walk (drop (enteredLength a ts) ts)) e

@@ -2,7 +2,7 @@
 use borrow.Author.Needs.{needs}
 use native.Mathlib.Omega.{arith}
 use lib.ListN.{length-take, length-drop}
-use mathlib.Core.Path.{refl, _∙_}
+use mathlib.Core.Path.{_∙_}
 use Rattle.body.proofs.Turns.{Loop, loop-start, loop-end, not-passed, ne-pos, turn-group, turn-refused, turn-opened, turn-bad, turn-deep, turn-push, turn-pop, turn-keep, turn-said, said-fits}
 use Rattle.body.proofs.lay_body.Statement.{statement}
 use Rattle.body.proofs.lay_body.Tie as tie

@@ -2,7 +2,6 @@
 use borrow.Author.Needs.{needs}
 use native.Mathlib.Omega.{arith}
 use mathlib.Core.Path.{sym, _∙_}
-use Rattle.fields.specs.Fields.{lastOf}
 use Rattle.entries.proofs.Entries.{entry-is}
 use Rattle.checks.proofs.Checking.{Checking, checking-start, checking-bad, checking-text}
 use Rattle.checks.proofs.Checking.{checking-more, checking-left, checking-end}

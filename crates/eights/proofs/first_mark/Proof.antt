@@ -1,5 +1,4 @@
 -- `first_mark` meets its contract: eight zeros for each byte before the lowest mark. Assumes nothing.
-use borrow.Author.Needs.{needs}
 use native.Mathlib.Omega.{arith}
 use lib.Count.{trailing-le}
 use Rattle.eights.proofs.Marking.{first-right}

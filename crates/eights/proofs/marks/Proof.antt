@@ -1,6 +1,5 @@
 -- `marks` meets its contract: the steps are the laws' steps. Assumes nothing.
-use borrow.Author.Needs.{needs}
-use mathlib.Core.Path.{_≡_, refl, sym, ap, _∙_}
+use mathlib.Core.Path.{ap}
 use native.Mathlib.Omega.{arith}
 use lib.Bits.{bitAnd, and-le-r}
 use Rattle.eights.proofs.Bitwise.{marks-right}

@@ -1,5 +1,4 @@
 -- `in_range` meets its contract.
-use borrow.Author.Needs.{needs}
 use mathlib.Core.Path.{refl}
 use Rattle.fields.specs.Fields.{inRange}
 use Rattle.fields.proofs.in_range.Statement.{statement}

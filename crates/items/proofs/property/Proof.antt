@@ -1,5 +1,4 @@
 -- `property` meets its contract.
-use borrow.Author.Needs.{needs}
 use native.Mathlib.Omega.{arith}
 use borrow.Author.Tests.{eq-eqb, ne-eqb}
 use Rattle.items.proofs.property.Statement.{statement}

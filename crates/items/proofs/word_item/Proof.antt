@@ -1,5 +1,4 @@
 -- `word_item` meets its contract.
-use borrow.Author.Needs.{needs}
 use borrow.Author.Tests.{eq-eqb, ne-eqb}
 use Rattle.items.proofs.word_item.Statement.{statement}
 use Rattle.items.proofs.word_item.Tie as tie

@@ -1,6 +1,5 @@
 -- `behind` meets its contract: its test is that of the definition.
 use Rattle.lines.proofs.Lines.{mark-more, mark-end}
-use borrow.Author.Needs.{needs}
 use Rattle.lines.proofs.behind.Statement.{statement}
 use Rattle.lines.proofs.behind.Tie as tie
 use Rattle.lines.proofs.behind.Reads as reads

@@ -1,8 +1,6 @@
 -- `number` meets its contract: the fewest digits that hold a number spell it.
 use native.Mathlib.Omega.{arith}
 use borrow.Author.Needs.{needs}
-use mathlib.Core.Path.{ap}
-use mathlib.Core.List.{_++_}
 use Rattle.lines.proofs.Pages.{put-as, put-then}
 use Rattle.lines.proofs.Decimals.{decimal-is}
 use Rattle.lines.proofs.number.Statement.{statement}

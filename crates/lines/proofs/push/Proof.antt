@@ -1,5 +1,4 @@
 -- `push` meets its contract: a byte is stored where there is room.
-use native.Mathlib.Omega.{arith}
 use borrow.Author.Needs.{needs}
 use Rattle.lines.proofs.Pages.{put-in, put-out}
 use Rattle.lines.proofs.push.Statement.{statement}

@@ -3,7 +3,7 @@ use Prim.Native.Nat.{_≤_, _-_}
 use mathlib.Core.Path.{_≡_, refl}
 use native.Mathlib.Omega.{arith}
 use borrow.Author.Needs.{needs}
-use lib.ListN.{length, drop, length-take}
+use lib.ListN.{length, length-take}
 use Rattle.lines.specs.Lines.{lines}
 use Rattle.lines.proofs.Pages.{Left, left-start, left-more, left-end}
 use Rattle.lines.proofs.Lines.{lines-start, lines-more, lines-short, lines-end}

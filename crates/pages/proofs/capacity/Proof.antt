@@ -1,5 +1,4 @@
 -- `capacity` meets its contract: below the cap, and not below it.
-use borrow.Author.Needs.{needs}
 use Rattle.pages.proofs.Writing.{cap-in, cap-out}
 use Rattle.pages.proofs.capacity.Statement.{statement}
 use Rattle.pages.proofs.capacity.Tie as tie

@@ -1,7 +1,6 @@
 -- `letter` meets its contract: the header refuses, or the body's answer is the letter's.
 use native.Mathlib.Omega.{arith}
 use lib.ListN.{length}
-use Prim.Native.Nat.{_*_, _≤_}
 use Rattle.rooms.specs.Rooms.{tableLimit}
 use Rattle.items.specs.Items.{shownAll}
 use Rattle.walk.specs.Walk.{walk}

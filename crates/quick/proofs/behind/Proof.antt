@@ -1,9 +1,8 @@
 -- `behind` meets its contract. Assumes nothing.
-use mathlib.Core.Path.{ap, sym}
 use native.Mathlib.Omega.{arith}
 use lib.ListN.{length-drop}
 use borrow.Author.Needs.{needs}
-use Rattle.rooms.proofs.Rooms.{wrote-none, wrote-as}
+use Rattle.rooms.proofs.Rooms.{wrote-none}
 use Rattle.tokens.specs.Tokens.{shownLayout}
 use Rattle.tokenize.proofs.Rules.{part-drop, tail-none}
 use Rattle.quick.proofs.behind.Statement.{statement}

@@ -1,8 +1,4 @@
 -- `escaped` meets its contract. Assumes nothing.
-use mathlib.Core.Path.{refl, sym, _∙_}
-use mathlib.Core.Bool.{false}
-use native.Mathlib.Omega.{arith}
-use lib.ListN.{length-take, length-drop}
 use borrow.Author.Needs.{needs}
 use Rattle.rooms.proofs.Rooms.{wrote-as}
 use Rattle.tokens.specs.Tokens.{shownLayout}

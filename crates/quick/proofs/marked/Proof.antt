@@ -1,6 +1,5 @@
 -- `marked` meets its contract: the mark's token, and then what follows it. Plain text is what cutting it again gives. Assumes nothing.
-use mathlib.Core.Path.{refl, sym, _∙_}
-use mathlib.Core.Bool.{false}
+use mathlib.Core.Path.{refl}
 use native.Mathlib.Omega.{arith}
 use lib.ListN.{length-take, length-drop}
 use borrow.Author.Needs.{needs}

@@ -1,6 +1,4 @@
 -- `say` meets its contract: one text behind the other is both.
-use native.Mathlib.Omega.{arith}
-use mathlib.Core.Path.{_∙_}
 use Rattle.runs.proofs.Texts.{say-full, say-two, within-kept}
 use borrow.Author.Needs.{needs}
 use Rattle.runs.proofs.say.Statement.{statement}

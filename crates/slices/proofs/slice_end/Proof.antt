@@ -1,11 +1,11 @@
 -- `slice_end` meets its contract. The invariant: i bytes of the first slice are passed. The measure is what is left.
-use mathlib.Core.Path.{_≡_, refl, sym, _∙_}
-use Prim.Native.Nat.{_+_, _-_, _≤_, _<_}
+use mathlib.Core.Path.{sym, _∙_}
+use Prim.Native.Nat.{_-_}
 use native.Mathlib.Omega.{arith}
 use lib.ListN.{length}
 use borrow.Author.Needs.{needs}
 use Rattle.slices.specs.Slices.{sliceLength}
-use Rattle.slices.proofs.Ends.{end-none, ends-start, slice-within, At, passed, Found, found, found-ends, found-more}
+use Rattle.slices.proofs.Ends.{end-none, ends-start, slice-within, At, passed, found, found-ends, found-more}
 use Rattle.slices.proofs.slice_end.Statement.{statement}
 use Rattle.slices.proofs.slice_end.Tie as tie
 use Rattle.slices.proofs.slice_end.Reads as reads

@@ -1,10 +1,8 @@
 -- `read_list` meets its contract: all blocks find room, or both rooms are cleared.
 use borrow.Author.Needs.{needs}
 use native.Mathlib.Omega.{arith}
-use mathlib.Core.Path.{refl}
 use lib.ListN.{length}
 use Prim.Native.Nat.{_*_, _≤_}
-use Rattle.pages.specs.Laying.{Ready}
 use Rattle.pages.proofs.Laying.{ready-finish}
 use Rattle.pages.proofs.Settling.{blocks-small, count-words}
 use Rattle.stored.proofs.Whole.{list-full, list-laid}

@@ -1,5 +1,4 @@
 -- `alignment` meets its contract: each word by itself.
-use borrow.Author.Needs.{needs}
 use borrow.Author.Tests.{ne-eqb}
 use Rattle.styles.specs.Styles.{alignment}
 use Rattle.styles.proofs.alignment.Statement.{statement}

@@ -1,6 +1,5 @@
 -- `apply_word` meets its contract: the kinds of words in the order of `change`.
 use borrow.Author.Needs.{needs}
-use native.Mathlib.Omega.{arith}
 use Rattle.styles.proofs.Styles.{change-flag, change-fit, change-character, change-align, change-space, change-plain, change-pard, change-par, change-skip, change-other, within}
 use Rattle.styles.proofs.apply_word.Statement.{statement}
 use Rattle.styles.proofs.apply_word.Tie as tie

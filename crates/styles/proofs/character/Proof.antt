@@ -1,10 +1,6 @@
 -- `character` meets its contract: each word by itself.
-use borrow.Author.Needs.{needs}
-use native.Mathlib.Omega.{arith}
 use Rattle.styles.proofs.Styles.{last-character}
 use Rattle.styles.specs.Styles.{character}
-use mathlib.Core.Path.{_≡_}
-use Prim.Native.Nat.{ℕ}
 use Rattle.styles.proofs.character.Statement.{statement}
 use Rattle.styles.proofs.character.Tie as tie
 use Rattle.styles.proofs.character.Reads as reads

@@ -1,5 +1,4 @@
 -- `fit` meets its contract: each word by itself.
-use borrow.Author.Needs.{needs}
 use borrow.Author.Tests.{ne-eqb}
 use Rattle.styles.specs.Styles.{fitted}
 use Rattle.styles.proofs.fit.Statement.{statement}

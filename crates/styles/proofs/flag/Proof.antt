@@ -1,5 +1,4 @@
 -- `flag` meets its contract: each word by itself.
-use borrow.Author.Needs.{needs}
 use borrow.Author.Tests.{ne-eqb}
 use Rattle.styles.specs.Styles.{flagged}
 use Rattle.styles.proofs.flag.Statement.{statement}

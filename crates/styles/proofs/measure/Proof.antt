@@ -1,5 +1,4 @@
 -- `measure` meets its contract: each word by itself.
-use borrow.Author.Needs.{needs}
 use borrow.Author.Tests.{ne-eqb}
 use Rattle.styles.specs.Styles.{measured}
 use Rattle.styles.proofs.measure.Statement.{statement}

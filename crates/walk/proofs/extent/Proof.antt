@@ -1,5 +1,4 @@
 -- `extent` meets its contract: the tokens that were measured and those that are left make the whole.
-use borrow.Author.Needs.{needs}
 use native.Mathlib.Omega.{arith}
 use Rattle.walk.proofs.Looks.{Measuring, measure-start, measure-more, measure-end, measure-none}
 use Rattle.walk.proofs.extent.Statement.{statement}
