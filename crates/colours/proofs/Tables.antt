@@ -3,16 +3,16 @@
 --     colours-few         at most as many colours as the limit says
 --     colours-few-256     for a room of any length, at most 256
 --     colour-word-small   a word of values that fit is below 2^24
---     words-at, colours-words   every word of a table is, as a list and by index
+--     colours-words   every word of a table is
 --     sound-start, sound-from   what holds after every token: the above, and the current colour's values fit
 -- Assumes nothing.
 use mathlib.Core.Path.{_≡_, refl}
 use mathlib.Core.List.{List, [], _∷_, _++_}
 use mathlib.Core.Bool.{Bool, true, false, cond}
-use Prim.Native.Nat.{ℕ, zero, suc, _≤_, _<_}
+use Prim.Native.Nat.{ℕ, _≤_, _<_}
 use native.Mathlib.Omega.{arith}
 use borrow.Author.Tests.{ltb-true}
-use lib.ListN.{length, getD, length-append}
+use lib.ListN.{length, length-append}
 use lib.Dec.{eqb, ltb}
 use Rattle.answers.specs.declared.Why.the-variants.{NumberField, ColourRoom}
 use Rattle.answers.specs.declared.Refusal.{Refusal}

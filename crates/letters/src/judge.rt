@@ -2,8 +2,8 @@
 use crate::list::LENGTH_BYTES;
 use crate::list::Letter;
 use crate::say;
+use alike::same;
 use extraction::extract;
-use listed::same;
 ghost use Prim.Native.Nat.{_≤_};
 ghost use lib.ListN.{length};
 ghost use Rattle.letters.specs.Listed.{Whole};

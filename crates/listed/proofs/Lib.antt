@@ -1,5 +1,3 @@
--- Fronts, for the programs: what is known of an answer that was found. Judging: why a verdict is right. Alike: when two runs of
--- bytes are the same.
+-- Fronts, for the programs: what is known of an answer that was found. Judging: why a verdict is right.
 pub mod Fronts
 mod Judging
-mod Alike

@@ -1,11 +1,10 @@
-// One answer of our cutter against the listed one: the refusal, the count of tokens, every word of the room.
+// One answer of ours against the listed one: the refusal, the count of tokens, every word of the room.
 use crate::list::Answer;
 use crate::list::word;
 use answers::Outcome;
 ghost use mathlib.Core.Path.{_≡_};
 ghost use Prim.Native.Nat.{ℕ, _*_, _<_, _≤_};
 ghost use lib.ListN.{length, getD};
-ghost use Rattle.cutter.specs.Cutting.{cutAnswer, cutRoom};
 ghost use Rattle.listed.specs.Listed.{wordAt, Judged};
 
 // What differs first.
@@ -44,7 +43,7 @@ fn first_unlike(room: &[u32], records: &[u8]) -> usize
 }
 
 // Our answer against the listed one.
-fn compare(outcome: Outcome, room: &[u32], answer: Answer, records: &[u8]) -> Verdict
+pub fn compare(outcome: Outcome, room: &[u32], answer: Answer, records: &[u8]) -> Verdict
     ensures { λ r. ⌜ Judged outcome (now (room .entry)) answer (now (records .entry)) r ⌝ }
 {
     let refusal = outcome.number();
@@ -72,14 +71,4 @@ fn compare(outcome: Outcome, room: &[u32], answer: Answer, records: &[u8]) -> Ve
         });
     }
     Verdict::Same
-}
-
-// Cuts a letter in a room, whatever that holds, and compares.
-pub fn cut_and_compare(letter: &[u8], records: &[u8], answer: Answer, room: &mut [u32]) -> Verdict
-    ensures { λ r. do
-      words ← ⟦room.len()⟧ .entry
-      ⌜ Judged (cutAnswer (now (letter .entry)) words) (cutRoom (now (letter .entry)) words) answer (now (records .entry)) r ⌝ }
-{
-    let outcome = cutter::cut(letter, room);
-    compare(outcome, room, answer, records)
 }

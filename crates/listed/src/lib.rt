@@ -1,30 +1,6 @@
-// Listed answers, and whether ours are the same.
+// Listed answers of the Rust crate, and whether ours are the same.
 //
-//   list    how answers of the Rust crate are listed, and where the next one stands
-//   judge   one answer of our cutter against the listed one
-//   same    whether two listings are the same
+//   list    how answers are listed, and where the next one stands
+//   judge   one answer of ours against the listed one
 pub mod judge;
 pub mod list;
-
-ghost use mathlib.Core.Path.{_≡_};
-ghost use mathlib.Core.Bool.{true};
-
-// Whether two runs of bytes are the same.
-pub fn same(a: &[u8], b: &[u8]) -> bool
-    ensures sound { λ r. ⌜ (r ≡ true → now (a .entry) ≡ now (b .entry)) ⌝ }
-    ensures complete { λ r. ⌜ (now (a .entry) ≡ now (b .entry) → r ≡ true) ⌝ }
-{
-    if a.len() != b.len() {
-        return false;
-    }
-    let mut i = 0;
-    while i < a.len() {
-        let left = a[i];
-        let right = b[i];
-        if left != right {
-            return false;
-        }
-        i += 1;
-    }
-    true
-}

@@ -1,5 +1,5 @@
 -- What the table of names says, in the terms of the code's two loops, and what a word's number means.
---     same-bytes-eq, same-bytes-self           `sameBytes` is equality
+--     same-bytes-eq                            `sameBytes` is equality
 --     row-..                                   the loop over the bytes of a row
 --     place-..                                 the loop over the rows
 -- Assumes nothing.

@@ -1,14 +1,13 @@
 -- Blocks and text of pieces.
 --     sameStyle-eq   styles are the same if all their words are
---     textOf-append, text-blocks     joining keeps the text
---     length-record, length-records, records-append   the records' words
+--     text-blocks                    joining keeps the text
+--     length-record, length-records  the records' words
 --     blocks-differ                  blocks that stand side by side differ in style
 -- Assumes nothing.
-use mathlib.Core.Path.{_≡_, refl, sym, _∙_}
+use mathlib.Core.Path.{_≡_, refl, _∙_}
 use mathlib.Core.List.{List, [], _∷_, _++_, append-assoc}
 use mathlib.Core.Bool.{Bool, true, false, cond, _&&_}
 use Prim.Native.Nat.{ℕ, _+_, _*_}
-use native.Mathlib.Nat.{add-zero}
 use native.Mathlib.Omega.{arith}
 use borrow.Author.Tests.{eq-eqb, eqb-true}
 use lib.ListN.{length, length-append}

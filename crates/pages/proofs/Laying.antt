@@ -25,7 +25,7 @@ use Rattle.styles.specs.Styles.{sameStyle}
 use Rattle.pages.specs.declared.Page.{Page}
 use Rattle.pages.specs.Pages.{Piece, blockWords, blockRecord, textCapacity}
 use Rattle.pages.specs.Laying.{Laying, on, off, blank, lastPut, blockCount, opened, startOf, appendOf, appendTo, addOf, laidOn, layAll, Ready}
-use Rattle.pages.proofs.Writing.{count-le, append-full, append-more, still-new, still-more}
+use Rattle.pages.proofs.Writing.{count-le, append-full, append-more}
 
 pub lay-end : (l : Laying) → layAll l end ≡ l
 unfolding layAll

@@ -5,7 +5,7 @@
 mod say;
 
 use listed::judge::Verdict;
-use listed::judge::cut_and_compare;
+use listed::judge::compare;
 use listed::list::Answer;
 use listed::list::Front;
 use listed::list::HEAD_BYTES;
@@ -15,13 +15,24 @@ use say::End;
 use say::Tally;
 ghost use Prim.Native.Nat.{_≤_};
 ghost use lib.ListN.{length};
-ghost use Rattle.listed.specs.Listed.{Whole};
+ghost use Rattle.cutter.specs.Cutting.{cutAnswer, cutRoom};
+ghost use Rattle.listed.specs.Listed.{Whole, Judged};
 
 // What every word of a room holds before the cut: no word that the cutter should leave there.
 const JUNK: u32 = 0xa5a5_5a5a;
 
 // The longest list that is read, and a byte more.
 const LIST_ROOM: usize = 524288;
+
+// Cuts a letter in a room, whatever that holds, and compares.
+fn cut_and_compare(letter: &[u8], records: &[u8], answer: Answer, room: &mut [u32]) -> Verdict
+    ensures { λ r. do
+      words ← ⟦room.len()⟧ .entry
+      ⌜ Judged (cutAnswer (now (letter .entry)) words) (cutRoom (now (letter .entry)) words) answer (now (records .entry)) r ⌝ }
+{
+    let outcome = cutter::cut(letter, room);
+    compare(outcome, room, answer, records)
+}
 
 // The answer at the front of `list`, against what our cutter gives for its letter in a room of its size.
 fn replay_one(list: &[u8], answer: Answer) -> Verdict

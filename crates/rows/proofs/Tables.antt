@@ -1,7 +1,7 @@
 -- Tables of fonts, ascending by key.
 --     table-append       the records of two tables, one after the other
 --     length-table       a record is three words
---     up-at, keys-at     keys that ascend, and keys below 65,536, by index
+--     up-at              keys that ascend, by index
 --     ascending-insert, keys-insert, length-insert, length-kept   a table with a font more
 -- Assumes nothing.
 use mathlib.Core.Path.{_≡_, refl, sym, ap, _∙_}

@@ -2,7 +2,6 @@
 -- groups that may have the high bit: n < 128 ^ suc k.
 --     groups-sum, written-sum          the groups' sum of powers is the number
 --     groups-length, written-length    1 to 5 bytes
---     groups-bytes                     below 256
 --     high-groups, groups-least        how many have the high bit; as few as can be
 --     Whole, whole-is, is-whole        what it takes for a list to start with a number, and its value and length
 --     number-within                    a number that was read has 1 to 5 bytes of the list, and 32 bits

@@ -17,11 +17,11 @@ use native.Mathlib.Omega.{arith}
 use native.Mathlib.Nat.{add-sub-cancel-left, div-add-mod', div-one, mod-one, one-le-pow, pow-succ', zero-add}
 use lib.Arith.{mod-mul}
 use lib.Dec.{leb, ltb}
-use lib.ListN.{length, getD, take, replicate}
+use lib.ListN.{length, take, replicate}
 use lib.Seq.{take-at}
-use borrow.Author.Tests.{leb-true, ltb-true, ltb-false, le-leb, lt-ltb, le-ltb}
+use borrow.Author.Tests.{leb-true, ltb-true, ltb-false, lt-ltb, le-ltb}
 use Rattle.utf8.specs.declared.Encoded.{Encoded}
-use Rattle.utf8.specs.Utf8.{isScalar, tail, utf8, written, padded, encodedOf, isTail, mark, tailValue, valueOf}
+use Rattle.utf8.specs.Utf8.{isScalar, tail, utf8, written, padded, encodedOf, mark, tailValue, valueOf}
 
 -- the n lowest digits to the base 64, the highest first, each a byte 10xxxxxx
 unfoldable pub tails : ℕ → ℕ → List ℕ

@@ -7,7 +7,7 @@ use Rattle.letters.proofs.judge.read_and_judge.Tie as tie
 use Rattle.letters.proofs.judge.read_and_judge.Reads as reads
 use Rattle.letters.proofs.judge.read_and_judge.Lts as lts
 use Rattle.letters.proofs.judge.count_in.Reads as count-in-reads
-use Rattle.listed.proofs.same.Reads as same-reads
+use Rattle.alike.proofs.same.Reads as same-reads
 use Rattle.letters.proofs.say.difference.Reads as difference-reads
 use Rattle.extraction.proofs.extract.Reads as extract-reads
 

@@ -1,7 +1,7 @@
 -- `cut_and_compare` meets its contract: what was compared is what `cut` ensures.
 use borrow.Author.Needs.{needs}
-use Rattle.listed.proofs.judge.cut_and_compare.Statement.{statement}
-use Rattle.listed.proofs.judge.cut_and_compare.Tie as tie
+use Rattle.replay.proofs.cut_and_compare.Statement.{statement}
+use Rattle.replay.proofs.cut_and_compare.Tie as tie
 
 cut-requires : tie.Need-cut-requires
 cut-requires c κs = search needs

@@ -4,11 +4,11 @@ use mathlib.Core.Path.{_≡_}
 use borrow.Author.Count.{below-more}
 use borrow.Author.Needs.{needs}
 use lib.ListN.{length, getD}
-use Rattle.listed.proofs.Alike.{same-not-lengths, same-not-at, same-all}
-use Rattle.listed.proofs.same.Statement.{statement}
-use Rattle.listed.proofs.same.Tie as tie
-use Rattle.listed.proofs.same.Reads as reads
-use Rattle.listed.proofs.same.Lts as lts
+use Rattle.alike.proofs.Alike.{same-not-lengths, same-not-at, same-all}
+use Rattle.alike.proofs.same.Statement.{statement}
+use Rattle.alike.proofs.same.Tie as tie
+use Rattle.alike.proofs.same.Reads as reads
+use Rattle.alike.proofs.same.Lts as lts
 
 abbrev Inv-loop : tie.InvT-loop
 Inv-loop a b i₀ i = (i ≤ length a) × ((j : ℕ) → j < i → getD a j 0 ≡ getD b j 0)

@@ -1,0 +1,2 @@
+-- Alike: when two runs of bytes are the same.
+mod Alike
