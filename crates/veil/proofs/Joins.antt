@@ -10,7 +10,7 @@ use Rattle.bytes.specs.Bytes.{isSpecial}
 use Rattle.slices.specs.Slices.{startsSlice}
 use Rattle.tokenize.specs.Tokenize.{isMark}
 use Rattle.veil.specs.Veil.{pieces, join, endsBare}
-use Rattle.veil.proofs.Pieces.{fits, Cut, recut, cut-pieces, join-pieces}
+use Rattle.veil.proofs.Pieces.{fits, Cut, Cut.none, Cut.mark, Cut.run, recut, cut-pieces, join-pieces}
 
 mark-special : (c : ℕ) → isMark c ≡ true → isSpecial c ≡ true
 mark-special c = go (eqb c 92) (eqb c 123) (eqb c 125) (eqb c 10)
