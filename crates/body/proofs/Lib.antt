@@ -1,4 +1,2 @@
--- Laws: Items, of the items that tokens give; Acts, of one token; Turns, of the loop over the tokens.
-pub mod Items
-pub mod Acts
-pub mod Turns
+-- Turns: of the loop over the tokens.
+mod Turns

@@ -31,13 +31,13 @@ use Rattle.pages.specs.declared.Laid.the-variants.{Full}
 use Rattle.pages.specs.Laying.{Laying, on, off, blank, layAll, Ready, Still}
 use Rattle.pages.proofs.Laying.{lay-end, lay-stop, ready-blank}
 use Rattle.walk.specs.Walk.{passedBy}
-use Rattle.body.specs.declared.Act.{Act}
-use Rattle.body.specs.declared.Act.the-variants.{Push, Pop, Keep, Said, Bad}
-use Rattle.body.specs.declared.Bare.{Bare}
-use Rattle.body.specs.declared.Bare.the-variants.{Opens, Refuses}
-use Rattle.body.specs.Body.{Asked, token, statesOf, uttered, bareAsks}
-use Rattle.body.specs.Acting.{from, onward, OnwardFrom, bareOf}
-use Rattle.body.proofs.Items.{from-end, from-group, from-bare}
+use Rattle.acts.specs.declared.Act.{Act}
+use Rattle.acts.specs.declared.Act.the-variants.{Push, Pop, Keep, Said, Bad}
+use Rattle.acts.specs.declared.Bare.{Bare}
+use Rattle.acts.specs.declared.Bare.the-variants.{Opens, Refuses}
+use Rattle.acts.specs.Body.{Asked, token, statesOf, uttered, bareAsks}
+use Rattle.acts.specs.Acting.{from, onward, OnwardFrom, bareOf}
+use Rattle.acts.proofs.Items.{from-end, from-group, from-bare}
 
 -- what an array's place that is not there would give
 abbrev pub zeroed : State

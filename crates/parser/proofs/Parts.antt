@@ -31,7 +31,7 @@ use Rattle.pages.specs.Pages.{Piece, blocks}
 use Rattle.pages.specs.Laying.{on, told, blank, blockCount, lastPut, layAll}
 use Rattle.pages.proofs.Settling.{lay-refuses, lay-joins, Joined, Filled, joined-filled}
 use Rattle.walk.specs.Walk.{walk}
-use Rattle.body.specs.Body.{body}
+use Rattle.acts.specs.Body.{body}
 use Rattle.rows.specs.Rows.{tableWords}
 use Rattle.rows.proofs.Tables.{length-table}
 use Rattle.header.specs.declared.Header.{Header}

@@ -15,7 +15,7 @@ use Rattle.entering.specs.Entering.{Tables}
 use Rattle.header.specs.Header.{tables}
 use Rattle.styles.specs.declared.Reading.{Reading}
 use Rattle.pages.specs.Pages.{Piece, blockWords, textCapacity, none, roomy}
-use Rattle.body.specs.Body.{body}
+use Rattle.acts.specs.Body.{body}
 use Rattle.parser.specs.declared.Counts.{Counts}
 use Rattle.parser.specs.declared.Answer.{Answer}
 use Rattle.parser.specs.declared.Answer.the-variants.{Read, Refuses}

@@ -37,8 +37,8 @@ use Rattle.walk.specs.declared.Aim.the-variants.{Nothing, Hide, Fonts, Colours}
 use Rattle.walk.specs.Walk.{aim, Step, kept, hidden, fontTable, colourTable, entered, stepOf, stepsAt, leftAt, passedBy}
 use Rattle.walk.specs.Walk.{walkFrom, walk}
 use Rattle.runs.specs.Runs.{some}
-use Rattle.body.specs.Body.{Item, token, run, apart, joined, keptItems, stepItems, gather, Asked, stops, goes, says, stackLimit}
-use Rattle.body.specs.Body.{changed, tokenAsks, bareAsks, runAsks, asks, statesOf, pieceOf, uttered, bodyFrom, body}
+use Rattle.acts.specs.Body.{Item, token, run, apart, joined, keptItems, stepItems, gather, Asked, stops, goes, says, stackLimit}
+use Rattle.acts.specs.Body.{changed, tokenAsks, bareAsks, runAsks, asks, statesOf, pieceOf, uttered, bodyFrom, body}
 use Rattle.previews.proofs.Tokens.{All, Fine}
 use Rattle.previews.proofs.States.{Sound, SoundChange, fresh-sound, change-sound, sound-range}
 

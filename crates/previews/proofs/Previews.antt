@@ -24,7 +24,7 @@ use Rattle.header.specs.Header.{tables}
 use Rattle.styles.specs.declared.Reading.{Reading}
 use Rattle.pages.specs.Pages.{Piece, none, blocks, textOf, records, blockWords, textCapacity, roomy}
 use Rattle.pages.proofs.Blocks.{text-blocks, length-records}
-use Rattle.body.specs.Body.{body}
+use Rattle.acts.specs.Body.{body}
 use Rattle.parser.specs.declared.Counts.{Counts}
 use Rattle.parser.specs.declared.Answer.the-variants.{Read}
 use Rattle.parser.specs.Parsing.{begun, Sizes, Letter, ended, placed, bodied, headed, walked}

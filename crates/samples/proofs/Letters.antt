@@ -27,7 +27,7 @@ use Rattle.header.specs.Header.{tablesFrom}
 use Rattle.styles.specs.declared.Reading.the-variants.{Plain}
 use Rattle.styles.specs.Styles.{flagged, fitted, alignment, spacing, measured, character, change, flagsNumber, styleOf}
 use Rattle.pages.specs.Pages.{blocksFrom, blocks, textOf, records, roomy}
-use Rattle.body.specs.Body.{gather, asks, bodyFrom}
+use Rattle.acts.specs.Body.{gather, asks, bodyFrom}
 use Rattle.parser.specs.Parsing.{Sizes, Letter, placed, bodied, answerNumber}
 use Rattle.reader.specs.Reading.{shownBy, letterOf, answered}
 

@@ -34,8 +34,8 @@ use Rattle.styles.specs.declared.State.{State}
 use Rattle.styles.specs.declared.Reading.{Reading}
 use Rattle.styles.specs.Styles.{fresh}
 use Rattle.pages.specs.Pages.{Piece, blocks, textOf, blockWords, textCapacity, none, roomy}
-use Rattle.body.specs.Body.{Item, token, run, apart, joined, keptItems, gather, Asked, tokenAsks, bareAsks, asks, statesOf}
-use Rattle.body.specs.Body.{uttered, bodyFrom, body}
+use Rattle.acts.specs.Body.{Item, token, run, apart, joined, keptItems, gather, Asked, tokenAsks, bareAsks, asks, statesOf}
+use Rattle.acts.specs.Body.{uttered, bodyFrom, body}
 use Rattle.parser.specs.Parsing.{begun, Sizes, Letter, ended, placed, bodied, headed, walked}
 use Rattle.veil.specs.Said.{Named, Said, refuses, says}
 use Rattle.veil.proofs.Bare.{bare, bareAll, bareStep, bareSteps}

@@ -1,9 +1,9 @@
 -- `is_opening` meets its contract: case by case.
 use borrow.Author.Needs.{needs}
-use Rattle.body.proofs.is_opening.Statement.{statement}
-use Rattle.body.proofs.is_opening.Tie as tie
-use Rattle.body.proofs.is_opening.Reads as reads
-use Rattle.body.proofs.is_opening.Lts as lts
+use Rattle.acts.proofs.is_opening.Statement.{statement}
+use Rattle.acts.proofs.is_opening.Tie as tie
+use Rattle.acts.proofs.is_opening.Reads as reads
+use Rattle.acts.proofs.is_opening.Lts as lts
 
 enum-told : tie.Need-enum-told
 enum-told c = search needs

@@ -1,13 +1,13 @@
 -- `token_act` meets its contract: case by case.
-use Rattle.body.proofs.Acts.{token-opening, token-closing, token-ignorable, token-unknown, token-break, token-text, token-word}
+use Rattle.acts.proofs.Acts.{token-opening, token-closing, token-ignorable, token-unknown, token-break, token-text, token-word}
 use borrow.Author.Needs.{needs}
-use Rattle.body.proofs.token_act.Statement.{statement}
-use Rattle.body.proofs.token_act.Tie as tie
-use Rattle.body.proofs.token_act.Reads as reads
-use Rattle.body.proofs.token_act.Lts as lts
+use Rattle.acts.proofs.token_act.Statement.{statement}
+use Rattle.acts.proofs.token_act.Tie as tie
+use Rattle.acts.proofs.token_act.Reads as reads
+use Rattle.acts.proofs.token_act.Lts as lts
 use Rattle.answers.proofs.Refusal.of.Reads as of-reads
-use Rattle.body.proofs.said.Reads as said-reads
-use Rattle.body.proofs.word_act.Reads as word-act-reads
+use Rattle.acts.proofs.said.Reads as said-reads
+use Rattle.acts.proofs.word_act.Reads as word-act-reads
 use Rattle.items.proofs.part.Reads as part-reads
 use Rattle.pages.proofs.add.Reads as add-reads
 use Rattle.styles.proofs.State.style.Reads as style-reads

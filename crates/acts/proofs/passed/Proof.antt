@@ -1,14 +1,14 @@
 -- `passed` meets its contract: only a bracket begins a group.
 use native.Mathlib.Omega.{arith}
 use Rattle.items.specs.Items.{shownOf}
-use Rattle.body.proofs.Acts.{passed-opening, passed-other}
+use Rattle.acts.proofs.Acts.{passed-opening, passed-other}
 use borrow.Author.Needs.{needs}
-use Rattle.body.proofs.passed.Statement.{statement}
-use Rattle.body.proofs.passed.Tie as tie
-use Rattle.body.proofs.passed.Reads as reads
-use Rattle.body.proofs.passed.Lts as lts
-use Rattle.body.proofs.group_length.Reads as group-length-reads
-use Rattle.body.proofs.is_opening.Reads as is-opening-reads
+use Rattle.acts.proofs.passed.Statement.{statement}
+use Rattle.acts.proofs.passed.Tie as tie
+use Rattle.acts.proofs.passed.Reads as reads
+use Rattle.acts.proofs.passed.Lts as lts
+use Rattle.acts.proofs.group_length.Reads as group-length-reads
+use Rattle.acts.proofs.is_opening.Reads as is-opening-reads
 
 is-opening-requires : tie.Need-is-opening-requires
 is-opening-requires c κs = search needs

@@ -1,13 +1,13 @@
 -- `take_token` meets its contract: a run of `u` words, or one token.
 use native.Mathlib.Omega.{arith}
-use Rattle.body.proofs.Acts.{take-run, take-other}
+use Rattle.acts.proofs.Acts.{take-run, take-other}
 use borrow.Author.Needs.{needs}
-use Rattle.body.proofs.take_token.Statement.{statement}
-use Rattle.body.proofs.take_token.Tie as tie
-use Rattle.body.proofs.take_token.Reads as reads
-use Rattle.body.proofs.take_token.Lts as lts
-use Rattle.body.proofs.said.Reads as said-reads
-use Rattle.body.proofs.token_act.Reads as token-act-reads
+use Rattle.acts.proofs.take_token.Statement.{statement}
+use Rattle.acts.proofs.take_token.Tie as tie
+use Rattle.acts.proofs.take_token.Reads as reads
+use Rattle.acts.proofs.take_token.Lts as lts
+use Rattle.acts.proofs.said.Reads as said-reads
+use Rattle.acts.proofs.token_act.Reads as token-act-reads
 use Rattle.items.proofs.item_at.Reads as item-at-reads
 use Rattle.runs.proofs.lay_run.Reads as lay-run-reads
 use Rattle.runs.proofs.run_length.Reads as run-length-reads

@@ -1,9 +1,9 @@
 -- `bare_token` meets its contract: case by case.
 use borrow.Author.Needs.{needs}
-use Rattle.body.proofs.bare_token.Statement.{statement}
-use Rattle.body.proofs.bare_token.Tie as tie
-use Rattle.body.proofs.bare_token.Reads as reads
-use Rattle.body.proofs.bare_token.Lts as lts
+use Rattle.acts.proofs.bare_token.Statement.{statement}
+use Rattle.acts.proofs.bare_token.Tie as tie
+use Rattle.acts.proofs.bare_token.Reads as reads
+use Rattle.acts.proofs.bare_token.Lts as lts
 use Rattle.answers.proofs.Refusal.of.Reads as of-reads
 
 enum-told : tie.Need-enum-told

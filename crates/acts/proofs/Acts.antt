@@ -42,11 +42,11 @@ use Rattle.walk.specs.declared.Aim.the-variants.{Nothing, Hide, Fonts, Colours}
 use Rattle.walk.specs.Walk.{aim, extent, enteredLength, passedBy}
 use Rattle.runs.specs.Runs.{isUnit, runLength, runNumbers, numbersOf, some, runLaid}
 use Rattle.runs.proofs.Numbers.{run-numbers}
-use Rattle.body.specs.declared.Act.{Act}
-use Rattle.body.specs.declared.Act.the-variants.{Push, Pop, Keep, Said, Bad}
-use Rattle.body.specs.Body.{Asked, changed, tokenAsks, run, asks, statesOf, uttered}
-use Rattle.body.specs.Acting.{from, saidBy, onward, StillAct, Onward, OnwardFrom, isOpening}
-use Rattle.body.proofs.Items.{from-run, from-token}
+use Rattle.acts.specs.declared.Act.{Act}
+use Rattle.acts.specs.declared.Act.the-variants.{Push, Pop, Keep, Said, Bad}
+use Rattle.acts.specs.Body.{Asked, changed, tokenAsks, run, asks, statesOf, uttered}
+use Rattle.acts.specs.Acting.{from, saidBy, onward, StillAct, Onward, OnwardFrom, isOpening}
+use Rattle.acts.proofs.Items.{from-run, from-token}
 
 -- groups
 module _ (ts : List Shown) {a : Aim} where

@@ -26,8 +26,8 @@ use Rattle.walk.specs.declared.Aim.the-variants.{Nothing, Hide, Fonts, Colours}
 use Rattle.walk.specs.Walk.{aimFrom, aim, level, extent, entered, enteredLength, stepOf, passedBy, walkFrom, walk}
 use Rattle.walk.proofs.Walk.{walk-one}
 use Rattle.runs.specs.Runs.{isUnit, runLength, numberOf, runNumbers}
-use Rattle.body.specs.Acting.{from}
-use Rattle.body.specs.Body.{Item, token, run, apart, joined, stepItems, gather, Asked, bareAsks, asks, statesOf, uttered, bodyFrom}
+use Rattle.acts.specs.Acting.{from}
+use Rattle.acts.specs.Body.{Item, token, run, apart, joined, stepItems, gather, Asked, bareAsks, asks, statesOf, uttered, bodyFrom}
 
 -- the tokens' items, from the first one on
 abbrev pub items : List Shown → List Item

@@ -1,9 +1,9 @@
 -- `said` meets its contract: case by case.
 use borrow.Author.Needs.{needs}
-use Rattle.body.proofs.said.Statement.{statement}
-use Rattle.body.proofs.said.Tie as tie
-use Rattle.body.proofs.said.Reads as reads
-use Rattle.body.proofs.said.Lts as lts
+use Rattle.acts.proofs.said.Statement.{statement}
+use Rattle.acts.proofs.said.Tie as tie
+use Rattle.acts.proofs.said.Reads as reads
+use Rattle.acts.proofs.said.Lts as lts
 
 enum-known-l : tie.Need-enum-known-l
 enum-known-l c = search needs

@@ -1,11 +1,11 @@
 -- `group_length` meets its contract: by what the tokens behind the bracket make of it.
 use native.Mathlib.Omega.{arith}
-use Rattle.body.proofs.Acts.{group-none, group-hidden, group-fonts, group-colours}
+use Rattle.acts.proofs.Acts.{group-none, group-hidden, group-fonts, group-colours}
 use borrow.Author.Needs.{needs}
-use Rattle.body.proofs.group_length.Statement.{statement}
-use Rattle.body.proofs.group_length.Tie as tie
-use Rattle.body.proofs.group_length.Reads as reads
-use Rattle.body.proofs.group_length.Lts as lts
+use Rattle.acts.proofs.group_length.Statement.{statement}
+use Rattle.acts.proofs.group_length.Tie as tie
+use Rattle.acts.proofs.group_length.Reads as reads
+use Rattle.acts.proofs.group_length.Lts as lts
 use Rattle.walk.proofs.aim_of.Reads as aim-of-reads
 use Rattle.walk.proofs.extent.Reads as extent-reads
 

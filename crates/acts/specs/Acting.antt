@@ -19,11 +19,11 @@ use Rattle.pages.specs.declared.Laid.the-variants.{On, Full}
 use Rattle.pages.specs.Pages.{Piece}
 use Rattle.pages.specs.Laying.{Laying, on, off, layAll, Ready}
 use Rattle.walk.specs.Walk.{walk}
-use Rattle.body.specs.declared.Act.{Act}
-use Rattle.body.specs.declared.Act.the-variants.{Push, Pop, Keep, Said, Bad}
-use Rattle.body.specs.declared.Bare.{Bare}
-use Rattle.body.specs.declared.Bare.the-variants.{Opens, Refuses}
-use Rattle.body.specs.Body.{gather, Asked, statesOf, uttered, bodyFrom, stackLimit}
+use Rattle.acts.specs.declared.Act.{Act}
+use Rattle.acts.specs.declared.Act.the-variants.{Push, Pop, Keep, Said, Bad}
+use Rattle.acts.specs.declared.Bare.{Bare}
+use Rattle.acts.specs.declared.Bare.the-variants.{Opens, Refuses}
+use Rattle.acts.specs.Body.{gather, Asked, statesOf, uttered, bodyFrom, stackLimit}
 
 -- the body of tokens, from a stack of states
 abbrev pub from : Reading → List State → List Shown → Stream Piece

@@ -1,12 +1,12 @@
 -- `word_act` meets its contract: another state, a refusal, or a character in the style of the state.
 use Rattle.runs.proofs.Texts.{encoded-count, encoded-within}
-use Rattle.body.proofs.Acts.{word-keep, word-refuse, word-says}
+use Rattle.acts.proofs.Acts.{word-keep, word-refuse, word-says}
 use borrow.Author.Needs.{needs}
-use Rattle.body.proofs.word_act.Statement.{statement}
-use Rattle.body.proofs.word_act.Tie as tie
-use Rattle.body.proofs.word_act.Reads as reads
-use Rattle.body.proofs.word_act.Lts as lts
-use Rattle.body.proofs.said.Reads as said-reads
+use Rattle.acts.proofs.word_act.Statement.{statement}
+use Rattle.acts.proofs.word_act.Tie as tie
+use Rattle.acts.proofs.word_act.Reads as reads
+use Rattle.acts.proofs.word_act.Lts as lts
+use Rattle.acts.proofs.said.Reads as said-reads
 use Rattle.pages.proofs.add.Reads as add-reads
 use Rattle.styles.proofs.State.style.Reads as style-reads
 use Rattle.styles.proofs.apply_word.Reads as apply-word-reads

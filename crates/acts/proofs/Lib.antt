@@ -1,0 +1,3 @@
+-- Laws: Items, of the items that tokens give; Acts, of one token.
+pub mod Items
+pub mod Acts
