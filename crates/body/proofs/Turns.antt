@@ -19,25 +19,25 @@ use Rattle.answers.specs.declared.Why.the-variants.{TooDeep}
 use Rattle.answers.specs.Answers.{refusal}
 use Rattle.tokens.specs.Tokens.{Shown}
 use Rattle.tokens.specs.Tokens
-use Rattle.items.specs.declared.Item.{Item}
-use Rattle.items.specs.Items.{itemAt, shownOf, shownAll}
-use Rattle.items.proofs.Items.{rest, words-less, shown-none, shown-some, shown-drop}
+use Rattle.tokens.specs.declared.item.Item.{Item}
+use Rattle.tokens.specs.Items.{itemAt, shownOf, shownAll}
+use Rattle.tokens.proofs.Items.{rest, words-less, shown-none, shown-some, shown-drop}
 use Rattle.styles.specs.declared.State.{State}
 use Rattle.styles.specs.declared.Reading.{Reading}
 use Rattle.styles.specs.Styles.{freshFlags, freshParagraph, fresh}
-use Rattle.pages.specs.declared.Page.{Page}
-use Rattle.pages.specs.declared.Laid.{Laid}
-use Rattle.pages.specs.declared.Laid.the-variants.{Full}
-use Rattle.pages.specs.Laying.{Laying, on, off, blank, layAll, Ready, Still}
-use Rattle.pages.proofs.Laying.{lay-end, lay-stop, ready-blank}
+use Rattle.blocks.specs.declared.Page.{Page}
+use Rattle.blocks.specs.declared.Laid.{Laid}
+use Rattle.blocks.specs.declared.Laid.the-variants.{Full}
+use Rattle.blocks.specs.Laying.{Laying, on, off, blank, layAll, Ready, Still}
+use Rattle.blocks.proofs.Laying.{lay-end, lay-stop, ready-blank}
 use Rattle.walk.specs.Walk.{passedBy}
-use Rattle.acts.specs.declared.Act.{Act}
-use Rattle.acts.specs.declared.Act.the-variants.{Push, Pop, Keep, Said, Bad}
-use Rattle.acts.specs.declared.Bare.{Bare}
-use Rattle.acts.specs.declared.Bare.the-variants.{Opens, Refuses}
-use Rattle.acts.specs.Body.{Asked, token, statesOf, uttered, bareAsks}
-use Rattle.acts.specs.Acting.{from, onward, OnwardFrom, bareOf}
-use Rattle.acts.proofs.Items.{from-end, from-group, from-bare}
+use Rattle.body.specs.declared.act.Act.{Act}
+use Rattle.body.specs.declared.act.Act.the-variants.{Push, Pop, Keep, Said, Bad}
+use Rattle.body.specs.declared.act.Bare.{Bare}
+use Rattle.body.specs.declared.act.Bare.the-variants.{Opens, Refuses}
+use Rattle.body.specs.Body.{Asked, token, statesOf, uttered, bareAsks}
+use Rattle.body.specs.Acting.{from, onward, OnwardFrom, bareOf}
+use Rattle.body.proofs.Items.{from-end, from-group, from-bare}
 
 -- what an array's place that is not there would give
 abbrev pub zeroed : State

@@ -2,28 +2,30 @@
 // rooms, over a stack of 64 states. What a token asks for is said in `acts`.
 //
 // Each token is read once. The top state stands by itself: what is below it is kept in an array and copied at brackets alone.
-use acts::Act;
-use acts::Bare;
-use acts::bare_token;
-use acts::passed;
-use acts::take_token;
+mod act;
+
+use crate::act::Act;
+use crate::act::Bare;
+use crate::act::bare_token;
+use crate::act::passed;
+use crate::act::take_token;
 use answers::Refusal;
 use answers::Why;
-use items::item_at;
-use pages::Laid;
-use pages::Page;
+use blocks::Laid;
+use blocks::Page;
 use styles::Reading;
 use styles::State;
+use tokens::item::item_at;
 ghost use mathlib.Core.Path.{_≡_};
 ghost use mathlib.Core.List.{[], _∷_};
 ghost use Prim.Native.Nat.{_*_, _≤_};
 ghost use lib.ListN.{length};
-ghost use Rattle.items.specs.Items.{shownAll};
+ghost use Rattle.tokens.specs.Items.{shownAll};
 ghost use Rattle.styles.specs.Styles.{fresh as freshState};
-ghost use Rattle.pages.specs.Laying.{told, on, layAll, blank as blankPage, Still};
-ghost use Rattle.acts.specs.Acting.{from};
+ghost use Rattle.blocks.specs.Laying.{told, on, layAll, blank as blankPage, Still};
+ghost use Rattle.body.specs.Acting.{from};
 
-// Lays the body of the first `count` tokens. The last block's record is left to `pages::finish`.
+// Lays the body of the first `count` tokens. The last block's record is left to `blocks::finish`.
 pub fn lay_body(
     source: &[u8],
     reading: Reading,

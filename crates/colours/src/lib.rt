@@ -9,14 +9,14 @@
 use answers::Outcome;
 use answers::Refusal;
 use answers::Why;
-use items::Item;
-use items::item_at;
 use tokens::Property;
+use tokens::item::Item;
+use tokens::item::item_at;
 ghost use mathlib.Core.Path.{_≡_};
 ghost use mathlib.Core.List.{List};
 ghost use Prim.Native.Nat.{ℕ, _*_, _≤_};
 ghost use lib.ListN.{length};
-ghost use Rattle.items.specs.Items.{shownAll};
+ghost use Rattle.tokens.specs.Items.{shownAll};
 ghost use Rattle.rooms.specs.Rooms.{tableLimit};
 ghost use Rattle.colours.specs.Colours.{colours as coloursOf, colourWord, ReadColours};
 ghost use Rattle.colours.specs.Effects.{fitted as fittedOf, wordEffect, effectOf, Small};

@@ -26,21 +26,21 @@ use Rattle.bytes.specs.Bytes.{inClass, body, grown}
 use Rattle.tokens.specs.declared.Property.{Property}
 use Rattle.tokens.specs.declared.Property.the-variants.{None, Value}
 use Rattle.tokens.specs.Tokens.{Shown}
-use Rattle.items.specs.declared.Item.{Item}
-use Rattle.items.specs.declared.Item.the-variants.{Text, Opening, Closing, LineBreak, Ignorable, Word, Unknown}
-use Rattle.items.specs.Items.{part, itemAt, shownOf, shownAll}
-use Rattle.items.proofs.Items.{rest, words-less, shown-none, shown-some}
-use Rattle.rows.specs.declared.Font.{Font as Row}
+use Rattle.tokens.specs.declared.item.Item.{Item}
+use Rattle.tokens.specs.declared.item.Item.the-variants.{Text, Opening, Closing, LineBreak, Ignorable, Word, Unknown}
+use Rattle.tokens.specs.Items.{part, itemAt, shownOf, shownAll}
+use Rattle.tokens.proofs.Items.{rest, words-less, shown-none, shown-some}
+use Rattle.fonts.specs.declared.rows.Font.{Font as Row}
 use Rattle.fonts.specs.declared.Effect.{Effect}
 use Rattle.fonts.specs.declared.Effect.the-variants.{Set, Store, Unnumbered}
-use Rattle.rows.specs.Rows.{Font, tableWords, hasKey, inserted, InFront, ReadFonts}
+use Rattle.fonts.specs.Rows.{Font, tableWords, hasKey, inserted, InFront, ReadFonts}
 use Rattle.fonts.specs.Fonts.{named, keyed}
-use Rattle.rows.specs.Rows.{Fonts, noFonts, stored, tableOf}
+use Rattle.fonts.specs.Rows.{Fonts, noFonts, stored, tableOf}
 use Rattle.fonts.specs.Fonts.{rekeyed, fontWord, fontToken, fontsFrom, fonts}
-use Rattle.rows.specs.Rows.{row, Ascends, StoredFont}
+use Rattle.fonts.specs.Rows.{row, Ascends, StoredFont}
 use Rattle.fonts.specs.Effects.{namedRow, numbered, wordEffect, effectOf, unnumbered}
 use Rattle.fonts.proofs.Limits.{limit-within}
-use Rattle.rows.proofs.Inserts.{table-ascends}
+use Rattle.fonts.proofs.Inserts.{table-ascends}
 use Rattle.fonts.proofs.Tables.{fonts-refused, Sound, SoundIf, sound-start, sound-next}
 
 done-done : (n m : ℕ) → Done n ≡ Done m → n ≡ m

@@ -23,8 +23,8 @@ use Rattle.tokens.specs.declared.Property.{Property}
 use Rattle.tokens.specs.declared.Property.the-variants.{None, Value}
 use Rattle.tokens.specs.Tokens.{Shown}
 use Rattle.tokens.specs.Tokens
-use Rattle.rows.specs.Rows.{Font, Fonts, noFonts, hasKey, inserted, stored, tableOf}
-use Rattle.rows.proofs.Tables.{Ascending, Keys, ascending-insert, keys-insert, length-insert, length-kept}
+use Rattle.fonts.specs.Rows.{Font, Fonts, noFonts, hasKey, inserted, stored, tableOf}
+use Rattle.fonts.proofs.RowTables.{Ascending, Keys, ascending-insert, keys-insert, length-insert, length-kept}
 use Rattle.fonts.specs.Fonts.{named, rekeyed, fontWord, fontToken, nextFont, fontsFrom, fonts}
 
 pub fonts-refused : (limit : ℕ) (r : Refusal) (ts : List Shown) → fontsFrom limit (refused r) ts ≡ refused r

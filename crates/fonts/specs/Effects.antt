@@ -13,10 +13,10 @@ use Rattle.bytes.specs.declared.Class.the-variants.{Semicolon}
 use Rattle.bytes.specs.Bytes.{inClass, body}
 use Rattle.tokens.specs.declared.Property.{Property}
 use Rattle.tokens.specs.declared.Property.the-variants.{None, Value}
-use Rattle.items.specs.declared.Item.{Item}
-use Rattle.items.specs.declared.Item.the-variants.{Text, Opening, Closing, LineBreak, Ignorable, Word, Unknown}
-use Rattle.items.specs.Items.{part}
-use Rattle.rows.specs.declared.Font.{Font as Row}
+use Rattle.tokens.specs.declared.item.Item.{Item}
+use Rattle.tokens.specs.declared.item.Item.the-variants.{Text, Opening, Closing, LineBreak, Ignorable, Word, Unknown}
+use Rattle.tokens.specs.Items.{part}
+use Rattle.fonts.specs.declared.rows.Font.{Font as Row}
 use Rattle.fonts.specs.declared.Effect.{Effect}
 use Rattle.fonts.specs.declared.Effect.the-variants.{Set, Store, Unnumbered}
 

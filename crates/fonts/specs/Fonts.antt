@@ -12,7 +12,7 @@ use Rattle.tokens.specs.declared.Property.{Property}
 use Rattle.tokens.specs.declared.Property.the-variants.{None, Value}
 use Rattle.tokens.specs.Tokens.{Shown}
 use Rattle.tokens.specs.Tokens
-use Rattle.rows.specs.Rows.{Font, Fonts, noFonts, stored, tableOf}
+use Rattle.fonts.specs.Rows.{Font, Fonts, noFonts, stored, tableOf}
 
 -- "Text replaces the name, ending `;`s dropped.", "place 0 if empty"
 unfoldable pub named : Font → ℕ → List ℕ → Font

@@ -5,25 +5,27 @@
 //   key_of      a number as a key
 //   step        a token's effect
 //   read_fonts  the whole table
+mod rows;
+
+use crate::rows::Font;
+use crate::rows::store;
 use answers::Outcome;
 use answers::Refusal;
 use answers::Why;
 use bytes::Class;
 use bytes::body_of;
-use items::Item;
-use items::item_at;
-use items::part;
-use rows::Font;
-use rows::store;
 use tokens::Property;
+use tokens::item::Item;
+use tokens::item::item_at;
+use tokens::item::part;
 ghost use mathlib.Core.Path.{_≡_};
 ghost use Prim.Native.Nat.{_*_, _%_, _≤_};
 ghost use lib.ListN.{length};
 ghost use Rattle.bytes.specs.declared.Class.the-variants.{Semicolon};
 ghost use Rattle.bytes.specs.Bytes.{inClass, body};
-ghost use Rattle.items.specs.Items.{part as partOf, shownAll};
+ghost use Rattle.tokens.specs.Items.{part as partOf, shownAll};
 ghost use Rattle.rooms.specs.Rooms.{tableLimit};
-ghost use Rattle.rows.specs.Rows.{ReadFonts};
+ghost use Rattle.fonts.specs.Rows.{ReadFonts};
 ghost use Rattle.fonts.specs.Fonts.{fonts as fontsOf};
 ghost use Rattle.fonts.specs.Effects.{namedRow, numbered as numberedOf, wordEffect, effectOf, unnumbered as unnumberedOf};
 

@@ -1,5 +1,7 @@
+-- Entering: a group, by what its bracket begins.
 -- Laws. Tables, for the crates above: of the tables that the walk's steps give. Walking: the loop over tokens. Cases: telling
 -- token lists.
+mod Entering
 pub mod Tables
 mod Walking
 mod Cases

@@ -15,14 +15,14 @@ use Rattle.answers.specs.Answers.{Found, found, refused}
 use Rattle.rooms.specs.Rooms.{tableLimit}
 use Rattle.rooms.proofs.Rooms.{limit-256}
 use Rattle.tokens.specs.Tokens.{Shown}
-use Rattle.rows.specs.Rows.{Font}
+use Rattle.fonts.specs.Rows.{Font}
 use Rattle.fonts.specs.Fonts.{fonts}
-use Rattle.rows.proofs.Tables.{Ascending, Keys}
+use Rattle.fonts.proofs.RowTables.{Ascending, Keys}
 use Rattle.fonts.proofs.Tables.{fonts-few, fonts-up, fonts-keys}
 use Rattle.colours.specs.Colours.{colours}
 use Rattle.colours.proofs.Tables.{Words, colours-few, colours-words}
 use Rattle.walk.specs.Walk.{Step, kept, hidden, fontTable, colourTable}
-use Rattle.entering.specs.Entering.{Tables, withFonts, withColours, readStep}
+use Rattle.header.specs.Entering.{Tables, withFonts, withColours, readStep}
 use Rattle.header.specs.Header.{noTables, nextStep, tablesFrom, tables}
 
 pub tables-refused : (f c : ℕ) (r : Refusal) (xs : List Step) → tablesFrom f c (refused r) xs ≡ refused r

@@ -13,19 +13,19 @@ use Rattle.answers.specs.declared.Refusal.{Refusal}
 use Rattle.answers.specs.Answers.{Found, found, refused}
 use Rattle.rooms.specs.Rooms.{tableLimit}
 use Rattle.tokens.specs.Tokens.{Shown}
-use Rattle.items.specs.declared.Item.{Item}
-use Rattle.items.specs.declared.Item.the-variants.{Text, Opening, Closing, LineBreak, Ignorable, Word, Unknown}
-use Rattle.items.specs.Items.{itemAt, shownOf, shownAll}
-use Rattle.items.proofs.Items.{rest, words-less, shown-none, shown-some, shown-drop}
-use Rattle.rows.specs.Rows.{tableWords}
+use Rattle.tokens.specs.declared.item.Item.{Item}
+use Rattle.tokens.specs.declared.item.Item.the-variants.{Text, Opening, Closing, LineBreak, Ignorable, Word, Unknown}
+use Rattle.tokens.specs.Items.{itemAt, shownOf, shownAll}
+use Rattle.tokens.proofs.Items.{rest, words-less, shown-none, shown-some, shown-drop}
+use Rattle.fonts.specs.Rows.{tableWords}
 use Rattle.walk.specs.Walk.{aim, entered, enteredLength, stepOf, passedBy, walk}
 use Rattle.walk.proofs.Walk.{walk-end, walk-one}
 use Rattle.header.specs.declared.Header.the-variants.{Read, Refused}
-use Rattle.entering.specs.declared.Entered.{Entered}
-use Rattle.entering.specs.declared.Entered.the-variants.{On, Bad}
-use Rattle.entering.specs.Entering.{Tables, readStep}
+use Rattle.header.specs.declared.group.Entered.{Entered}
+use Rattle.header.specs.declared.group.Entered.the-variants.{On, Bad}
+use Rattle.header.specs.Entering.{Tables, readStep}
 use Rattle.header.specs.Header.{noTables, tablesFrom, tables, ReadHeader}
-use Rattle.entering.specs.Entering.{opens, Holds, passed, Met, Enters}
+use Rattle.header.specs.Entering.{opens, Holds, passed, Met, Enters}
 use Rattle.header.proofs.Tables.{tables-refused}
 
 -- what the whole letter gives

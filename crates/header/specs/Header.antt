@@ -4,9 +4,9 @@ use mathlib.Core.Path.{_≡_}
 use mathlib.Core.List.{List, [], _∷_}
 use lib.ListN.{length, take}
 use Rattle.answers.specs.Answers.{Found, found, refused}
-use Rattle.rows.specs.Rows.{tableWords, InFront}
+use Rattle.fonts.specs.Rows.{tableWords, InFront}
 use Rattle.walk.specs.Walk.{Step}
-use Rattle.entering.specs.Entering.{Tables, readStep}
+use Rattle.header.specs.Entering.{Tables, readStep}
 use Rattle.header.specs.declared.Header.{Header}
 use Rattle.header.specs.declared.Header.the-variants.{Read, Refused}
 

@@ -1,13 +1,15 @@
 // The header (01, Header walk; `Parser::parse_header` in the crate): the tables among a letter's tokens become records in two
 // lent rooms. A later table replaces an earlier one. The walk is linear, as `enter` is.
+mod group;
+
+use crate::group::Entered;
+use crate::group::enter;
+use crate::group::is_opening;
 use answers::Refusal;
-use entering::Entered;
-use entering::enter;
-use entering::is_opening;
 ghost use Prim.Native.Nat.{_*_, _≤_};
 ghost use lib.ListN.{length};
 ghost use Rattle.rooms.specs.Rooms.{tableLimit};
-ghost use Rattle.items.specs.Items.{shownAll};
+ghost use Rattle.tokens.specs.Items.{shownAll};
 ghost use Rattle.walk.specs.Walk.{walk as walkOf};
 ghost use Rattle.header.specs.Header.{tables, ReadHeader};
 

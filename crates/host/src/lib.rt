@@ -6,25 +6,27 @@
 //   elduvarn_stored_check, _read, _write             the stored form
 //
 // Every function is total, and says what the crate below says.
-use checks::check;
+mod answer;
+
+use crate::answer::ReadAnswer;
+use crate::answer::StoredAnswer;
+use crate::answer::answer_of;
+use crate::answer::stored_of;
 use reader::read;
+use stored::check::check;
 use stored::read_list;
 use storing::write_list;
 use styles::Reading;
-use told::ReadAnswer;
-use told::StoredAnswer;
-use told::answer_of;
-use told::stored_of;
 ghost use mathlib.Core.Path.{_≡_};
 ghost use lib.ListN.{length};
 ghost use Rattle.answers.specs.Answers.{outcomeNumber, outcomeCount};
 ghost use Rattle.cutter.specs.Cutting.{cutAnswer, cutRoom};
 ghost use Rattle.parser.specs.Parsing.{sizes};
 ghost use Rattle.reader.specs.Reading.{readAnswer, tokenRoom, fontRoom, colourRoom, blockRoom, textRoom};
-ghost use Rattle.checks.specs.Checks.{checked};
+ghost use Rattle.stored.specs.Checks.{checked};
 ghost use Rattle.stored.specs.Stored.{storedAnswer, storedBlocks, storedText};
 ghost use Rattle.storing.specs.Storing.{writeAnswer, writeRoom};
-ghost use Rattle.told.specs.Told.{answerOf, storedOf};
+ghost use Rattle.host.specs.Told.{answerOf, storedOf};
 
 // The answer's number, 0 or a refusal's, and how many tokens stand in the room.
 #[repr(C)]

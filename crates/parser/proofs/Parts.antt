@@ -18,25 +18,25 @@ use Rattle.rooms.specs.Streams.{Stream, items, answer}
 use Rattle.rooms.proofs.Streams.{done-refused}
 use Rattle.tokens.specs.Tokens.{Shown}
 use Rattle.tokens.specs.Tokens
-use Rattle.items.specs.declared.Item.{Item}
-use Rattle.items.specs.Items.{itemAt, shownOf, shownAll}
-use Rattle.items.proofs.Items.{shown-none, shown-some}
+use Rattle.tokens.specs.declared.item.Item.{Item}
+use Rattle.tokens.specs.Items.{itemAt, shownOf, shownAll}
+use Rattle.tokens.proofs.Items.{shown-none, shown-some}
 use Rattle.styles.specs.declared.Reading.{Reading}
-use Rattle.pages.specs.declared.Page.{Page}
-use Rattle.pages.specs.declared.Laid.{Laid}
-use Rattle.pages.specs.declared.Laid.the-variants.{On, Full}
+use Rattle.blocks.specs.declared.Page.{Page}
+use Rattle.blocks.specs.declared.Laid.{Laid}
+use Rattle.blocks.specs.declared.Laid.the-variants.{On, Full}
 use Rattle.rooms.specs.Rooms.{filled, tableLimit}
 use Rattle.rooms.proofs.Clearing.{filled-front}
-use Rattle.pages.specs.Pages.{Piece, blocks}
-use Rattle.pages.specs.Laying.{on, told, blank, blockCount, lastPut, layAll}
-use Rattle.pages.proofs.Settling.{lay-refuses, lay-joins, Joined, Filled, joined-filled}
+use Rattle.blocks.specs.Pages.{Piece, blocks}
+use Rattle.blocks.specs.Laying.{on, told, blank, blockCount, lastPut, layAll}
+use Rattle.blocks.proofs.Settling.{lay-refuses, lay-joins, Joined, Filled, joined-filled}
 use Rattle.walk.specs.Walk.{walk}
-use Rattle.acts.specs.Body.{body}
-use Rattle.rows.specs.Rows.{tableWords}
-use Rattle.rows.proofs.Tables.{length-table}
+use Rattle.body.specs.Body.{body}
+use Rattle.fonts.specs.Rows.{tableWords}
+use Rattle.fonts.proofs.RowTables.{length-table}
 use Rattle.header.specs.declared.Header.{Header}
 use Rattle.header.specs.declared.Header.the-variants.{Read as Headed, Refused as Unheaded}
-use Rattle.entering.specs.Entering.{Tables}
+use Rattle.header.specs.Entering.{Tables}
 use Rattle.header.specs.Header.{tables, ReadHeader}
 use Rattle.parser.specs.declared.Answer.{Answer}
 use Rattle.parser.specs.declared.Answer.the-variants.{Read, Refuses}

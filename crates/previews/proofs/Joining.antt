@@ -15,8 +15,8 @@ use Rattle.wellformed.proofs.WellFormed.{utf8-join}
 use Rattle.styles.specs.declared.Style.{Style}
 use Rattle.styles.specs.Styles.{sameStyle}
 use Rattle.fields.specs.Fields.{inRange}
-use Rattle.pages.specs.Pages.{Piece, piece, blocksFrom, blocks, Last, none, last}
-use Rattle.pages.proofs.Blocks.{ApartFrom, Apart, blocks-differ}
+use Rattle.blocks.specs.Pages.{Piece, piece, blocksFrom, blocks, Last, none, last}
+use Rattle.blocks.proofs.Blocks.{ApartFrom, Apart, blocks-differ}
 use Rattle.storing.specs.Good.{Good}
 use Rattle.storing.proofs.Writing.{one-good}
 use Rattle.previews.proofs.Tokens.{All}

@@ -31,14 +31,14 @@ use Rattle.styles.specs.declared.Change.{Change}
 use Rattle.styles.specs.declared.Change.the-variants.{To, Says, Refuses}
 use Rattle.styles.specs.Styles.{fresh, change}
 use Rattle.fields.specs.Fields.{inRange}
-use Rattle.pages.specs.Pages.{Piece}
+use Rattle.blocks.specs.Pages.{Piece}
 use Rattle.walk.specs.declared.Aim.{Aim}
 use Rattle.walk.specs.declared.Aim.the-variants.{Nothing, Hide, Fonts, Colours}
 use Rattle.walk.specs.Walk.{aim, Step, kept, hidden, fontTable, colourTable, entered, stepOf, stepsAt, leftAt, passedBy}
 use Rattle.walk.specs.Walk.{walkFrom, walk}
 use Rattle.runs.specs.Runs.{some}
-use Rattle.acts.specs.Body.{Item, token, run, apart, joined, keptItems, stepItems, gather, Asked, stops, goes, says, stackLimit}
-use Rattle.acts.specs.Body.{changed, tokenAsks, bareAsks, runAsks, asks, statesOf, pieceOf, uttered, bodyFrom, body}
+use Rattle.body.specs.Body.{Item, token, run, apart, joined, keptItems, stepItems, gather, Asked, stops, goes, says, stackLimit}
+use Rattle.body.specs.Body.{changed, tokenAsks, bareAsks, runAsks, asks, statesOf, pieceOf, uttered, bodyFrom, body}
 use Rattle.previews.proofs.Tokens.{All, Fine}
 use Rattle.previews.proofs.States.{Sound, SoundChange, fresh-sound, change-sound, sound-range}
 

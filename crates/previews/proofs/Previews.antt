@@ -19,18 +19,18 @@ use Rattle.tokens.specs.Tokens.{Shown, Token}
 use Rattle.tokens.specs.Tokens
 use Rattle.cutter.specs.Cutting.{tokenStream, cutAnswer}
 use Rattle.walk.specs.Walk.{walk}
-use Rattle.entering.specs.Entering.{Tables}
+use Rattle.header.specs.Entering.{Tables}
 use Rattle.header.specs.Header.{tables}
 use Rattle.styles.specs.declared.Reading.{Reading}
-use Rattle.pages.specs.Pages.{Piece, none, blocks, textOf, records, blockWords, textCapacity, roomy}
-use Rattle.pages.proofs.Blocks.{text-blocks, length-records}
-use Rattle.acts.specs.Body.{body}
+use Rattle.blocks.specs.Pages.{Piece, none, blocks, textOf, records, blockWords, textCapacity, roomy}
+use Rattle.blocks.proofs.Blocks.{text-blocks, length-records}
+use Rattle.body.specs.Body.{body}
 use Rattle.parser.specs.declared.Counts.{Counts}
 use Rattle.parser.specs.declared.Answer.the-variants.{Read}
 use Rattle.parser.specs.Parsing.{begun, Sizes, Letter, ended, placed, bodied, headed, walked}
 use Rattle.reader.specs.Reading.{shownBy, cut, letterOf, countsOf}
 use Rattle.reader.specs.Reading.{answered, readAnswer, blockRoom, textRoom}
-use Rattle.putting.specs.Blocks.{listBytes}
+use Rattle.storing.specs.Bytes.{listBytes}
 use Rattle.storing.specs.Good.{Good}
 use Rattle.storing.specs.Storing.{writeAnswer, writeRoom}
 use Rattle.storing.proofs.Writing.{write-good}

@@ -28,9 +28,9 @@ use Rattle.tokenize.proofs.Places.{At, Stands}
 use Rattle.cutter.specs.Cutting.{tokenStream, cutAnswer, cutRoom}
 use Rattle.cutter.proofs.Places.{Placed, stream-places}
 use Rattle.cutter.proofs.Counts.{count-stream}
-use Rattle.items.specs.declared.Item.{Item}
-use Rattle.items.specs.declared.Item.the-variants.{Unknown, Word}
-use Rattle.items.specs.Items.{propertyOf, itemOf, itemAt, part, shownOf, shownAll}
+use Rattle.tokens.specs.declared.item.Item.{Item}
+use Rattle.tokens.specs.declared.item.Item.the-variants.{Unknown, Word}
+use Rattle.tokens.specs.Items.{propertyOf, itemOf, itemAt, part, shownOf, shownAll}
 use Rattle.reader.specs.Reading.{shownBy}
 
 number-back : (num : Property) → propertyOf (hasOf num) (valueOf num) ≡ num

@@ -15,7 +15,7 @@ use Rattle.rooms.specs.Streams.{items}
 use Rattle.rooms.specs.Rooms.{encode, filled}
 use Rattle.tokens.specs.Tokens.{Shown, tokenLayout}
 use Rattle.cutter.specs.Cutting.{tokenStream, cutAnswer, cutRoom}
-use Rattle.items.specs.Items.{shownAll}
+use Rattle.tokens.specs.Items.{shownAll}
 use Rattle.styles.specs.declared.Reading.{Reading}
 use Rattle.parser.specs.declared.Counts.{Counts}
 use Rattle.parser.specs.declared.Answer.{Answer}

@@ -10,9 +10,9 @@ use Rattle.rooms.specs.Streams.{items}
 use Rattle.rooms.specs.Rooms.{encode, filled}
 use Rattle.tokens.specs.Tokens.{Shown, Token, tokenLayout}
 use Rattle.cutter.specs.Cutting.{tokenStream, cutAnswer}
-use Rattle.rows.specs.Rows.{tableWords}
+use Rattle.fonts.specs.Rows.{tableWords}
 use Rattle.styles.specs.declared.Reading.{Reading}
-use Rattle.pages.specs.Pages.{blocks, textOf, records}
+use Rattle.blocks.specs.Pages.{blocks, textOf, records}
 use Rattle.parser.specs.declared.Counts.{Counts}
 use Rattle.parser.specs.declared.Answer.{Answer}
 use Rattle.parser.specs.declared.Answer.the-variants.{Read, Refuses}

@@ -23,7 +23,7 @@ use Rattle.rooms.specs.Streams.{Stream, end, stop, _▸_, items, answer}
 use Rattle.styles.specs.declared.Style.{Style}
 use Rattle.rooms.specs.Rooms.{filled}
 use Rattle.styles.specs.Styles.{sameStyle, styleWords}
-use Rattle.pages.specs.Pages.{Piece, piece, Last, none, last, starts, roomy, blocks, blocksFrom, textOf, records, blockRecord}
+use Rattle.blocks.specs.Pages.{Piece, piece, Last, none, last, starts, roomy, blocks, blocksFrom, textOf, records, blockRecord}
 use Rattle.stored.specs.declared.Answer.the-variants.{Read}
 use Rattle.stored.specs.Stored.{placed, storedAnswer, storedBlocks, storedText}
 use Rattle.storing.specs.Good.{Good}

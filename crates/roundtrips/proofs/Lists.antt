@@ -18,12 +18,12 @@ use Rattle.sevens.specs.declared.Numeral.the-variants.{Is as Numbered, Bad as B
 use Rattle.sevens.specs.Sevens.{numberOf, written}
 use Rattle.sevens.proofs.Sevens.{read-written, written-read}
 use Rattle.styles.specs.declared.Style.{Style}
-use Rattle.pages.specs.Pages.{Piece, piece, Last, none, last}
-use Rattle.entries.specs.declared.Entry.{Entry}
-use Rattle.entries.specs.declared.Entry.the-variants.{Is, Bad}
-use Rattle.entries.specs.Entries.{entry}
+use Rattle.blocks.specs.Pages.{Piece, piece, Last, none, last}
+use Rattle.stored.specs.declared.entry.Entry.{Entry}
+use Rattle.stored.specs.declared.entry.Entry.the-variants.{Is, Bad}
+use Rattle.stored.specs.Entries.{entry}
 use Rattle.stored.specs.Stored.{over, entered, blocksFrom, counted, stored}
-use Rattle.putting.specs.Blocks.{numbersBytes, blockNumbers, blockBytes, blocksBytes, listBytes}
+use Rattle.storing.specs.Bytes.{numbersBytes, blockNumbers, blockBytes, blocksBytes, listBytes}
 use Rattle.storing.specs.Good.{Good}
 use Rattle.storing.proofs.Writing.{good-one, one-good}
 use Rattle.roundtrips.specs.Trips.{Bytes, Small, all}

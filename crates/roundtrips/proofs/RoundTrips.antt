@@ -21,15 +21,15 @@ use Rattle.rooms.specs.Rooms.{capacity, filled, settled, content}
 use Rattle.rooms.proofs.Streams.{done-refused}
 use Rattle.sevens.specs.Sevens.{byteLayout, streamed}
 use Rattle.sevens.proofs.Streamed.{answer-streamed, encode-streamed}
-use Rattle.pages.specs.Pages.{Piece, none, blocks, textOf, records, roomy, textCapacity}
-use Rattle.pages.proofs.Blocks.{length-records}
+use Rattle.blocks.specs.Pages.{Piece, none, blocks, textOf, records, roomy, textCapacity}
+use Rattle.blocks.proofs.Blocks.{length-records}
 use Rattle.stored.specs.declared.Counts.{Counts}
 use Rattle.stored.specs.declared.Answer.{Answer}
 use Rattle.stored.specs.declared.Answer.the-variants.{Read}
 use Rattle.stored.specs.Stored.{stored, placed, answered, storedAnswer, storedBlocks, storedText}
-use Rattle.putting.specs.Blocks.{listBytes}
+use Rattle.storing.specs.Bytes.{listBytes}
 use Rattle.storing.specs.Good.{Good}
-use Rattle.lists.specs.Lists.{listStream}
+use Rattle.storing.specs.Lists.{listStream}
 use Rattle.storing.specs.Storing.{writeAnswer, writeRoom}
 use Rattle.storing.proofs.Writing.{stream-ends, write-good}
 use Rattle.roundtrips.specs.Trips.{Bytes, Words, Small, all}

@@ -4,7 +4,7 @@ use mathlib.Core.List.{List, [], _∷_}
 use lib.ListN.{getD, length}
 use Rattle.rooms.specs.Streams.{Stream, end, _▸_}
 use Rattle.styles.specs.Styles.{styleWords}
-use Rattle.pages.specs.Pages.{Piece}
+use Rattle.blocks.specs.Pages.{Piece}
 
 -- every item is a byte; every item has 32 bits
 abbrev pub Bytes : List ℕ → Type 0

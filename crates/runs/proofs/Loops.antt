@@ -14,10 +14,10 @@ use lib.ListN.{length}
 use lib.Dec.{leb, ltb, eqb}
 use Rattle.tokens.specs.declared.Property.{Property}
 use Rattle.tokens.specs.declared.Property.the-variants.{None, Value}
-use Rattle.items.specs.declared.Item.{Item}
-use Rattle.items.specs.declared.Item.the-variants.{Word}
-use Rattle.items.specs.Items.{itemAt, shownOf, shownAll, numberAt}
-use Rattle.items.proofs.Items.{rest, rest-drop, words-less, shown-none, shown-some}
+use Rattle.tokens.specs.declared.item.Item.{Item}
+use Rattle.tokens.specs.declared.item.Item.the-variants.{Word}
+use Rattle.tokens.specs.Items.{itemAt, shownOf, shownAll, numberAt}
+use Rattle.tokens.proofs.Items.{rest, rest-drop, words-less, shown-none, shown-some}
 use Rattle.units.specs.Units.{unitOf, units}
 use Rattle.runs.specs.Runs.{isUnit, runLength, numbersOf, some}
 

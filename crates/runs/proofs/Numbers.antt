@@ -6,9 +6,9 @@ use Prim.Native.Nat.{ℕ, zero, suc}
 use lib.ListN.{getD, drop}
 use lib.Dec.{eqb}
 use Rattle.tokens.specs.declared.Property.{Property}
-use Rattle.items.specs.declared.Item.{Item}
-use Rattle.items.specs.declared.Item.the-variants.{Text, Opening, Closing, LineBreak, Ignorable, Word, Unknown}
-use Rattle.items.specs.Items.{itemOf, itemAt, shownOf, shownAll, numberAt}
+use Rattle.tokens.specs.declared.item.Item.{Item}
+use Rattle.tokens.specs.declared.item.Item.the-variants.{Text, Opening, Closing, LineBreak, Ignorable, Word, Unknown}
+use Rattle.tokens.specs.Items.{itemOf, itemAt, shownOf, shownAll, numberAt}
 use Rattle.runs.specs.Runs.{isUnit, runLength, numberOf, runNumbers, numbersOf}
 
 -- a `u` word's number stands in its record

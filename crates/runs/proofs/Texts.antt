@@ -18,8 +18,8 @@ use Rattle.answers.specs.declared.Why.the-variants.{TextRoom}
 use Rattle.answers.specs.Answers.{refusal}
 use Rattle.tokens.specs.declared.Property.{Property}
 use Rattle.tokens.specs.Tokens.{valueOf}
-use Rattle.items.specs.Items.{numberAt}
-use Rattle.items.proofs.Items.{rest as restWords, words-less}
+use Rattle.tokens.specs.Items.{numberAt}
+use Rattle.tokens.proofs.Items.{rest as restWords, words-less}
 use Rattle.utf8.specs.declared.Encoded.{Encoded}
 use Rattle.utf8.specs.Utf8.{written, encodedOf}
 use Rattle.utf8.proofs.Utf8.{encoded-length, encoded-bytes}
@@ -28,12 +28,12 @@ use Rattle.units.specs.declared.Gave.{Gave}
 use Rattle.units.specs.Units.{units, utf8All, values, step, before, runText}
 use Rattle.units.proofs.Units.{Fit, fit-before, fit-step, rest, text-start, text-step, text-end, text-values, text-flushed}
 use Rattle.styles.specs.declared.Style.{Style}
-use Rattle.pages.specs.declared.Page.{Page}
-use Rattle.pages.specs.declared.Laid.{Laid}
-use Rattle.pages.specs.declared.Laid.the-variants.{On, Full}
-use Rattle.pages.specs.Pages.{textCapacity}
-use Rattle.pages.specs.Laying.{Laying, on, off, told, startOf, appendOf, appendTo, addOf, ReadyBlocks, Ready, Still}
-use Rattle.pages.proofs.Laying.{append-none, append-append}
+use Rattle.blocks.specs.declared.Page.{Page}
+use Rattle.blocks.specs.declared.Laid.{Laid}
+use Rattle.blocks.specs.declared.Laid.the-variants.{On, Full}
+use Rattle.blocks.specs.Pages.{textCapacity}
+use Rattle.blocks.specs.Laying.{Laying, on, off, told, startOf, appendOf, appendTo, addOf, ReadyBlocks, Ready, Still}
+use Rattle.blocks.proofs.Laying.{append-none, append-append}
 use Rattle.runs.specs.Runs.{numbersOf, some, saidOf, Appends, runLaid}
 use Rattle.runs.proofs.Loops.{numbers-none, numbers-some}
 

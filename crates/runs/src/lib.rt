@@ -6,15 +6,15 @@
 //   run_text    the text of a run
 //   lay_run     the same in its block; a run without a unit starts none
 use answers::Refusal;
-use items::Item;
-use items::item_at;
-use items::number_at;
-use pages::Laid;
-use pages::Page;
-use pages::append;
-use pages::start;
+use blocks::Laid;
+use blocks::Page;
+use blocks::append;
+use blocks::start;
 use styles::Style;
 use tokens::Property;
+use tokens::item::Item;
+use tokens::item::item_at;
+use tokens::item::number_at;
 use units::Gave;
 use units::Run;
 use units::step;
@@ -23,10 +23,10 @@ ghost use mathlib.Core.Path.{_≡_};
 ghost use mathlib.Core.List.{List, _++_};
 ghost use Prim.Native.Nat.{ℕ, _*_, _≤_, _<_};
 ghost use lib.ListN.{length};
-ghost use Rattle.items.specs.Items.{shownOf, shownAll};
+ghost use Rattle.tokens.specs.Items.{shownOf, shownAll};
 ghost use Rattle.units.specs.Units.{units as unitsOf, unitOf, values, runText};
-ghost use Rattle.pages.specs.Pages.{textCapacity};
-ghost use Rattle.pages.specs.Laying.{told, Ready, Still};
+ghost use Rattle.blocks.specs.Pages.{textCapacity};
+ghost use Rattle.blocks.specs.Laying.{told, Ready, Still};
 ghost use Rattle.runs.specs.Runs.{isUnit, runLength, numbersOf, some as someOf, saidOf, Appends, runLaid};
 
 fn is_unit(i: Item) -> bool

@@ -10,7 +10,7 @@ use Rattle.bytes.specs.Texts.{bytesOf}
 use Rattle.tokens.specs.declared.Property.the-variants.{None, Value}
 use Rattle.tokens.specs.Tokens.{Shown}
 use Rattle.tokens.specs.Tokens
-use Rattle.rows.specs.Rows.{Font, fontWords, tableWords, hasKey, inserted, stored}
+use Rattle.fonts.specs.Rows.{Font, fontWords, tableWords, hasKey, inserted, stored}
 use Rattle.fonts.specs.Fonts.{named, fontWord, fontToken, fontsFrom, fonts}
 
 -- `\f` and a number, and `\f` alone

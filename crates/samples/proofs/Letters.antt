@@ -20,14 +20,14 @@ use Rattle.cutter.specs.Cutting.{located, last, allSlices, trimmed, tokenStream
 use Rattle.utf8.specs.Utf8.{utf8, written}
 use Rattle.units.specs.Units.{unitOf, units, later, kept, decode, utf8All, runText}
 use Rattle.walk.specs.Walk.{aimFrom, extent, walkFrom}
-use Rattle.rows.specs.Rows.{fontWords, tableWords, hasKey, inserted, stored}
+use Rattle.fonts.specs.Rows.{fontWords, tableWords, hasKey, inserted, stored}
 use Rattle.fonts.specs.Fonts.{named as fontNamed, fontWord, fontToken, fontsFrom, fonts}
 use Rattle.colours.specs.Colours.{colourWordOf, colourToken, coloursFrom, colours}
 use Rattle.header.specs.Header.{tablesFrom}
 use Rattle.styles.specs.declared.Reading.the-variants.{Plain}
 use Rattle.styles.specs.Styles.{flagged, fitted, alignment, spacing, measured, character, change, flagsNumber, styleOf}
-use Rattle.pages.specs.Pages.{blocksFrom, blocks, textOf, records, roomy}
-use Rattle.acts.specs.Body.{gather, asks, bodyFrom}
+use Rattle.blocks.specs.Pages.{blocksFrom, blocks, textOf, records, roomy}
+use Rattle.body.specs.Body.{gather, asks, bodyFrom}
 use Rattle.parser.specs.Parsing.{Sizes, Letter, placed, bodied, answerNumber}
 use Rattle.reader.specs.Reading.{shownBy, letterOf, answered}
 

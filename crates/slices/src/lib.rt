@@ -1,6 +1,8 @@
 // Slices: where a letter is cut apart (01, Cutting; the loop of `Lexer::scan` in the crate).
-use eights::first_mark;
-use eights::marks_of;
+mod eights;
+
+use crate::eights::first_mark;
+use crate::eights::marks_of;
 ghost use mathlib.Core.Path.{_≡_};
 ghost use Prim.Native.Nat.{_+_, _-_, _≤_, _<_};
 ghost use lib.ListN.{length, getD, drop};

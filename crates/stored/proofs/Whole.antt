@@ -14,12 +14,12 @@ use Rattle.rooms.specs.Streams.{Stream, items, answer}
 use Rattle.sevens.specs.declared.Numeral.{Numeral}
 use Rattle.sevens.specs.declared.Numeral.the-variants.{Is as Numbered, Bad as BadNumber, Short}
 use Rattle.sevens.specs.Sevens.{numberOf}
-use Rattle.pages.specs.declared.Page.{Page}
-use Rattle.pages.specs.declared.Laid.{Laid}
-use Rattle.pages.specs.declared.Laid.the-variants.{On, Full}
-use Rattle.pages.specs.Pages.{Piece, none, blocks}
-use Rattle.pages.specs.Laying.{Laying, on, off, told, blank, blockCount, lastPut, layAll}
-use Rattle.pages.proofs.Settling.{lay-refuses, lay-joins, Joined, Filled, joined-filled}
+use Rattle.blocks.specs.declared.Page.{Page}
+use Rattle.blocks.specs.declared.Laid.{Laid}
+use Rattle.blocks.specs.declared.Laid.the-variants.{On, Full}
+use Rattle.blocks.specs.Pages.{Piece, none, blocks}
+use Rattle.blocks.specs.Laying.{Laying, on, off, told, blank, blockCount, lastPut, layAll}
+use Rattle.blocks.proofs.Settling.{lay-refuses, lay-joins, Joined, Filled, joined-filled}
 use Rattle.stored.specs.declared.Answer.{Answer}
 use Rattle.stored.specs.declared.Answer.the-variants.{Read, Refuses}
 use Rattle.stored.specs.Stored.{blocksFrom, stored, placed, storedAnswer, storedBlocks, storedText}

@@ -12,13 +12,13 @@ use Rattle.rooms.specs.Rooms.{capacity, filled}
 use Rattle.sevens.specs.declared.Numeral.{Numeral}
 use Rattle.sevens.specs.declared.Numeral.the-variants.{Is as Numbered, Bad as BadNumber, Short}
 use Rattle.sevens.specs.Sevens.{numberOf}
-use Rattle.pages.specs.Pages.{Piece, piece, Last, none, last, blocks, textOf, records, blockWords, textCapacity, roomy}
-use Rattle.entries.specs.declared.Entry.{Entry}
-use Rattle.entries.specs.declared.Entry.the-variants.{Is, Bad}
+use Rattle.blocks.specs.Pages.{Piece, piece, Last, none, last, blocks, textOf, records, blockWords, textCapacity, roomy}
+use Rattle.stored.specs.declared.entry.Entry.{Entry}
+use Rattle.stored.specs.declared.entry.Entry.the-variants.{Is, Bad}
 use Rattle.stored.specs.declared.Counts.{Counts}
 use Rattle.stored.specs.declared.Answer.{Answer}
 use Rattle.stored.specs.declared.Answer.the-variants.{Read, Refuses}
-use Rattle.entries.specs.Entries.{entry}
+use Rattle.stored.specs.Entries.{entry}
 
 -- the end of a list: 23 "has bytes left over"
 abbrev pub over : List ℕ → Stream Piece

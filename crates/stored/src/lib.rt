@@ -3,24 +3,27 @@
 //   Answer     how many blocks and bytes of text were read, or a refusal
 //   read_list  the whole: each room holds its records and zeros, or zeros alone
 //
-// `read_list` is total. It reads blocks by `entries::block_at`.
+// `read_list` is total. It reads blocks by `crate::entry::block_at`.
+pub mod check;
+pub mod entry;
+
+use crate::entry::Entry;
+use crate::entry::block_at;
 use answers::Refusal;
 use answers::Why;
-use entries::Entry;
-use entries::block_at;
-use pages::BLOCK_WORDS;
-use pages::Laid;
-use pages::Page;
-use pages::add;
-use pages::finish;
+use blocks::BLOCK_WORDS;
+use blocks::Laid;
+use blocks::Page;
+use blocks::add;
+use blocks::finish;
 use rooms::clear_bytes_from;
 use rooms::clear_from;
 use sevens::Numeral;
 use sevens::number_at;
 ghost use mathlib.Core.Path.{_≡_};
 ghost use lib.ListN.{length, replicate};
-ghost use Rattle.pages.specs.Pages.{none};
-ghost use Rattle.pages.specs.Laying.{told, on, layAll, blank as blankPage, Still};
+ghost use Rattle.blocks.specs.Pages.{none};
+ghost use Rattle.blocks.specs.Laying.{told, on, layAll, blank as blankPage, Still};
 ghost use Rattle.stored.specs.Stored.{blocksFrom, stored, storedAnswer, storedBlocks, storedText};
 ghost use Rattle.stored.specs.Stored.{answerNumber, answerCounts};
 
@@ -41,7 +44,7 @@ fn wide(x: u32) -> usize
     x as usize
 }
 
-// Lays k blocks onto a page. The last block's record is left to `pages::finish`.
+// Lays k blocks onto a page. The last block's record is left to `blocks::finish`.
 fn lay_blocks(list: &[u8], k: usize, blocks: &mut [u32], text: &mut [u8]) -> Laid
     ensures { λ r. ⌜ told r (now (blocks .exit)) (now (text .exit))
         ≡ layAll (on blankPage (now (blocks .entry)) (now (text .entry))) (blocksFrom k none (now (list .entry))) ⌝ }

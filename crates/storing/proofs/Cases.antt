@@ -11,9 +11,9 @@ use Rattle.rooms.specs.Rooms.{filled, encode, settled, content}
 use Rattle.sevens.specs.Sevens.{groups, streamed}
 use Rattle.wellformed.specs.WellFormed.{behind, goesOn}
 use Rattle.fields.specs.Fields.{folded, inRange, styleNumbers}
-use Rattle.fitting.specs.Fitting.{fits}
-use Rattle.putting.specs.Blocks.{numbersBytes, blockBytes}
-use Rattle.lists.specs.Lists.{piecesFrom, bytesOf, listStream}
+use Rattle.storing.specs.Fitting.{fits}
+use Rattle.storing.specs.Bytes.{numbersBytes, blockBytes}
+use Rattle.storing.specs.Lists.{piecesFrom, bytesOf, listStream}
 use Rattle.storing.specs.Storing.{writeAnswer, writeRoom}
 
 -- words and a text, a room's bytes, the answer's number, and the list; the count is its length, and the room's rest is zero

@@ -21,8 +21,8 @@ use Rattle.rooms.proofs.Streams.{answer-count, done-refused}
 use Rattle.rooms.proofs.Rooms.{length-encode, putAll-front, settled-fits, settled-over}
 use Rattle.rooms.proofs.Clearing.{cleared, filled-front}
 use Rattle.sevens.specs.Sevens.{byteLayout}
-use Rattle.putting.proofs.Putting.{wrote-length}
-use Rattle.lists.specs.Lists.{listStream}
+use Rattle.storing.proofs.Putting.{wrote-length}
+use Rattle.storing.specs.Lists.{listStream}
 use Rattle.storing.specs.Storing.{writeAnswer, writeRoom}
 
 pub settle-fits : (o : Outcome) (total : ℕ) → outcomeCount o ≤ total → o ≡ settled byteLayout (refusal OutputRoom) total o

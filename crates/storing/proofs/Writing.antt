@@ -26,13 +26,13 @@ use Rattle.sevens.specs.Sevens.{written, byteLayout, streamed}
 use Rattle.sevens.proofs.Streamed.{answer-streamed, streamed-append, encode-streamed}
 use Rattle.wellformed.specs.WellFormed.{isUtf8}
 use Rattle.fields.specs.Fields.{inRange}
-use Rattle.pages.specs.Pages.{Piece, piece, Last, none, last, starts, textOf, blockRecord, records}
-use Rattle.pages.proofs.Blocks.{length-records}
-use Rattle.fitting.specs.Fitting.{styleAt, placeAt, lengthAt, fits}
-use Rattle.fitting.proofs.Fitting.{Fit, fits-fit, fit-all}
-use Rattle.putting.specs.Blocks.{blockBytes, blocksBytes, listBytes}
-use Rattle.lists.specs.Lists.{piecesFrom, bytesOf, whole, listStream}
-use Rattle.lists.proofs.Lists.{list-is}
+use Rattle.blocks.specs.Pages.{Piece, piece, Last, none, last, starts, textOf, blockRecord, records}
+use Rattle.blocks.proofs.Blocks.{length-records}
+use Rattle.storing.specs.Fitting.{styleAt, placeAt, lengthAt, fits}
+use Rattle.storing.proofs.Fitting.{Fit, fits-fit, fit-all}
+use Rattle.storing.specs.Bytes.{blockBytes, blocksBytes, listBytes}
+use Rattle.storing.specs.Lists.{piecesFrom, bytesOf, whole, listStream}
+use Rattle.storing.proofs.Lists.{list-is}
 use Rattle.storing.specs.Storing.{writeAnswer, writeRoom}
 use Rattle.storing.specs.Good.{Good}
 

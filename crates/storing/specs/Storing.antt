@@ -7,7 +7,7 @@ use Rattle.answers.specs.Answers.{refusal}
 use Rattle.rooms.specs.Streams.{answer}
 use Rattle.rooms.specs.Rooms.{settled, content}
 use Rattle.sevens.specs.Sevens.{byteLayout}
-use Rattle.lists.specs.Lists.{listStream}
+use Rattle.storing.specs.Lists.{listStream}
 
 -- the one answer: 24, then 25
 unfoldable pub writeAnswer : ℕ → List ℕ → List ℕ → Outcome

@@ -4,11 +4,15 @@
 //   write_list   the whole: 24 before 25; the room holds the list and zeros, or zeros alone
 //   settle       25, where the room is too small
 //
-// `write_list` is total. `lists::put_list` goes on past a full room, so that 24 comes before 25.
+// `write_list` is total. `crate::list::put_list` goes on past a full room, so that 24 comes before 25.
+mod block;
+mod list;
+mod record;
+
+use crate::list::put_list;
 use answers::Outcome;
 use answers::Refusal;
 use answers::Why;
-use lists::put_list;
 use rooms::clear_bytes_from;
 ghost use mathlib.Core.Path.{_≡_};
 ghost use lib.ListN.{length};

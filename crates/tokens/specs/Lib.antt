@@ -1,1 +1,3 @@
+-- Items: a token record read back.
+pub mod Items
 pub mod Tokens

@@ -5,6 +5,8 @@
 //   put        writes a record at its place in a room
 //
 // The definitions say more of a token than its six words do: they keep the slice that it was cut from.
+pub mod item;
+
 ghost use mathlib.Core.Path.{_≡_};
 ghost use Rattle.rooms.specs.Rooms.{put as putWords};
 ghost use Rattle.tokens.specs.Tokens.{tokenWords, recordWords, hasOf, valueOf, bareRecord, textRecord, wordRecord, unknownRecord};

@@ -15,9 +15,9 @@ use Rattle.answers.specs.Answers.{Found, found, refused}
 use Rattle.rooms.specs.Rooms.{filled}
 use Rattle.rooms.specs.Streams.{items}
 use Rattle.cutter.specs.Cutting.{tokenStream, cutAnswer}
-use Rattle.rows.specs.Rows.{Font, fontWords, tableWords}
+use Rattle.fonts.specs.Rows.{Font, fontWords, tableWords}
 use Rattle.styles.specs.declared.Reading.{Reading}
-use Rattle.pages.specs.Pages.{Piece, blocks, textOf, records}
+use Rattle.blocks.specs.Pages.{Piece, blocks, textOf, records}
 use Rattle.parser.specs.declared.Counts.{Counts}
 use Rattle.parser.specs.declared.Answer.{Answer}
 use Rattle.parser.specs.declared.Answer.the-variants.{Read}

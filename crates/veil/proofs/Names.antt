@@ -26,19 +26,19 @@ use Rattle.tokens.specs.Tokens
 use Rattle.tokenize.proofs.Places.{Stands}
 use Rattle.cutter.specs.Cutting.{tokenStream}
 use Rattle.cutter.proofs.Places.{Placed, stream-places}
-use Rattle.items.specs.Items.{part}
-use Rattle.rows.specs.Rows.{Font, Fonts, noFonts, inserted, hasKey, stored}
+use Rattle.tokens.specs.Items.{part}
+use Rattle.fonts.specs.Rows.{Font, Fonts, noFonts, inserted, hasKey, stored}
 use Rattle.fonts.specs.Fonts.{named, rekeyed, fontWord, fontToken, nextFont}
-use Rattle.rows.specs.Rows.{tableOf}
+use Rattle.fonts.specs.Rows.{tableOf}
 use Rattle.fonts.specs.Fonts.{fontsFrom, fonts}
 use Rattle.colours.specs.Colours.{colours}
 use Rattle.walk.specs.declared.Aim.{Aim}
 use Rattle.walk.specs.declared.Aim.the-variants.{Nothing, Hide, Fonts as ReadFonts, Colours as ReadColours}
 use Rattle.walk.specs.Walk.{aim, extent, Step, kept, hidden, fontTable, colourTable, entered, stepOf, passedBy, walkFrom, walk}
-use Rattle.entering.specs.Entering.{Tables, withFonts, withColours, readStep}
+use Rattle.header.specs.Entering.{Tables, withFonts, withColours, readStep}
 use Rattle.header.specs.Header.{noTables, nextStep, tablesFrom, tables}
 use Rattle.styles.specs.declared.Reading.{Reading}
-use Rattle.pages.specs.Pages.{Piece}
+use Rattle.blocks.specs.Pages.{Piece}
 use Rattle.parser.specs.Parsing.{Letter, ended}
 use Rattle.reader.specs.Reading.{shownBy}
 use Rattle.veil.specs.Said.{namesIn, saidBy}

@@ -18,16 +18,16 @@ use Rattle.tokenize.specs.Tokenize.{wordTail, word, other, escaped, tokens}
 use Rattle.cutter.specs.Cutting.{located, last, allSlices, trimmed, tokenStream, cutAnswer}
 use Rattle.utf8.specs.Utf8.{utf8, written}
 use Rattle.units.specs.Units.{unitOf, units, later, kept, decode, utf8All, runText}
-use Rattle.items.specs.Items.{part as bytesAt}
+use Rattle.tokens.specs.Items.{part as bytesAt}
 use Rattle.walk.specs.Walk.{aimFrom, extent, walkFrom}
-use Rattle.rows.specs.Rows.{hasKey, inserted, stored}
+use Rattle.fonts.specs.Rows.{hasKey, inserted, stored}
 use Rattle.fonts.specs.Fonts.{named as fontNamed, fontWord, fontToken, fontsFrom, fonts}
 use Rattle.colours.specs.Colours.{colourWordOf, colourToken, coloursFrom, colours}
 use Rattle.header.specs.Header.{tablesFrom}
 use Rattle.styles.specs.declared.Reading.the-variants.{Plain}
 use Rattle.styles.specs.Styles.{flagged, fitted, alignment, spacing, measured, character, change, flagsNumber, styleOf}
-use Rattle.pages.specs.Pages.{blocksFrom, blocks, textOf, roomy}
-use Rattle.acts.specs.Body.{gather, asks, bodyFrom}
+use Rattle.blocks.specs.Pages.{blocksFrom, blocks, textOf, roomy}
+use Rattle.body.specs.Body.{gather, asks, bodyFrom}
 use Rattle.parser.specs.Parsing.{placed, bodied}
 use Rattle.reader.specs.Reading.{shownBy, letterOf}
 use Rattle.veil.specs.Veil.{part, parts, pieces, join, shown, mask, veil}

@@ -20,22 +20,22 @@ use Rattle.tokens.specs.declared.Property.{Property}
 use Rattle.tokens.specs.declared.Property.the-variants.{None, Value}
 use Rattle.tokens.specs.Tokens.{Shown}
 use Rattle.tokens.specs.Tokens
-use Rattle.rows.specs.Rows.{Font, Fonts, noFonts, hasKey, inserted, stored}
+use Rattle.fonts.specs.Rows.{Font, Fonts, noFonts, hasKey, inserted, stored}
 use Rattle.fonts.specs.Fonts.{named, rekeyed, fontWord, fontToken, nextFont}
-use Rattle.rows.specs.Rows.{tableOf}
+use Rattle.fonts.specs.Rows.{tableOf}
 use Rattle.fonts.specs.Fonts.{fontsFrom, fonts}
 use Rattle.colours.specs.Colours.{Colours, colourToken, nextColour, coloursFrom, tableOf as colourTableOf, noColours, colours}
 use Rattle.walk.specs.declared.Aim.{Aim}
 use Rattle.walk.specs.declared.Aim.the-variants.{Nothing, Hide, Fonts as ReadFonts, Colours as ReadColours}
 use Rattle.walk.specs.Walk.{aim, Step, kept, hidden, fontTable, colourTable, entered, passedBy, walkFrom, walk}
-use Rattle.entering.specs.Entering.{Tables, withFonts, withColours, readStep}
+use Rattle.header.specs.Entering.{Tables, withFonts, withColours, readStep}
 use Rattle.header.specs.Header.{noTables, nextStep, tablesFrom, tables}
 use Rattle.styles.specs.declared.State.{State}
 use Rattle.styles.specs.declared.Reading.{Reading}
 use Rattle.styles.specs.Styles.{fresh}
-use Rattle.pages.specs.Pages.{Piece, blocks, textOf, blockWords, textCapacity, none, roomy}
-use Rattle.acts.specs.Body.{Item, token, run, apart, joined, keptItems, gather, Asked, tokenAsks, bareAsks, asks, statesOf}
-use Rattle.acts.specs.Body.{uttered, bodyFrom, body}
+use Rattle.blocks.specs.Pages.{Piece, blocks, textOf, blockWords, textCapacity, none, roomy}
+use Rattle.body.specs.Body.{Item, token, run, apart, joined, keptItems, gather, Asked, tokenAsks, bareAsks, asks, statesOf}
+use Rattle.body.specs.Body.{uttered, bodyFrom, body}
 use Rattle.parser.specs.Parsing.{begun, Sizes, Letter, ended, placed, bodied, headed, walked}
 use Rattle.veil.specs.Said.{Named, Said, refuses, says}
 use Rattle.veil.proofs.Bare.{bare, bareAll, bareStep, bareSteps}

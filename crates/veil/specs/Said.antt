@@ -6,10 +6,10 @@ use mathlib.Core.List.{List, [], _∷_}
 use lib.ListN.{length, getD, drop}
 use Rattle.answers.specs.declared.Refusal.{Refusal}
 use Rattle.answers.specs.Answers.{Found, found, refused}
-use Rattle.items.specs.Items.{part}
-use Rattle.rows.specs.Rows.{Font, fontWidth}
+use Rattle.tokens.specs.Items.{part}
+use Rattle.fonts.specs.Rows.{Font, fontWidth}
 use Rattle.styles.specs.declared.Reading.{Reading}
-use Rattle.pages.specs.Pages.{Piece, blocks, textOf}
+use Rattle.blocks.specs.Pages.{Piece, blocks, textOf}
 use Rattle.parser.specs.Parsing.{Sizes, Letter}
 use Rattle.reader.specs.Reading.{letterOf}
 

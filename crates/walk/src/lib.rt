@@ -7,14 +7,14 @@
 //
 // Header and body both walk by these two, and so agree on what is passed over. Each token is looked at once by `aim_of` for
 // the bracket before it and once by `extent`: the walk is linear, as the crate's is not.
-use items::Item;
-use items::item_at;
 use tokens::Property;
+use tokens::item::Item;
+use tokens::item::item_at;
 ghost use mathlib.Core.Path.{_≡_};
 ghost use mathlib.Core.List.{List};
 ghost use Prim.Native.Nat.{ℕ, _*_, _≤_, _<_};
 ghost use lib.ListN.{length};
-ghost use Rattle.items.specs.Items.{shownOf, shownAll};
+ghost use Rattle.tokens.specs.Items.{shownOf, shownAll};
 ghost use Rattle.walk.specs.Walk.{wordAim, aimAt, isBreak, aim as aimOf, level as levelOf, extent as extentOf};
 
 pub enum Aim {

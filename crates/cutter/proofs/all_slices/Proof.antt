@@ -11,7 +11,7 @@ use Rattle.cutter.proofs.all_slices.Tie as tie
 use Rattle.cutter.proofs.all_slices.Reads as reads
 use Rattle.cutter.proofs.all_slices.Lts as lts
 use Rattle.cutter.proofs.last.Reads as last-reads
-use Rattle.quick.proofs.slice_tokens.Reads as slice-tokens-reads
+use Rattle.tokenize.proofs.quick.slice_tokens.Reads as slice-tokens-reads
 use Rattle.slices.proofs.slice_end.Reads as slice-end-reads
 
 abbrev Inv-loop : tie.InvT-loop

@@ -8,8 +8,8 @@ use Rattle.header.proofs.read_header.Statement.{statement}
 use Rattle.header.proofs.read_header.Tie as tie
 use Rattle.header.proofs.read_header.Reads as reads
 use Rattle.header.proofs.read_header.Lts as lts
-use Rattle.entering.proofs.enter.Reads as enter-reads
-use Rattle.entering.proofs.is_opening.Reads as is-opening-reads
+use Rattle.header.proofs.group.enter.Reads as enter-reads
+use Rattle.header.proofs.group.is_opening.Reads as is-opening-reads
 
 abbrev Inv-loop : tie.InvT-loop
 Inv-loop source tokens count fonts₀ colours₀ t₀ n₀ held-fonts₀ held-colours₀ fonts colours t n held-fonts held-colours =

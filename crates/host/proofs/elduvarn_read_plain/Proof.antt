@@ -1,13 +1,13 @@
 -- The export meets its contract: the reader's answer, told in six numbers.
 use mathlib.Core.Path.{_∙_, ap}
-use Rattle.told.specs.Told.{answerOf}
+use Rattle.host.specs.Told.{answerOf}
 use borrow.Author.Needs.{needs}
 use Rattle.host.proofs.elduvarn_read_plain.Statement.{statement}
 use Rattle.host.proofs.elduvarn_read_plain.Tie as tie
 use Rattle.host.proofs.elduvarn_read_plain.Reads as reads
 use Rattle.host.proofs.elduvarn_read_plain.Lts as lts
 use Rattle.reader.proofs.read.Reads as read-reads
-use Rattle.told.proofs.answer_of.Reads as answer-of-reads
+use Rattle.host.proofs.answer.answer_of.Reads as answer-of-reads
 
 read-requires : tie.Need-read-requires
 read-requires c κs = search needs

@@ -7,7 +7,7 @@ use Rattle.host.proofs.elduvarn_stored_check.Tie as tie
 use Rattle.host.proofs.elduvarn_stored_check.Reads as reads
 use Rattle.host.proofs.elduvarn_stored_check.Lts as lts
 use Rattle.answers.proofs.Outcome.number.Reads as number-reads
-use Rattle.checks.proofs.check.Reads as check-reads
+use Rattle.stored.proofs.check.check.Reads as check-reads
 
 check-requires : tie.Need-check-requires
 check-requires c κs = search needs

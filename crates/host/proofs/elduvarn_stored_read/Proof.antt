@@ -1,13 +1,13 @@
 -- `elduvarn_stored_read` says by number and counts what `read_list` says.
 use mathlib.Core.Path.{ap, _∙_}
-use Rattle.told.specs.Told.{storedOf}
+use Rattle.host.specs.Told.{storedOf}
 use borrow.Author.Needs.{needs}
 use Rattle.host.proofs.elduvarn_stored_read.Statement.{statement}
 use Rattle.host.proofs.elduvarn_stored_read.Tie as tie
 use Rattle.host.proofs.elduvarn_stored_read.Reads as reads
 use Rattle.host.proofs.elduvarn_stored_read.Lts as lts
 use Rattle.stored.proofs.read_list.Reads as read-list-reads
-use Rattle.told.proofs.stored_of.Reads as stored-of-reads
+use Rattle.host.proofs.answer.stored_of.Reads as stored-of-reads
 
 read-list-requires : tie.Need-read-list-requires
 read-list-requires c κs = search needs

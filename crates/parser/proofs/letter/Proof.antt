@@ -2,7 +2,7 @@
 use native.Mathlib.Omega.{arith}
 use lib.ListN.{length}
 use Rattle.rooms.specs.Rooms.{tableLimit}
-use Rattle.items.specs.Items.{shownAll}
+use Rattle.tokens.specs.Items.{shownAll}
 use Rattle.walk.specs.Walk.{walk}
 use Rattle.header.specs.Header.{tables}
 use Rattle.parser.proofs.Parts.{header-fits, letter-refused, letter-read}

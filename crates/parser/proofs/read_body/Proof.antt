@@ -3,8 +3,8 @@ use native.Mathlib.Omega.{arith}
 use lib.ListN.{length}
 use Prim.Native.Nat.{_*_, _≤_}
 use Rattle.runs.proofs.Texts.{still-on}
-use Rattle.pages.proofs.Laying.{ready-finish}
-use Rattle.pages.proofs.Settling.{blocks-small, count-words}
+use Rattle.blocks.proofs.Laying.{ready-finish}
+use Rattle.blocks.proofs.Settling.{blocks-small, count-words}
 use Rattle.parser.proofs.Parts.{body-full, body-laid}
 use borrow.Author.Needs.{needs}
 use Rattle.parser.proofs.read_body.Statement.{statement}
@@ -12,8 +12,8 @@ use Rattle.parser.proofs.read_body.Tie as tie
 use Rattle.parser.proofs.read_body.Reads as reads
 use Rattle.parser.proofs.read_body.Lts as lts
 use Rattle.body.proofs.lay_body.Reads as lay-body-reads
-use Rattle.pages.proofs.Page.count.Reads as count-reads
-use Rattle.pages.proofs.finish.Reads as finish-reads
+use Rattle.blocks.proofs.Page.count.Reads as count-reads
+use Rattle.blocks.proofs.finish.Reads as finish-reads
 use Rattle.rooms.proofs.clear_bytes_from.Reads as clear-bytes-from-reads
 use Rattle.rooms.proofs.clear_from.Reads as clear-from-reads
 

@@ -3,8 +3,8 @@ use borrow.Author.Needs.{needs}
 use native.Mathlib.Omega.{arith}
 use lib.ListN.{length}
 use Prim.Native.Nat.{_*_, _≤_}
-use Rattle.pages.proofs.Laying.{ready-finish}
-use Rattle.pages.proofs.Settling.{blocks-small, count-words}
+use Rattle.blocks.proofs.Laying.{ready-finish}
+use Rattle.blocks.proofs.Settling.{blocks-small, count-words}
 use Rattle.stored.proofs.Whole.{list-full, list-laid}
 use Rattle.stored.proofs.read_list.Statement.{statement}
 use Rattle.stored.proofs.read_list.Tie as tie
