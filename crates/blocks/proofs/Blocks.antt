@@ -15,7 +15,7 @@ use lib.Dec.{eqb}
 use Rattle.bytes.proofs.Runs.{and-left, and-right}
 use Rattle.styles.specs.declared.Style.{Style}
 use Rattle.styles.specs.Styles.{sameStyle}
-use Rattle.blocks.specs.Pages.{Piece, piece, blocksFrom, blocks, textOf, blockRecord, records}
+use Rattle.blocks.specs.Pages.{Piece, piece, blocksFrom, blocks, textOf, blockRecord, records, blockWords}
 
 same : (n : ℕ) → eqb n n ≡ true
 same n = eq-eqb n n refl
@@ -82,11 +82,11 @@ unfolding textOf blocks
 text-blocks [] = refl
 text-blocks (x ∷ xs) = text-from xs (x .style) (x .bytes)
 
-pub length-record : (s : Style) (place count : ℕ) → length (blockRecord s place count) ≡ 13
+pub length-record : (s : Style) (place count : ℕ) → length (blockRecord s place count) ≡ blockWords
 unfolding blockRecord
 length-record s place count = refl
 
-pub length-records : (xs : List Piece) (n : ℕ) → length (records n xs) ≡ length xs * 13
+pub length-records : (xs : List Piece) (n : ℕ) → length (records n xs) ≡ length xs * blockWords
 unfolding records
 length-records [] n = omega arith
 length-records (x ∷ xs) n =

@@ -12,6 +12,7 @@ use Rattle.rooms.specs.Rooms.{capacity, put}
 use Rattle.rooms.proofs.Rooms.{put-in}
 use Rattle.styles.specs.declared.Style.{Style}
 use Rattle.styles.specs.Styles.{styleWords}
+use Rattle.blocks.specs.Pages.{blockWords}
 
 -- stores at places that are counted from one place on
 abbrev stores : List ℕ → ℕ → ℕ → List ℕ → List ℕ
@@ -26,12 +27,12 @@ stored : (a : ℕ) (vs l : List ℕ) (at : ℕ) → stores (set l at a) at 1 vs 
 stored a vs l at = as-sets vs (set l at a) at 1 ∙ ap (λ (k : ℕ). sets (set l at a) k vs) (add-one at)
 
 module _ (room : List ℕ) (n : ℕ) (s : Style) (place count : ℕ) where
-  pub put-thirteen : n < capacity 13 (length room)
-      → set (set (set (set (set (set (set (set (set (set (set (set (set room (n * 13) (s .colour)) (n * 13 + 1) (s .font)) (n * 13 + 2) (s .size))
-      (n * 13 + 3) (s .flags)) (n * 13 + 4) (s .alignment)) (n * 13 + 5) (s .before)) (n * 13 + 6) (s .after)) (n * 13 + 7) (s .kind))
-      (n * 13 + 8) (s .line)) (n * 13 + 9) (s .multiplier)) (n * 13 + 10) (s .tab)) (n * 13 + 11) place) (n * 13 + 12) count
-      ≡ put 13 room n (styleWords s ++ (place ∷ count ∷ []))
+  pub put-thirteen : n < capacity blockWords (length room)
+      → set (set (set (set (set (set (set (set (set (set (set (set (set room (n * blockWords) (s .colour)) (n * blockWords + 1) (s .font)) (n * blockWords + 2) (s .size))
+      (n * blockWords + 3) (s .flags)) (n * blockWords + 4) (s .alignment)) (n * blockWords + 5) (s .before)) (n * blockWords + 6) (s .after)) (n * blockWords + 7) (s .kind))
+      (n * blockWords + 8) (s .line)) (n * blockWords + 9) (s .multiplier)) (n * blockWords + 10) (s .tab)) (n * blockWords + 11) place) (n * blockWords + 12) count
+      ≡ put blockWords room n (styleWords s ++ (place ∷ count ∷ []))
   put-thirteen h =
       stored (s .colour) (s .font ∷ s .size ∷ s .flags ∷ s .alignment ∷ s .before ∷ s .after ∷ s .kind ∷ s .line ∷ s .multiplier ∷ s .tab ∷ place ∷ count ∷ [])
-      room (n * 13)
-      ∙ put-in 13 room n (styleWords s ++ (place ∷ count ∷ [])) h
+      room (n * blockWords)
+      ∙ put-in blockWords room n (styleWords s ++ (place ∷ count ∷ [])) h

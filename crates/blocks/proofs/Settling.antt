@@ -40,11 +40,11 @@ sets-take l i vs h =
     let n : length (take i l ++ vs) ≡ i + length vs = length-append (take i l) vs ∙ rw (length-take-le i l (omega arith)) in
     ap (take (i + length vs)) (sets-eq vs l i h) ∙ take-at (take i l ++ vs) (drop (i + length vs) l) (i + length vs) n
 
-put-take : (b : List ℕ) (k : ℕ) (ws : List ℕ) → k < capacity blockWords (length b) → length ws ≡ 13
-    → take ((k + 1) * 13) (put blockWords b k ws) ≡ take (k * 13) b ++ ws
+put-take : (b : List ℕ) (k : ℕ) (ws : List ℕ) → k < capacity blockWords (length b) → length ws ≡ blockWords
+    → take ((k + 1) * blockWords) (put blockWords b k ws) ≡ take (k * blockWords) b ++ ws
 put-take b k ws h l =
-    let n : (k + 1) * 13 ≡ k * 13 + length ws = omega arith in
-    rw (← put-in blockWords b k ws h, n) (sets-take b (k * 13) ws (omega arith))
+    let n : (k + 1) * blockWords ≡ k * blockWords + length ws = omega arith in
+    rw (← put-in blockWords b k ws h, n) (sets-take b (k * blockWords) ws (omega arith))
 
 -- a page whose last block is open
 abbrev page : ℕ → ℕ → Style → ℕ → Page
@@ -58,7 +58,7 @@ record Going (w v B C k n f : ℕ) (W P D b t : List ℕ) : Type 0 where
   room : C + n ≡ textCapacity v
   front : length P ≡ f
   behind : f + length D ≡ n
-  written : take (k * 13) b ≡ W
+  written : take (k * blockWords) b ≡ W
   text : take n t ≡ P ++ D
 
 module _ {w v B C k n f : ℕ} {W P D b t : List ℕ} (g : Going w v B C k n f W P D b t) where
@@ -83,7 +83,7 @@ module _ {w v B C k n f : ℕ} {W P D b t : List ℕ} (g : Going w v B C k n f W
     text = text-more c h ∙ append-assoc P D c;
   }
 
-  words-more : (st : Style) → take ((k + 1) * 13) (put blockWords b k (blockRecord st f (n - f))) ≡ W ++ blockRecord st f (length D)
+  words-more : (st : Style) → take ((k + 1) * blockWords) (put blockWords b k (blockRecord st f (n - f))) ≡ W ++ blockRecord st f (length D)
   words-more st =
       let e : n - f ≡ length D = omega (arith, g .behind) in
       put-take b k (blockRecord st f (n - f)) (rw (g .wide) (omega (arith, g .left))) (length-record st f (n - f)) ∙ rw (g .written, e)
@@ -176,7 +176,7 @@ then-full p s c b t e = rw (← e)
 record Settled (w v k : ℕ) (W T : List ℕ) (place : ℕ) (bs : List Piece) (u : List ℕ) (p : Page) (b t : List ℕ) : Type 0 where
   counted : blockCount p ≡ k + length bs
   text : p .text ≡ length T + length u
-  words : take (blockCount p * 13) (lastPut p b) ≡ W ++ records place bs
+  words : take (blockCount p * blockWords) (lastPut p b) ≡ W ++ records place bs
   bytes : take (p .text) t ≡ T ++ u
   wide : length b ≡ w
   long : length t ≡ v
@@ -430,7 +430,7 @@ pub record Joined (q : Stream Piece) (b t : List ℕ) (p : Page) (b′ t′ : Li
   pub done : answer 0 q ≡ Done (count q)
   pub counted : blockCount p ≡ length (blocks (items q))
   pub text : p .text ≡ length (textOf (items q))
-  pub words : take (blockCount p * 13) (lastPut p b′) ≡ records 0 (blocks (items q))
+  pub words : take (blockCount p * blockWords) (lastPut p b′) ≡ records 0 (blocks (items q))
   pub bytes : take (p .text) t′ ≡ textOf (items q)
   pub wide : length b′ ≡ length b
   pub long : length t′ ≡ length t
@@ -471,25 +471,25 @@ pub record Filled (q : Stream Piece) (b t : List ℕ) (n m : ℕ) (b′ t′ : L
   pub bytes : t′ ≡ filled (length t) (textOf (items q))
 
 pub joined-filled : {q : Stream Piece} {b t : List ℕ} {p : Page} {b₁ t₁ : List ℕ} → Joined q b t p b₁ t₁ → {n : ℕ} {b₂ b₃ t₂ : List ℕ} → b₂ ≡ lastPut p b₁ → n ≡ blockCount p
-    → b₃ ≡ take (n * 13) b₂ ++ replicate (length b₂ - n * 13) 0 → t₂ ≡ take (p .text) t₁ ++ replicate (length t₁ - p .text) 0 → Filled q b t n (p .text) b₃ t₂
+    → b₃ ≡ take (n * blockWords) b₂ ++ replicate (length b₂ - n * blockWords) 0 → t₂ ≡ take (p .text) t₁ ++ replicate (length t₁ - p .text) 0 → Filled q b t n (p .text) b₃ t₂
 joined-filled {q} {b} {t} {p} {b₁} {t₁} j {n} {b₂} {b₃} {t₂} g e u v =
     let bl : List Piece = blocks (items q) in
     let k : n ≡ length bl = e ∙ j .counted in
-    let w : take (n * 13) b₂ ≡ records 0 bl = rw (e, g) (j .words) in
-    let lr : length (records 0 bl) ≡ n * 13 = length-records bl 0 ∙ rw k in
+    let w : take (n * blockWords) b₂ ≡ records 0 bl = rw (e, g) (j .words) in
+    let lr : length (records 0 bl) ≡ n * blockWords = length-records bl 0 ∙ rw k in
     let lb : length b₂ ≡ length b = ap length g ∙ length-last p b₁ ∙ j .wide in
     record {
       counted = k;
       text = j .text;
-      words = filled-front (length b) (n * 13) (records 0 bl) b₂ b₃ u w lr lb;
+      words = filled-front (length b) (n * blockWords) (records 0 bl) b₂ b₃ u w lr lb;
       bytes = filled-front (length t) (p .text) (textOf (items q)) t₁ t₂ v (j .bytes) (sym (j .text)) (j .long);
     }
 
 -- a page's blocks fit their room, and so do their words
 pub blocks-small : {p : Page} (w v : ℕ) → Ready p w v → w < 18446744073709551616 → p .blocks ≤ 4611686018427387904
-blocks-small {p} w v h k = let a = ready-count p w v h in let b = div-mul-le-self w 13 in omega arith
+blocks-small {p} w v h k = let a = ready-count p w v h in let b = div-mul-le-self w blockWords in omega arith
 
-pub count-words : {p : Page} (w v : ℕ) {cnt : ℕ} → Ready p w v → cnt ≡ blockCount p → cnt * 13 ≤ w
+pub count-words : {p : Page} (w v : ℕ) {cnt : ℕ} → Ready p w v → cnt ≡ blockCount p → cnt * blockWords ≤ w
 count-words {p} w v {cnt} h e =
-    let a : cnt ≤ capacity 13 w = rw e (h .page .blocks) in
-    le-trans (mul-le-mul-right 13 a) (div-mul-le-self w 13)
+    let a : cnt ≤ capacity blockWords w = rw e (h .page .blocks) in
+    le-trans (mul-le-mul-right blockWords a) (div-mul-le-self w blockWords)

@@ -21,7 +21,7 @@ ghost use Rattle.blocks.specs.Pages.{textCapacity};
 ghost use Rattle.blocks.specs.Laying.{told, blank as blankPage, blockCount, lastPut, startOf, appendOf, addOf, ReadyBlocks, Ready, Still};
 
 // How many words a block's record has.
-pub const BLOCK_WORDS: usize = crate::record::BLOCK_WORDS;
+pub const BLOCK_WORDS: usize = 13;
 
 // `blocks` records and `text` bytes are written. If `begun`, a block of `style` is open, whose text starts at `from`.
 pub struct Page {

@@ -1,16 +1,15 @@
 // A block's record in a room (01, Body): the eleven words of its style, and place and length of its text.
+use crate::BLOCK_WORDS;
 use styles::Style;
 ghost use mathlib.Core.Path.{_≡_};
 ghost use mathlib.Core.List.{[], _∷_, _++_};
 ghost use Rattle.rooms.specs.Rooms.{put as putWords};
 ghost use Rattle.styles.specs.Styles.{styleWords};
-
-// How many words a block's record has.
-pub const BLOCK_WORDS: usize = 13;
+ghost use Rattle.blocks.specs.Pages.{blockWords};
 
 // A record of thirteen words at place n, if the room holds that place.
 pub fn put(room: &mut [u32], n: usize, s: Style, place: u32, count: u32)
-    ensures { λ _. ⌜ now (room .exit) ≡ putWords 13 (now (room .entry)) n (styleWords s ++ (place ∷ count ∷ [])) ⌝ }
+    ensures { λ _. ⌜ now (room .exit) ≡ putWords blockWords (now (room .entry)) n (styleWords s ++ (place ∷ count ∷ [])) ⌝ }
 {
     if n < room.len() / BLOCK_WORDS {
         let at = n * BLOCK_WORDS;

@@ -28,7 +28,7 @@ use Rattle.tokens.specs.Items.{itemAt, part, shownOf, shownAll}
 use Rattle.tokens.proofs.Items.{rest as restWords, shown-some}
 use Rattle.styles.specs.declared.State.{State}
 use Rattle.styles.specs.declared.Style.{Style}
-use Rattle.styles.specs.declared.Reading.{Reading}
+use Rattle.readings.specs.declared.Reading.{Reading}
 use Rattle.styles.specs.declared.Change.{Change}
 use Rattle.styles.specs.declared.Change.the-variants.{To, Says, Refuses}
 use Rattle.styles.specs.Styles.{change, styleOf}

@@ -15,13 +15,14 @@ use Rattle.tokens.specs.Tokens
 use Rattle.utf8.specs.Utf8.{written}
 use Rattle.units.specs.Units.{units, runText}
 use Rattle.styles.specs.declared.State.{State}
-use Rattle.styles.specs.declared.Reading.{Reading}
+use Rattle.readings.specs.declared.Reading.{Reading}
 use Rattle.styles.specs.declared.Change.{Change}
 use Rattle.styles.specs.declared.Change.the-variants.{To, Says, Refuses}
 use Rattle.styles.specs.Styles.{fresh, change, styleOf}
 use Rattle.blocks.specs.Pages.{Piece, piece}
 use Rattle.walk.specs.Walk.{Step, kept, hidden, fontTable, colourTable, walk}
 use Rattle.runs.specs.Runs.{some}
+use Rattle.tokens.specs.WordNumbers as words
 
 -- what the body reads: a token; the numbers of a run of adjacent `u` tokens; and what the walk passed over or read as a table,
 -- which "still stand between their neighbours"
@@ -38,7 +39,7 @@ joined num (token t ∷ is) = run (num ∷ []) ∷ token t ∷ is
 joined num (apart ∷ is) = run (num ∷ []) ∷ apart ∷ is
 
 abbrev pub keptItems : Shown → List Item → List Item
-keptItems (Shown.word w num) is = cond (eqb w 2) (joined num is) (token (Shown.word w num) ∷ is)
+keptItems (Shown.word w num) is = cond (eqb w words.unicode) (joined num is) (token (Shown.word w num) ∷ is)
 keptItems (Shown.text p bs) is = token (Shown.text p bs) ∷ is
 keptItems Shown.opening is = token Shown.opening ∷ is
 keptItems Shown.closing is = token Shown.closing ∷ is

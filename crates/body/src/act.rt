@@ -11,10 +11,10 @@ use answers::Why;
 use blocks::Laid;
 use blocks::Page;
 use blocks::add;
+use readings::Reading;
 use runs::lay_run;
 use runs::run_length;
 use styles::Change;
-use styles::Reading;
 use styles::State;
 use styles::apply_word;
 use tokens::Property;
@@ -35,6 +35,7 @@ ghost use Rattle.blocks.specs.Laying.{Ready};
 ghost use Rattle.body.specs.Acting.{saidBy, Onward, OnwardFrom, bareOf, isOpening};
 ghost use Rattle.body.specs.Body.{changed, tokenAsks};
 ghost use Rattle.styles.specs.Styles.{change as changeOf};
+ghost use Rattle.tokens.specs.Tokens.{tokenWords};
 
 pub enum Act {
     Push,
@@ -65,7 +66,7 @@ fn is_opening(i: Item) -> bool
 
 // How many tokens behind an opening bracket belong to a group that is passed over or read as a table.
 fn group_length(rest: &[u32], left: usize) -> usize
-    requires { ⌜ left * 6 ≤ length (now rest) ⌝ }
+    requires { ⌜ left * tokenWords ≤ length (now rest) ⌝ }
     ensures { λ r. ⌜ ((src : List ℕ) → r ≡ enteredLength (aimOf (shownAll src left (now (rest .entry)))) (shownAll src left (now (rest .entry)))) × (r ≤ left) ⌝ }
 {
     let a = aim_of(rest, left);
@@ -79,7 +80,7 @@ fn group_length(rest: &[u32], left: usize) -> usize
 
 // How many tokens behind a token the walk passes over.
 pub fn passed(i: Item, rest: &[u32], left: usize) -> usize
-    requires { ⌜ left * 6 ≤ length (now rest) ⌝ }
+    requires { ⌜ left * tokenWords ≤ length (now rest) ⌝ }
     ensures { λ r. ⌜ ((src : List ℕ) → r ≡ passedBy (shownOf src i) (shownAll src left (now (rest .entry)))) × (r ≤ left) ⌝ }
 {
     if is_opening(i) {
@@ -181,7 +182,7 @@ pub fn take_token(
     blocks: &mut [u32],
     text: &mut [u8],
 ) -> Act
-    requires { ⌜ (0 < n) × (n * 6 ≤ length (now t)) × (passedBy (shownOf (now source) (itemAt (now t))) (drop 1 (shownAll (now source) n (now t))) ≡ 0) ⌝ }
+    requires { ⌜ (0 < n) × (n * tokenWords ≤ length (now t)) × (passedBy (shownOf (now source) (itemAt (now t))) (drop 1 (shownAll (now source) n (now t))) ≡ 0) ⌝ }
     requires { ⌜ Ready page (length (now blocks)) (length (now text)) ⌝ }
     ensures { λ r. ⌜ OnwardFrom reading r top page (now (blocks .entry)) (now (text .entry)) (now (blocks .exit)) (now (text .exit)) n (shownAll (now (source .entry)) n (now (t .entry))) ⌝ }
 {

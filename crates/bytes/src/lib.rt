@@ -118,3 +118,10 @@ pub fn has_high(s: &[u8]) -> bool
     }
     found
 }
+
+// A byte as a number that an index or a length is.
+pub fn wide(b: u8) -> usize
+    ensures { λ r. ⌜ r ≡ b ⌝ }
+{
+    b as usize
+}

@@ -13,6 +13,11 @@ use Rattle.tokens.specs.declared.Property.{Property}
 use Rattle.tokens.specs.Tokens.{Shown, valueOf}
 use Rattle.tokens.specs.Tokens
 use Rattle.colours.specs.declared.Colour.{Colour}
+use Rattle.tokens.specs.WordNumbers as words
+
+-- a record is one word
+abbrev pub colourWords : ℕ
+colourWords = 1
 
 -- "Record: red·65,536 + green·256 + blue."
 abbrev pub colourWord : Colour → ℕ
@@ -52,9 +57,9 @@ kept limit s =
 -- as in the crate
 unfoldable pub colourWordOf : ℕ → ℕ → Property → Colours → Found Colours
 colourWordOf limit w num s =
-    cond (eqb w 37) (fitting num (found (reddened (valueOf num) s)))
-    (cond (eqb w 38) (fitting num (found (greened (valueOf num) s)))
-    (cond (eqb w 39) (fitting num (kept limit (blued (valueOf num) s)))
+    cond (eqb w words.colourRed) (fitting num (found (reddened (valueOf num) s)))
+    (cond (eqb w words.colourGreen) (fitting num (found (greened (valueOf num) s)))
+    (cond (eqb w words.colourBlue) (fitting num (kept limit (blued (valueOf num) s)))
     (found s)))
 
 -- a token of the group

@@ -76,13 +76,13 @@ module _ (src : List ℕ) {room room′ : List ℕ} {r : Outcome} (w : Wrote tok
   unfolding cutAnswer settled
   settle-refused e = ap (settled tokenLayout (refusal TokenRoom) (length room)) (sym e ∙ w .says)
 
-  pub settle-fits : {n : ℕ} → r ≡ Done n → n ≤ capacity 6 (length room′) → Done n ≡ cutAnswer src (length room)
+  pub settle-fits : {n : ℕ} → r ≡ Done n → n ≤ capacity tokenWords (length room′) → Done n ≡ cutAnswer src (length room)
   unfolding cutAnswer
   settle-fits {n} e h =
       sym (settled-fits tokenLayout (refusal TokenRoom) (length room) n (rw length-wrote at h))
       ∙ ap (settled tokenLayout (refusal TokenRoom) (length room)) (sym e ∙ w .says)
 
-  pub settle-over : {n : ℕ} {q : Refusal} → r ≡ Done n → capacity 6 (length room′) < n → q ≡ refusal TokenRoom → Refused q ≡ cutAnswer src (length room)
+  pub settle-over : {n : ℕ} {q : Refusal} → r ≡ Done n → capacity tokenWords (length room′) < n → q ≡ refusal TokenRoom → Refused q ≡ cutAnswer src (length room)
   unfolding cutAnswer
   settle-over {n} e h f =
       ap Refused f
@@ -95,11 +95,11 @@ module _ (src : List ℕ) {room room′ : List ℕ} {r : Outcome} (w : Wrote tok
   room-refused e z = z ∙ rw (← e, length-wrote)
 
   -- the room after success: the records, and zeros behind them
-  pub room-fits : {n : ℕ} → r ≡ Done n → n ≤ capacity 6 (length room′) → {room″ : List ℕ} → room″ ≡ take (n * 6) room′ ++ replicate (length room′ - n * 6) 0 → room″ ≡ cutRoom src (length room)
+  pub room-fits : {n : ℕ} → r ≡ Done n → n ≤ capacity tokenWords (length room′) → {room″ : List ℕ} → room″ ≡ take (n * tokenWords) room′ ++ replicate (length room′ - n * tokenWords) 0 → room″ ≡ cutRoom src (length room)
   unfolding cutRoom content
   room-fits {n} e h z =
       let c : n ≡ count (tokenStream src) = answer-count (tokenStream src) 0 n (sym (w .says) ∙ e) ∙ omega arith in
-      let f : take (n * 6) room′ ≡ encode tokenLayout (tokenStream src) =
+      let f : take (n * tokenWords) room′ ≡ encode tokenLayout (tokenStream src) =
       rw (w .holds, c) (putAll-front tokenLayout token-sized (tokenStream src) room (rw (c, length-wrote) at h)) in
-      let l : length (encode tokenLayout (tokenStream src)) ≡ n * 6 = length-encode tokenLayout token-sized (tokenStream src) ∙ rw c in
+      let l : length (encode tokenLayout (tokenStream src)) ≡ n * tokenWords = length-encode tokenLayout token-sized (tokenStream src) ∙ rw c in
       z ∙ rw (← settle-fits e h, f, length-wrote, l)

@@ -6,7 +6,7 @@ use lib.Dec.{ltb}
 use lib.ListN.{length}
 use Rattle.answers.specs.declared.Why.the-variants.{SourceTooLong}
 use Rattle.answers.specs.Answers.{refusal}
-use Rattle.styles.specs.declared.Reading.the-variants.{Plain}
+use Rattle.readings.specs.declared.Reading.the-variants.{Plain}
 use Rattle.parser.specs.Parsing.{Sizes, answerNumber, answerCounts}
 use Rattle.reader.specs.Reading.{readAnswer, fontRoom, colourRoom, blockRoom, textRoom}
 use Rattle.parser.specs.declared.Answer.{Answer}

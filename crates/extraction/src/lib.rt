@@ -3,9 +3,9 @@
 use answers::Refusal;
 use answers::Why;
 use parser::Answer;
+use readings::Reading;
 use show::Listed;
 use show::list;
-use styles::Reading;
 ghost use mathlib.Core.Path.{_≡_};
 ghost use Rattle.parser.specs.Parsing.{answerNumber};
 ghost use Rattle.lines.specs.Pages.{Put};

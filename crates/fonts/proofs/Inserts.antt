@@ -19,7 +19,7 @@ use Rattle.answers.specs.declared.Refusal.{Refusal}
 use Rattle.answers.specs.declared.Outcome.the-variants.{Done, Refused}
 use Rattle.answers.specs.Answers.{refusal, found, refused}
 use Rattle.fonts.specs.declared.rows.Font.{Font as Row}
-use Rattle.fonts.specs.Rows.{Font, firstFont, fontWords, tableWords, hasKey, inserted, stored, tableOf, InFront, ReadFonts}
+use Rattle.fonts.specs.Rows.{Font, firstFont, fontRecord, tableWords, hasKey, inserted, stored, tableOf, InFront, ReadFonts, fontWords}
 use Rattle.fonts.specs.Rows.{row, rowWords, keyAt, Ascends, Rank, stands, shifted, StoredFont}
 use Rattle.fonts.proofs.Searches.{stands-here, stands-apart}
 use Rattle.fonts.proofs.Shifts.{over, between}
@@ -36,11 +36,11 @@ front-of : (ws tail room : List ℕ) → room ≡ ws ++ tail → InFront ws room
 front-of ws tail room e = ap (take (length ws)) e ∙ take-append-seam ws tail
 
 key-at : (fs : List Font) (tail : List ℕ) (i : ℕ) → i < length fs → keyAt (tableWords fs ++ tail) i ≡ keyOf fs i
-unfolding tableWords fontWords
+unfolding tableWords fontRecord
 key-at [] tail i h = absurd (omega arith)
 key-at (f ∷ fs) tail zero h = refl
 key-at (f ∷ fs) tail (suc i) h =
-    let q : suc i * 3 ≡ suc (suc (suc (i * 3))) = omega arith in
+    let q : suc i * fontWords ≡ suc (suc (suc (i * fontWords))) = omega arith in
     rw q (key-at fs tail i (omega arith))
 
 key-in : (fs : List Font) (room : List ℕ) → InFront (tableWords fs) room → (i : ℕ) → i < length fs → keyAt room i ≡ keyOf fs i
@@ -93,43 +93,43 @@ parts : (p x q tail : List ℕ) → (p ++ (x ++ q)) ++ tail ≡ p ++ (x ++ (q ++
 parts p x q tail = append-assoc p (x ++ q) tail ∙ ap (λ (l : List ℕ). p ++ l) (append-assoc x q tail)
 
 table-parts : (a : List Font) (f : Font) (b : List Font) (tail : List ℕ)
-    → tableWords (a ++ (f ∷ b)) ++ tail ≡ tableWords a ++ (fontWords f ++ (tableWords b ++ tail))
+    → tableWords (a ++ (f ∷ b)) ++ tail ≡ tableWords a ++ (fontRecord f ++ (tableWords b ++ tail))
 unfolding tableWords
-table-parts a f b tail = ap (λ (l : List ℕ). l ++ tail) (table-append a (f ∷ b)) ∙ parts (tableWords a) (fontWords f) (tableWords b) tail
+table-parts a f b tail = ap (λ (l : List ℕ). l ++ tail) (table-append a (f ∷ b)) ∙ parts (tableWords a) (fontRecord f) (tableWords b) tail
 
-front-length : (fs : List Font) (r : ℕ) → r ≤ length fs → length (tableWords (take r fs)) ≡ r * 3
+front-length : (fs : List Font) (r : ℕ) → r ≤ length fs → length (tableWords (take r fs)) ≡ r * fontWords
 front-length fs r h = length-table (take r fs) ∙ rw (length-take-le r fs h) (omega arith)
 
-words-length : (f : Font) → length (fontWords f) ≡ 3
-unfolding fontWords
+words-length : (f : Font) → length (fontRecord f) ≡ 3
+unfolding fontRecord
 words-length f = refl
 
-row-words : (f : Row) (g : Font) → f ≡ row g → rowWords f ≡ fontWords g
-unfolding fontWords
+row-words : (f : Row) (g : Font) → f ≡ row g → rowWords f ≡ fontRecord g
+unfolding fontRecord
 row-words f g e = ap rowWords e
 
 -- the record of the same key is written over
 over-table : (fs : List Font) (room : List ℕ) (f : Font) (r : ℕ) → InFront (tableWords fs) room → r < length fs
-    → sets room (r * 3) (fontWords f) ≡ tableWords (take r fs ++ (f ∷ drop (suc r) fs)) ++ behind fs room
+    → sets room (r * fontWords) (fontRecord f) ≡ tableWords (take r fs ++ (f ∷ drop (suc r) fs)) ++ behind fs room
 over-table fs room f r h l =
     let a : List Font = take r fs in
     let x : Font = getD fs r firstFont in
     let b : List Font = drop (suc r) fs in
     let tail : List ℕ = behind fs room in
-    let e : room ≡ tableWords a ++ (fontWords x ++ (tableWords b ++ tail)) =
+    let e : room ≡ tableWords a ++ (fontRecord x ++ (tableWords b ++ tail)) =
     front-whole fs room h ∙ ap (λ (gs : List Font). tableWords gs ++ tail) (split-at fs r firstFont l) ∙ table-parts a x b tail in
-    let n : length (tableWords a) ≡ r * 3 = front-length fs r (omega arith) in
-    let o : sets (tableWords a ++ (fontWords x ++ (tableWords b ++ tail))) (length (tableWords a)) (fontWords f)
-    ≡ tableWords a ++ (fontWords f ++ (tableWords b ++ tail)) =
-    over (tableWords a) (fontWords x) (tableWords b ++ tail) (fontWords f) (words-length x ∙ sym (words-length f)) in
-    ap (λ (ws : List ℕ). sets ws (r * 3) (fontWords f)) e
-    ∙ ap (λ (i : ℕ). sets (tableWords a ++ (fontWords x ++ (tableWords b ++ tail))) i (fontWords f)) (sym n)
+    let n : length (tableWords a) ≡ r * fontWords = front-length fs r (omega arith) in
+    let o : sets (tableWords a ++ (fontRecord x ++ (tableWords b ++ tail))) (length (tableWords a)) (fontRecord f)
+    ≡ tableWords a ++ (fontRecord f ++ (tableWords b ++ tail)) =
+    over (tableWords a) (fontRecord x) (tableWords b ++ tail) (fontRecord f) (words-length x ∙ sym (words-length f)) in
+    ap (λ (ws : List ℕ). sets ws (r * fontWords) (fontRecord f)) e
+    ∙ ap (λ (i : ℕ). sets (tableWords a ++ (fontRecord x ++ (tableWords b ++ tail))) i (fontRecord f)) (sym n)
     ∙ o
     ∙ sym (table-parts a f b tail)
 
 -- the later records have moved on
-new-table : (fs : List Font) (room : List ℕ) (f : Font) (r n : ℕ) → length fs ≡ n → InFront (tableWords fs) room → r ≤ n → n * 3 + 3 ≤ length room
-    → sets (shifted (r * 3) (n * 3) room) (r * 3) (fontWords f) ≡ tableWords (take r fs ++ (f ∷ drop r fs)) ++ drop 3 (behind fs room)
+new-table : (fs : List Font) (room : List ℕ) (f : Font) (r n : ℕ) → length fs ≡ n → InFront (tableWords fs) room → r ≤ n → n * fontWords + fontWords ≤ length room
+    → sets (shifted (r * fontWords) (n * fontWords) room) (r * fontWords) (fontRecord f) ≡ tableWords (take r fs ++ (f ∷ drop r fs)) ++ drop 3 (behind fs room)
 new-table fs room f r n q h l k =
     let a : List Font = take r fs in
     let b : List Font = drop r fs in
@@ -137,18 +137,18 @@ new-table fs room f r n q h l k =
     let s : tableWords fs ≡ tableWords a ++ tableWords b = ap tableWords (sym (take-append-drop r fs)) ∙ table-append a b in
     let e : room ≡ tableWords a ++ (tableWords b ++ tail) =
     front-whole fs room h ∙ ap (λ (ws : List ℕ). ws ++ tail) s ∙ append-assoc (tableWords a) (tableWords b) tail in
-    let i : length (tableWords a) ≡ r * 3 = front-length fs r (omega arith) in
+    let i : length (tableWords a) ≡ r * fontWords = front-length fs r (omega arith) in
     let t : length (tableWords fs) ≡ 3 * length fs = length-table fs in
     let u : length (tableWords a) + length (tableWords b) ≡ length (tableWords fs) = sym (length-append (tableWords a) (tableWords b)) ∙ ap length (sym s) in
-    let j : length (tableWords a) + length (tableWords b) ≡ n * 3 = u ∙ t ∙ rw q (omega arith) in
+    let j : length (tableWords a) + length (tableWords b) ≡ n * fontWords = u ∙ t ∙ rw q (omega arith) in
     let m : 3 ≤ length tail = simp length-drop (omega arith) in
     let p : ℕ = length (tableWords a) in
-    let v : sets (shifted p (p + length (tableWords b)) (tableWords a ++ (tableWords b ++ tail))) p (fontWords f)
-    ≡ tableWords a ++ (fontWords f ++ (tableWords b ++ drop 3 tail)) =
-    between (tableWords a) (tableWords b) tail (fontWords f) (words-length f) m in
-    ap (λ (ws : List ℕ). sets (shifted (r * 3) (n * 3) ws) (r * 3) (fontWords f)) e
-    ∙ ap (λ (y : ℕ). sets (shifted y (n * 3) (tableWords a ++ (tableWords b ++ tail))) y (fontWords f)) (sym i)
-    ∙ ap (λ (y : ℕ). sets (shifted (length (tableWords a)) y (tableWords a ++ (tableWords b ++ tail))) (length (tableWords a)) (fontWords f)) (sym j)
+    let v : sets (shifted p (p + length (tableWords b)) (tableWords a ++ (tableWords b ++ tail))) p (fontRecord f)
+    ≡ tableWords a ++ (fontRecord f ++ (tableWords b ++ drop 3 tail)) =
+    between (tableWords a) (tableWords b) tail (fontRecord f) (words-length f) m in
+    ap (λ (ws : List ℕ). sets (shifted (r * fontWords) (n * fontWords) ws) (r * fontWords) (fontRecord f)) e
+    ∙ ap (λ (y : ℕ). sets (shifted y (n * fontWords) (tableWords a ++ (tableWords b ++ tail))) y (fontRecord f)) (sym i)
+    ∙ ap (λ (y : ℕ). sets (shifted (length (tableWords a)) y (tableWords a ++ (tableWords b ++ tail))) (length (tableWords a)) (fontRecord f)) (sym j)
     ∙ v
     ∙ sym (table-parts a f b (drop 3 tail))
 
@@ -174,9 +174,9 @@ length-new : (fs : List Font) (f : Font) (r : ℕ) → r ≤ length fs → lengt
 length-new fs f r h = length-append (take r fs) (f ∷ drop r fs) ∙ rw (length-take-le r fs h, length-drop) (omega arith)
 
 -- the store, where r is the font's rank and t says whether the record there has its key
-module _ {limit n : ℕ} {f : Row} {room : List ℕ} (pre : (n ≤ limit) × (limit ≤ 256) × (limit * 3 ≤ length room) × Ascends n room)
+module _ {limit n : ℕ} {f : Row} {room : List ℕ} (pre : (n ≤ limit) × (limit ≤ 256) × (limit * fontWords ≤ length room) × Ascends n room)
     {r : ℕ} (k : Rank n room (f .key) r) {t : Bool} (s : t ≡ stands n room r (f .key)) where
-  pub store-over : t ≡ true → (room′ : List ℕ) → room′ ≡ sets room (r * 3) (rowWords f)
+  pub store-over : t ≡ true → (room′ : List ℕ) → room′ ≡ sets room (r * fontWords) (rowWords f)
       → (fs : List Font) (g : Font) → StoredFont limit n f fs g room (Done n) room′
   store-over b room′ w fs g e h q =
       let y : (r < n) × (keyAt room r ≡ f .key) = stands-here n room r (f .key) (sym s ∙ b) in
@@ -185,7 +185,7 @@ module _ {limit n : ℕ} {f : Row} {room : List ℕ} (pre : (n ≤ limit) × (li
       let i : (inserted g fs ≡ take r fs ++ (g ∷ drop (suc r) fs)) × (hasKey (g .key) fs ≡ true) =
       insert-over g fs r l (λ i m. rw (← (key-in fs room h i (omega arith)), ← v) (k .below i m)) (sym (key-in fs room h r l) ∙ y .1 ∙ v) in
       read-found limit fs g _ (behind fs room) room′ n (rw (i .1)) (i .0) (length-over fs g r l ∙ e)
-      (w ∙ ap (sets room (r * 3)) (row-words f g q) ∙ over-table fs room g r h l)
+      (w ∙ ap (sets room (r * fontWords)) (row-words f g q) ∙ over-table fs room g r h l)
 
   module _ (b : t ≡ false) (fs : List Font) (g : Font) (e : length fs ≡ n) (h : InFront (tableWords fs) room) (q : f ≡ row g) where
     apart : (inserted g fs ≡ take r fs ++ (g ∷ drop r fs)) × (hasKey (g .key) fs ≡ false)
@@ -198,29 +198,29 @@ module _ {limit n : ℕ} {f : Row} {room : List ℕ} (pre : (n ≤ limit) × (li
     full : limit ≤ n → (z : Refusal) → z ≡ refusal FontRoom → ReadFonts (tableOf (stored limit (record { table = fs; font = g }))) (Refused z) room
     full l z y = rw (kept-refused limit fs g (rw (apart .1, e) (le-ltb n limit l)), y) refl
 
-    new : n < limit → (room₁ room₂ : List ℕ) → room₁ ≡ shifted (r * 3) (n * 3) room → room₂ ≡ sets room₁ (r * 3) (rowWords f)
+    new : n < limit → (room₁ room₂ : List ℕ) → room₁ ≡ shifted (r * fontWords) (n * fontWords) room → room₂ ≡ sets room₁ (r * fontWords) (rowWords f)
         → ReadFonts (tableOf (stored limit (record { table = fs; font = g }))) (Done (n + 1)) room₂
     new l room₁ room₂ w₁ w₂ =
         let m : r ≤ n = k .within in
-        let p : limit * 3 ≤ length room = pre .2 in
+        let p : limit * fontWords ≤ length room = pre .2 in
         read-found limit fs g _ (drop 3 (behind fs room)) room₂ (n + 1) (rw (apart .1, e) (lt-ltb n limit l)) (apart .0)
         (length-new fs g r (omega arith) ∙ rw e)
-        (w₂ ∙ ap (λ (l : List ℕ). sets l (r * 3) (rowWords f)) w₁ ∙ ap (sets (shifted (r * 3) (n * 3) room) (r * 3)) (row-words f g q)
+        (w₂ ∙ ap (λ (l : List ℕ). sets l (r * fontWords) (rowWords f)) w₁ ∙ ap (sets (shifted (r * fontWords) (n * fontWords) room) (r * fontWords)) (row-words f g q)
         ∙ new-table fs room g r n e h m (omega arith))
 
   pub store-full : t ≡ false → limit ≤ n → (z : Refusal) → z ≡ refusal FontRoom → (fs : List Font) (g : Font) → StoredFont limit n f fs g room (Refused z) room
   store-full b l z y fs g e h q = full b fs g e h q l z y
 
-  pub store-new : t ≡ false → n < limit → (room₁ room₂ : List ℕ) → room₁ ≡ shifted (r * 3) (n * 3) room → room₂ ≡ sets room₁ (r * 3) (rowWords f)
+  pub store-new : t ≡ false → n < limit → (room₁ room₂ : List ℕ) → room₁ ≡ shifted (r * fontWords) (n * fontWords) room → room₂ ≡ sets room₁ (r * fontWords) (rowWords f)
       → (fs : List Font) (g : Font) → StoredFont limit n f fs g room (Done (n + 1)) room₂
   store-new b l room₁ room₂ w₁ w₂ fs g e h q = new b fs g e h q l room₁ room₂ w₁ w₂
 
 -- the record at the rank lies in the room
-pub over-fits : {limit n : ℕ} {room : List ℕ} → (n ≤ limit) × (limit ≤ 256) × (limit * 3 ≤ length room) × Ascends n room
-    → (r key : ℕ) {t : Bool} → t ≡ stands n room r key → t ≡ true → r * 3 + 3 ≤ length room
+pub over-fits : {limit n : ℕ} {room : List ℕ} → (n ≤ limit) × (limit ≤ 256) × (limit * fontWords ≤ length room) × Ascends n room
+    → (r key : ℕ) {t : Bool} → t ≡ stands n room r key → t ≡ true → r * fontWords + fontWords ≤ length room
 over-fits {limit} {n} {room} pre r key s b =
     let y : (r < n) × (keyAt room r ≡ key) = stands-here n room r key (sym s ∙ b) in
     let l : r < n = y .0 in
     let m : n ≤ limit = pre .0 in
-    let p : limit * 3 ≤ length room = pre .2 in
+    let p : limit * fontWords ≤ length room = pre .2 in
     omega arith

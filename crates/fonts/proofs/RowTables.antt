@@ -12,15 +12,15 @@ use native.Mathlib.Omega.{arith}
 use borrow.Author.Tests.{ltb-true, ltb-false, eqb-true, eqb-false, ne-eqb}
 use lib.ListN.{length, getD}
 use lib.Dec.{eqb, ltb}
-use Rattle.fonts.specs.Rows.{Font, firstFont, fontWords, tableWords, hasKey, inserted}
+use Rattle.fonts.specs.Rows.{Font, firstFont, fontRecord, tableWords, hasKey, inserted}
 
 pub table-append : (fs gs : List Font) → tableWords (fs ++ gs) ≡ tableWords fs ++ tableWords gs
 unfolding tableWords
 table-append [] gs = refl
-table-append (f ∷ fs) gs = ap (λ (l : List ℕ). fontWords f ++ l) (table-append fs gs) ∙ sym (append-assoc (fontWords f) (tableWords fs) (tableWords gs))
+table-append (f ∷ fs) gs = ap (λ (l : List ℕ). fontRecord f ++ l) (table-append fs gs) ∙ sym (append-assoc (fontRecord f) (tableWords fs) (tableWords gs))
 
 pub length-table : (fs : List Font) → length (tableWords fs) ≡ 3 * length fs
-unfolding tableWords fontWords
+unfolding tableWords fontRecord
 length-table [] = omega arith
 length-table (f ∷ fs) = let e : length (tableWords fs) ≡ 3 * length fs = length-table fs in omega arith
 

@@ -10,18 +10,18 @@ use native.Mathlib.Omega.{arith}
 use borrow.Author.Tests.{ltb-true, ltb-false, lt-ltb, eqb-true, eq-eqb}
 use lib.ListN.{length}
 use lib.Dec.{eqb, ltb}
-use Rattle.fonts.specs.Rows.{keyAt, Ascends, Rank, stands}
+use Rattle.fonts.specs.Rows.{keyAt, Ascends, Rank, stands, fontWords}
 
 -- the records before `low` have smaller keys, those from `high` on do not
 pub record Half (room : List ℕ) (n key low high : ℕ) : Type 0 where
-  pub long : n * 3 ≤ length room
+  pub long : n * fontWords ≤ length room
   pub few : n ≤ 256
   pub ordered : low ≤ high
   pub within : high ≤ n
   pub below : (i : ℕ) → i < low → keyAt room i < key
   pub above : (i : ℕ) → high ≤ i → i < n → key ≤ keyAt room i
 
-pub half-start : (room : List ℕ) (n key : ℕ) → (n * 3 ≤ length room) × (n ≤ 256) × Ascends n room → Half room n key 0 n
+pub half-start : (room : List ℕ) (n key : ℕ) → (n * fontWords ≤ length room) × (n ≤ 256) × Ascends n room → Half room n key 0 n
 half-start room n key h =
     record {
       long = h .0;

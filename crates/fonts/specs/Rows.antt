@@ -23,16 +23,16 @@ abbrev pub firstFont : Font
 firstFont = record { key = 0; place = 0; name = [] }
 
 -- "Record: key, name place, name length (place 0 if empty)"
-abbrev pub fontWidth : ℕ
-fontWidth = 3
+abbrev pub fontWords : ℕ
+fontWords = 3
 
-unfoldable pub fontWords : Font → List ℕ
-fontWords f = f .key ∷ f .place ∷ length (f .name) ∷ []
+unfoldable pub fontRecord : Font → List ℕ
+fontRecord f = f .key ∷ f .place ∷ length (f .name) ∷ []
 
 -- the records of a table
 unfoldable pub tableWords : List Font → List ℕ
 tableWords [] = []
-tableWords (f ∷ fs) = fontWords f ++ tableWords fs
+tableWords (f ∷ fs) = fontRecord f ++ tableWords fs
 
 -- whether a table has a key
 unfoldable pub hasKey : ℕ → List Font → Bool
@@ -83,7 +83,7 @@ rowWords f = f .key ∷ f .place ∷ f .length ∷ []
 
 -- the key of the record at a place
 abbrev pub keyAt : List ℕ → ℕ → ℕ
-keyAt room i = getD room (i * fontWidth) 0
+keyAt room i = getD room (i * fontWords) 0
 
 -- the keys of the first n records ascend
 pub record Ascends (n : ℕ) (room : List ℕ) : Type 0 where
@@ -101,7 +101,7 @@ stands n room r key = cond (ltb r n) (eqb (keyAt room r) key) false
 
 -- the words from one place to another stand one record on; those of one record stand there twice
 unfoldable pub shifted : ℕ → ℕ → List ℕ → List ℕ
-shifted from to room = take (from + fontWidth) room ++ (take (to - from) (drop from room) ++ drop (to + fontWidth) room)
+shifted from to room = take (from + fontWords) room ++ (take (to - from) (drop from room) ++ drop (to + fontWords) room)
 
 -- what a function that stores a font answers, and what it leaves in the room, if the room has a table of n fonts in front
 abbrev pub StoredFont : ℕ → ℕ → Row → List Font → Font → List ℕ → Outcome → List ℕ → Type 0

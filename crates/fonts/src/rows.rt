@@ -3,6 +3,7 @@
 //   Font    a font: key, place and length of its name
 //   rank    where a key stands, or would stand, among the records
 //   store   puts a font in its place
+use crate::FONT_WORDS;
 use answers::Outcome;
 use answers::Refusal;
 use answers::Why;
@@ -11,7 +12,7 @@ ghost use mathlib.Core.List.{List};
 ghost use Prim.Native.Nat.{_+_, _*_, _≤_};
 ghost use lib.ListN.{length};
 ghost use lib.Seq.{sets};
-ghost use Rattle.fonts.specs.Rows.{Font as Named, rowWords, Ascends, Rank, stands as standsOf, shifted, StoredFont};
+ghost use Rattle.fonts.specs.Rows.{Font as Named, rowWords, Ascends, Rank, stands as standsOf, shifted, StoredFont, fontWords};
 
 pub struct Font {
     pub key: u32,
@@ -21,7 +22,7 @@ pub struct Font {
 
 // How many of the first n records have a smaller key: the records ascend, so the search halves them.
 fn rank(room: &[u32], n: usize, key: u32) -> usize
-    requires { ⌜ (n * 3 ≤ length (now room)) × (n ≤ 256) × Ascends n (now room) ⌝ }
+    requires { ⌜ (n * fontWords ≤ length (now room)) × (n ≤ 256) × Ascends n (now room) ⌝ }
     ensures { λ r. ⌜ Rank n (now (room .entry)) key r ⌝ }
 {
     let mut low: usize = 0;
@@ -29,7 +30,7 @@ fn rank(room: &[u32], n: usize, key: u32) -> usize
     while low < high {
         let half = (high - low) / 2;
         let middle = low + half;
-        let at = middle * 3;
+        let at = middle * FONT_WORDS;
         let k = room[at];
         if k < key {
             low = middle + 1;
@@ -42,11 +43,11 @@ fn rank(room: &[u32], n: usize, key: u32) -> usize
 
 // Whether the record at a rank has the key.
 fn stands(room: &[u32], n: usize, r: usize, key: u32) -> bool
-    requires { ⌜ (n * 3 ≤ length (now room)) × (n ≤ 256) ⌝ }
+    requires { ⌜ (n * fontWords ≤ length (now room)) × (n ≤ 256) ⌝ }
     ensures { λ b. ⌜ b ≡ standsOf n (now (room .entry)) r key ⌝ }
 {
     if r < n {
-        let at = r * 3;
+        let at = r * FONT_WORDS;
         let k = room[at];
         return k == key;
     }
@@ -80,12 +81,12 @@ fn put(room: &mut [u32], at: usize, f: Font)
 // Puts the current font among the n records of a table: over the record of the same key, or in its place, where the later ones
 // move on by one; 17 if that would be a record too many. The answer is how many records there are then.
 pub fn store(room: &mut [u32], n: usize, f: Font, limit: usize) -> Outcome
-    requires { ⌜ (n ≤ limit) × (limit ≤ 256) × (limit * 3 ≤ length (now room)) × Ascends n (now room) ⌝ }
+    requires { ⌜ (n ≤ limit) × (limit ≤ 256) × (limit * fontWords ≤ length (now room)) × Ascends n (now room) ⌝ }
     ensures { λ r. ⌜ ((fs : List Named) (g : Named) → StoredFont limit n f fs g (now (room .entry)) r (now (room .exit))) ⌝ }
 {
     let key = f.key;
     let r = rank(room, n, key);
-    let at = r * 3;
+    let at = r * FONT_WORDS;
     if stands(room, n, r, key) {
         put(room, at, f);
         return Outcome::Done(n);
@@ -93,7 +94,7 @@ pub fn store(room: &mut [u32], n: usize, f: Font, limit: usize) -> Outcome
     if limit <= n {
         return Outcome::Refused(Refusal::of(Why::FontRoom));
     }
-    let end = n * 3;
+    let end = n * FONT_WORDS;
     shift(room, at, end);
     put(room, at, f);
     Outcome::Done(n + 1)

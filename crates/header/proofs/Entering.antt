@@ -19,7 +19,7 @@ use Rattle.answers.specs.declared.Outcome.the-variants.{Done, Refused}
 use Rattle.answers.specs.Answers.{refusal, Found, found, refused}
 use Rattle.rooms.proofs.Streams.{done-refused}
 use Rattle.tokens.specs.declared.Property.{Property}
-use Rattle.tokens.specs.Tokens.{Shown}
+use Rattle.tokens.specs.Tokens.{Shown, tokenWords}
 use Rattle.tokens.specs.declared.item.Item.the-variants.{Text, Closing, LineBreak, Ignorable, Word, Unknown}
 use Rattle.tokens.specs.Items.{propertyOf, itemOf, itemAt, shownAll}
 use Rattle.tokens.proofs.Items.{item-opening, shown-take}
@@ -62,7 +62,7 @@ refused-refused : (q r : Refusal) → Refused q ≡ Refused r → q ≡ r
 refused-refused q r e = cc
 
 -- the words of a group show its tokens
-group-words : (src t : List ℕ) (n : ℕ) {h : ℕ} → h ≡ extent 1 (shownAll src n t) → h ≤ n → shownAll src h (take (h * 6) t) ≡ group (shownAll src n t)
+group-words : (src t : List ℕ) (n : ℕ) {h : ℕ} → h ≡ extent 1 (shownAll src n t) → h ≤ n → shownAll src h (take (h * tokenWords) t) ≡ group (shownAll src n t)
 group-words src t n {h} e l = sym (shown-take src h n t l) ∙ ap (λ (k : ℕ). take k (shownAll src n t)) e
 
 module _ (src t : List ℕ) (n : ℕ) {late : Bool} (limit held : ℕ) (room : List ℕ) where
@@ -75,7 +75,7 @@ module _ (src t : List ℕ) (n : ℕ) {late : Bool} (limit held : ℕ) (room : L
   late-colours l e = rw l (ap Bad e)
 
   module _ (l : late ≡ false) {h : ℕ} (a : h ≡ extent 1 (shownAll src n t)) (b : h ≤ n) (o : Outcome) where
-    module _ (r : ReadFonts (fonts limit (shownAll src h (take (h * 6) t))) o room) where
+    module _ (r : ReadFonts (fonts limit (shownAll src h (take (h * tokenWords) t))) o room) where
       fonts-told : ReadFonts (fonts limit (group (shownAll src n t))) o room
       fonts-told = rw (← (group-words src t n a b)) r
 
@@ -95,7 +95,7 @@ module _ (src t : List ℕ) (n : ℕ) {late : Bool} (limit held : ℕ) (room : L
           go (found fs) y = absurd (done-refused (sym (y .0)))
           go (refused p) y = ap Bad (refused-refused q p y)
 
-    module _ (r : ReadColours (colours limit (shownAll src h (take (h * 6) t))) o room) where
+    module _ (r : ReadColours (colours limit (shownAll src h (take (h * tokenWords) t))) o room) where
       colours-told : ReadColours (colours limit (group (shownAll src n t))) o room
       colours-told = rw (← (group-words src t n a b)) r
 

@@ -10,6 +10,7 @@ use answers::Refusal;
 use answers::Why;
 use colours::read_colours;
 use fonts::read_fonts;
+use tokens::TOKEN_WORDS;
 use walk::Aim;
 use walk::aim_of;
 use walk::extent;
@@ -20,9 +21,11 @@ ghost use lib.ListN.{length};
 ghost use Rattle.rooms.specs.Rooms.{tableLimit};
 ghost use Rattle.tokens.specs.Items.{itemAt, shownAll};
 ghost use Rattle.fonts.specs.Fonts.{fonts as fontsOf};
-ghost use Rattle.colours.specs.Colours.{colours as coloursOf};
+ghost use Rattle.colours.specs.Colours.{colours as coloursOf, colourWords};
 ghost use Rattle.walk.specs.Walk.{group, extent as extentOf};
 ghost use Rattle.header.specs.Entering.{opens, passed, FontsMet, ColoursMet, Enters};
+ghost use Rattle.tokens.specs.Tokens.{tokenWords};
+ghost use Rattle.fonts.specs.Rows.{fontWords};
 
 pub enum Entered {
     On(usize, usize, usize),
@@ -31,7 +34,7 @@ pub enum Entered {
 
 // Whether the first token of a slice of words is an opening bracket.
 pub fn is_opening(t: &[u32]) -> bool
-    requires { ⌜ 6 ≤ length (now t) ⌝ }
+    requires { ⌜ tokenWords ≤ length (now t) ⌝ }
     ensures { λ r. ⌜ r ≡ opens (itemAt (now (t .entry))) ⌝ }
 {
     let kind = t[0];
@@ -50,14 +53,14 @@ fn font_table(
     colours: usize,
     room: &mut [u32],
 ) -> Entered
-    requires { ⌜ (n * 6 ≤ length (now t)) × (n ≤ 65536) ⌝ }
-    ensures { λ r. ⌜ FontsMet late (fontsOf (tableLimit 3 (length (now (room .entry)))) (group (shownAll (now (source .entry)) n (now (t .entry))))) colours (extentOf 1 (shownAll (now (source .entry)) n (now (t .entry)))) r (now (room .exit)) × (passed r ≤ n) ⌝ }
+    requires { ⌜ (n * tokenWords ≤ length (now t)) × (n ≤ 65536) ⌝ }
+    ensures { λ r. ⌜ FontsMet late (fontsOf (tableLimit fontWords (length (now (room .entry)))) (group (shownAll (now (source .entry)) n (now (t .entry))))) colours (extentOf 1 (shownAll (now (source .entry)) n (now (t .entry)))) r (now (room .exit)) × (passed r ≤ n) ⌝ }
 {
     if late {
         return Entered::Bad(Refusal::of(Why::TableLineBreak));
     }
     let h = extent(t, n);
-    let words = h * 6;
+    let words = h * TOKEN_WORDS;
     let o = read_fonts(source, &t[..words], h, room);
     match o {
         Outcome::Done(k) => Entered::On(k, colours, h),
@@ -67,14 +70,14 @@ fn font_table(
 
 // Reads the colour table that stands behind a bracket, n tokens before the end, where there are `fonts` fonts.
 fn colour_table(t: &[u32], n: usize, late: bool, fonts: usize, room: &mut [u32]) -> Entered
-    requires { ⌜ (n * 6 ≤ length (now t)) × (n ≤ 65536) ⌝ }
-    ensures { λ r. ⌜ ((src : List ℕ) → ColoursMet late (coloursOf (tableLimit 1 (length (now (room .entry)))) (group (shownAll src n (now (t .entry))))) fonts (extentOf 1 (shownAll src n (now (t .entry)))) r (now (room .exit))) × (passed r ≤ n) ⌝ }
+    requires { ⌜ (n * tokenWords ≤ length (now t)) × (n ≤ 65536) ⌝ }
+    ensures { λ r. ⌜ ((src : List ℕ) → ColoursMet late (coloursOf (tableLimit colourWords (length (now (room .entry)))) (group (shownAll src n (now (t .entry))))) fonts (extentOf 1 (shownAll src n (now (t .entry)))) r (now (room .exit))) × (passed r ≤ n) ⌝ }
 {
     if late {
         return Entered::Bad(Refusal::of(Why::TableLineBreak));
     }
     let h = extent(t, n);
-    let words = h * 6;
+    let words = h * TOKEN_WORDS;
     let o = read_colours(&t[..words], h, room);
     match o {
         Outcome::Done(k) => Entered::On(fonts, k, h),
@@ -92,8 +95,8 @@ pub fn enter(
     fonts: &mut [u32],
     colours: &mut [u32],
 ) -> Entered
-    requires { ⌜ (n * 6 ≤ length (now t)) × (n ≤ 65536) ⌝ }
-    ensures { λ r. ⌜ Enters (tableLimit 3 (length (now (fonts .entry)))) (tableLimit 1 (length (now (colours .entry)))) (shownAll (now (source .entry)) n (now (t .entry))) f c (now (fonts .entry)) (now (colours .entry)) r (now (fonts .exit)) (now (colours .exit)) × (passed r ≤ n) ⌝ }
+    requires { ⌜ (n * tokenWords ≤ length (now t)) × (n ≤ 65536) ⌝ }
+    ensures { λ r. ⌜ Enters (tableLimit fontWords (length (now (fonts .entry)))) (tableLimit colourWords (length (now (colours .entry)))) (shownAll (now (source .entry)) n (now (t .entry))) f c (now (fonts .entry)) (now (colours .entry)) r (now (fonts .exit)) (now (colours .exit)) × (passed r ≤ n) ⌝ }
 {
     let a = aim_of(t, n);
     match a {

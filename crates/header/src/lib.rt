@@ -6,12 +6,16 @@ use crate::group::Entered;
 use crate::group::enter;
 use crate::group::is_opening;
 use answers::Refusal;
+use tokens::TOKEN_WORDS;
 ghost use Prim.Native.Nat.{_*_, _≤_};
 ghost use lib.ListN.{length};
 ghost use Rattle.rooms.specs.Rooms.{tableLimit};
 ghost use Rattle.tokens.specs.Items.{shownAll};
 ghost use Rattle.walk.specs.Walk.{walk as walkOf};
 ghost use Rattle.header.specs.Header.{tables, ReadHeader};
+ghost use Rattle.tokens.specs.Tokens.{tokenWords};
+ghost use Rattle.fonts.specs.Rows.{fontWords};
+ghost use Rattle.colours.specs.Colours.{colourWords};
 
 // How many fonts and colours, or a refusal.
 pub enum Header {
@@ -27,8 +31,8 @@ pub fn read_header(
     fonts: &mut [u32],
     colours: &mut [u32],
 ) -> Header
-    requires { ⌜ (count * 6 ≤ length (now tokens)) × (count ≤ 65536) ⌝ }
-    ensures { λ r. ⌜ ReadHeader (tables (tableLimit 3 (length (now (fonts .entry)))) (tableLimit 1 (length (now (colours .entry)))) (walkOf (shownAll (now (source .entry)) count (now (tokens .entry))))) r (now (fonts .exit)) (now (colours .exit)) ⌝ }
+    requires { ⌜ (count * tokenWords ≤ length (now tokens)) × (count ≤ 65536) ⌝ }
+    ensures { λ r. ⌜ ReadHeader (tables (tableLimit fontWords (length (now (fonts .entry)))) (tableLimit colourWords (length (now (colours .entry)))) (walkOf (shownAll (now (source .entry)) count (now (tokens .entry))))) r (now (fonts .exit)) (now (colours .exit)) ⌝ }
 {
     let mut t = tokens;
     let mut n = count;
@@ -36,13 +40,13 @@ pub fn read_header(
     let mut held_colours: usize = 0;
     while 0 < n {
         let opening = is_opening(t);
-        t = &t[6..];
+        t = &t[TOKEN_WORDS..];
         n -= 1;
         if opening {
             let e = enter(source, t, n, held_fonts, held_colours, fonts, colours);
             match e {
                 Entered::On(f, c, h) => {
-                    let passed = h * 6;
+                    let passed = h * TOKEN_WORDS;
                     t = &t[passed..];
                     n -= h;
                     held_fonts = f;

@@ -5,7 +5,7 @@ use crate::say::number;
 use crate::say::text;
 use parser::Answer;
 use parser::Counts;
-use styles::Reading;
+use readings::Reading;
 ghost use mathlib.Core.Path.{_≡_};
 ghost use mathlib.Core.Bool.{true};
 ghost use Prim.Native.Nat.{ℕ, _<_, _≤_};

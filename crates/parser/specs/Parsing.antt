@@ -13,12 +13,14 @@ use Rattle.tokens.specs.Tokens
 use Rattle.walk.specs.Walk.{walk}
 use Rattle.header.specs.Entering.{Tables}
 use Rattle.header.specs.Header.{tables}
-use Rattle.styles.specs.declared.Reading.{Reading}
+use Rattle.readings.specs.declared.Reading.{Reading}
 use Rattle.blocks.specs.Pages.{Piece, blockWords, textCapacity, none, roomy}
 use Rattle.body.specs.Body.{body}
 use Rattle.parser.specs.declared.Counts.{Counts}
 use Rattle.parser.specs.declared.Answer.{Answer}
 use Rattle.parser.specs.declared.Answer.the-variants.{Read, Refuses}
+use Rattle.fonts.specs.Rows.{fontWords}
+use Rattle.colours.specs.Colours.{colourWords}
 
 -- "8: no tokens (blank source)", "9: first token is no opening bracket"
 abbrev pub begun : List Shown → Found (List Shown)
@@ -67,7 +69,7 @@ headed rd b t ts (found h) = bodied rd b t ts h
 headed rd b t ts (refused r) = refused r
 
 abbrev pub walked : Reading → Sizes → Found (List Shown) → Found Letter
-walked rd z (found ts) = headed rd (z .blocks) (z .text) ts (tables (tableLimit 3 (z .fonts)) (tableLimit 1 (z .colours)) (walk ts))
+walked rd z (found ts) = headed rd (z .blocks) (z .text) ts (tables (tableLimit fontWords (z .fonts)) (tableLimit colourWords (z .colours)) (walk ts))
 walked rd z (refused r) = refused r
 
 -- "0 is success."; the number and the five counts of an answer

@@ -26,7 +26,7 @@ use Rattle.units.proofs.Units.{Numbers32, run-scalars, runText-some}
 use Rattle.wellformed.specs.WellFormed.{isUtf8}
 use Rattle.wellformed.proofs.WellFormed.{utf8-empty, utf8-ascii, utf8-one, utf8-all}
 use Rattle.styles.specs.declared.State.{State}
-use Rattle.styles.specs.declared.Reading.{Reading}
+use Rattle.readings.specs.declared.Reading.{Reading}
 use Rattle.styles.specs.declared.Change.{Change}
 use Rattle.styles.specs.declared.Change.the-variants.{To, Says, Refuses}
 use Rattle.styles.specs.Styles.{fresh, change}

@@ -21,7 +21,7 @@ use Rattle.cutter.specs.Cutting.{tokenStream, cutAnswer}
 use Rattle.walk.specs.Walk.{walk}
 use Rattle.header.specs.Entering.{Tables}
 use Rattle.header.specs.Header.{tables}
-use Rattle.styles.specs.declared.Reading.{Reading}
+use Rattle.readings.specs.declared.Reading.{Reading}
 use Rattle.blocks.specs.Pages.{Piece, none, blocks, textOf, records, blockWords, textCapacity, roomy}
 use Rattle.blocks.proofs.Blocks.{text-blocks, length-records}
 use Rattle.body.specs.Body.{body}
@@ -38,6 +38,8 @@ use Rattle.roundtrips.proofs.Ample.{roomy-whole, roomy-text, take-filled}
 use Rattle.previews.proofs.Tokens.{All, Fine, shown-fine}
 use Rattle.previews.proofs.Pieces.{Storable, body-storable}
 use Rattle.previews.proofs.Joining.{items-storable, storable-good}
+use Rattle.fonts.specs.Rows.{fontWords}
+use Rattle.colours.specs.Colours.{colourWords}
 
 -- ---- the pieces of a letter that was read
 
@@ -63,7 +65,7 @@ module _ (rd : Reading) (z : Sizes) where
   begun-laid [] = tt
   begun-laid (Shown.opening ∷ ts) =
       let all : List Shown = Shown.opening ∷ ts in
-      headed-laid rd (z .blocks) (z .text) all (tables (tableLimit 3 (z .fonts)) (tableLimit 1 (z .colours)) (walk all))
+      headed-laid rd (z .blocks) (z .text) all (tables (tableLimit fontWords (z .fonts)) (tableLimit colourWords (z .colours)) (walk all))
   begun-laid (Shown.closing ∷ ts) = tt
   begun-laid (Shown.lineBreak ∷ ts) = tt
   begun-laid (Shown.ignorable ∷ ts) = tt
@@ -122,7 +124,7 @@ Stores xs =
 module _ (rd : Reading) (src : List ℕ) (z : Sizes) {c : Counts} where
   letter-stored : (l : Letter) → letterOf rd src z ≡ found l
       → Laid rd (z .blocks) (z .text) (shownBy (items (tokenStream src))) (found l) → Read (countsOf src l) ≡ Read c
-      → (xs : List Piece) × (Good none xs ≡ true) × (take (c .blocks * 13) (blockRoom rd src z) ≡ records 0 xs)
+      → (xs : List Piece) × (Good none xs ≡ true) × (take (c .blocks * blockWords) (blockRoom rd src z) ≡ records 0 xs)
       × (take (c .text) (textRoom rd src z) ≡ textOf xs) × Stores xs
   letter-stored l e (n, d, p) a =
       let xs : List Piece = blocks (l .pieces) in
@@ -137,8 +139,8 @@ module _ (rd : Reading) (src : List ℕ) (z : Sizes) {c : Counts} where
       subst (λ (v : List ℕ). length v ≤ 2147483647) (sym (same ∙ ap textOf p)) (placed-short rd (z .blocks) (z .text) ts d) in (
         xs,
         good,
-        ap (take (c .blocks * 13)) (block-room rd src z e)
-            ∙ take-filled (z .blocks) (records 0 xs) (c .blocks * 13) (length-records xs 0 ∙ ap (λ (k : ℕ). k * 13) kb),
+        ap (take (c .blocks * blockWords)) (block-room rd src z e)
+            ∙ take-filled (z .blocks) (records 0 xs) (c .blocks * blockWords) (length-records xs 0 ∙ ap (λ (k : ℕ). k * blockWords) kb),
         ap (take (c .text)) (text-room rd src z e) ∙ take-filled (z .text) (textOf (l .pieces)) (c .text) kt ∙ sym same,
         λ total f. write-good xs total good short f,
       )
@@ -149,7 +151,7 @@ module _ (rd : Reading) (src : List ℕ) (z : Sizes) {c : Counts} where
 -- and the text of some blocks xs that a stored list can hold; and in a room that is large enough the writer answers the length
 -- of that list, and writes it
 pub preview-stored : (rd : Reading) (src : List ℕ) (z : Sizes) {c : Counts} → readAnswer rd src z ≡ Read c
-    → (xs : List Piece) × (Good none xs ≡ true) × (take (c .blocks * 13) (blockRoom rd src z) ≡ records 0 xs)
+    → (xs : List Piece) × (Good none xs ≡ true) × (take (c .blocks * blockWords) (blockRoom rd src z) ≡ records 0 xs)
     × (take (c .text) (textRoom rd src z) ≡ textOf xs)
     × ((total : ℕ) → length (listBytes xs) ≤ total
     → (writeAnswer total (records 0 xs) (textOf xs) ≡ Done (length (listBytes xs)))
@@ -159,7 +161,7 @@ preview-stored rd src z {c} a = go (letterOf rd src z) refl (letter-laid rd z sr
   where
     go : (x : Found Letter) → letterOf rd src z ≡ x → Laid rd (z .blocks) (z .text) (shownBy (items (tokenStream src))) x
         → answered src x ≡ Read c
-        → (xs : List Piece) × (Good none xs ≡ true) × (take (c .blocks * 13) (blockRoom rd src z) ≡ records 0 xs)
+        → (xs : List Piece) × (Good none xs ≡ true) × (take (c .blocks * blockWords) (blockRoom rd src z) ≡ records 0 xs)
         × (take (c .text) (textRoom rd src z) ≡ textOf xs) × Stores xs
     go (found l) e d b = letter-stored rd src z l e d b
     go (refused r) e d b = let w : _≡_ {A = ℕ} 0 1 = cc in absurd (omega arith)

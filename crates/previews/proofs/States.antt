@@ -17,8 +17,8 @@ use Rattle.styles.specs.declared.Flags.{Flags}
 use Rattle.styles.specs.declared.Painter.{Painter}
 use Rattle.styles.specs.declared.Paragraph.{Paragraph}
 use Rattle.styles.specs.declared.State.{State}
-use Rattle.styles.specs.declared.Reading.{Reading}
-use Rattle.styles.specs.declared.Reading.the-variants.{Plain, Paragraphs}
+use Rattle.readings.specs.declared.Reading.{Reading}
+use Rattle.readings.specs.declared.Reading.the-variants.{Plain, Paragraphs}
 use Rattle.styles.specs.declared.Change.{Change}
 use Rattle.styles.specs.declared.Change.the-variants.{To, Says, Refuses}
 use Rattle.styles.specs.Styles.{freshPainter, freshParagraph, fresh, painted, isFlag, isFitted, fitted, fitting, isAligned}

@@ -3,7 +3,7 @@
 use mathlib.Core.Path.{_≡_, sym, _∙_}
 use mathlib.Core.List.{List}
 use Prim.Native.Nat.{ℕ}
-use Rattle.styles.specs.declared.Reading.{Reading}
+use Rattle.readings.specs.declared.Reading.{Reading}
 use Rattle.parser.specs.declared.Answer.{Answer}
 use Rattle.parser.specs.Parsing.{Sizes}
 use Rattle.reader.proofs.Whole.{Reads}

@@ -22,7 +22,7 @@ use Rattle.rooms.specs.Rooms.{encode, capacity, filled, settled, content}
 use Rattle.rooms.proofs.Streams.{Each, answer-count, done-refused}
 use Rattle.tokens.specs.declared.Property.{Property}
 use Rattle.tokens.specs.declared.Property.the-variants.{None, Value}
-use Rattle.tokens.specs.Tokens.{Shown, Token, hasOf, valueOf, recordOf, recordWords, tokenLayout}
+use Rattle.tokens.specs.Tokens.{Shown, Token, hasOf, valueOf, recordOf, recordWords, tokenLayout, tokenWords}
 use Rattle.tokens.specs.Tokens
 use Rattle.tokenize.proofs.Places.{At, Stands}
 use Rattle.cutter.specs.Cutting.{tokenStream, cutAnswer, cutRoom}
@@ -70,21 +70,21 @@ length-items (stop r) = refl
 length-items (x ▸ s) = ap suc (length-items s)
 
 module _ (src : List ℕ) (total : ℕ) {o : Outcome} {n : ℕ} (e : o ≡ cutAnswer src total) (d : o ≡ Done n) where
-  pub cut-counts : (n ≡ count (tokenStream src)) × (n * 6 ≤ total)
+  pub cut-counts : (n ≡ count (tokenStream src)) × (n * tokenWords ≤ total)
   unfolding cutAnswer settled
   cut-counts = go (answer 0 (tokenStream src)) refl (sym d ∙ e)
     where
-      pick : (m : ℕ) → answer 0 (tokenStream src) ≡ Done m → (u : Bool) → leb m (capacity 6 total) ≡ u → Done n ≡ cond u (Done m) (Refused (refusal TokenRoom))
-          → (n ≡ count (tokenStream src)) × (n * 6 ≤ total)
+      pick : (m : ℕ) → answer 0 (tokenStream src) ≡ Done m → (u : Bool) → leb m (capacity tokenWords total) ≡ u → Done n ≡ cond u (Done m) (Refused (refusal TokenRoom))
+          → (n ≡ count (tokenStream src)) × (n * tokenWords ≤ total)
       pick m a true b q =
           let x : n ≡ m = cc in
           let y : m ≡ 0 + count (tokenStream src) = answer-count (tokenStream src) 0 m a in
-          let k : m ≤ capacity 6 total = leb-true m (capacity 6 total) b in
+          let k : m ≤ capacity tokenWords total = leb-true m (capacity tokenWords total) b in
           (omega arith, rw x (le-trans (mul-le-mul-right 6 k) (div-mul-le-self total 6)))
       pick m a false b q = absurd (done-refused q)
 
-      go : (a : Outcome) → answer 0 (tokenStream src) ≡ a → Done n ≡ settled tokenLayout (refusal TokenRoom) total a → (n ≡ count (tokenStream src)) × (n * 6 ≤ total)
-      go (Done m) a q = pick m a (leb m (capacity 6 total)) refl q
+      go : (a : Outcome) → answer 0 (tokenStream src) ≡ a → Done n ≡ settled tokenLayout (refusal TokenRoom) total a → (n ≡ count (tokenStream src)) × (n * tokenWords ≤ total)
+      go (Done m) a q = pick m a (leb m (capacity tokenWords total)) refl q
       go (Refused r) a q = absurd (done-refused q)
 
   pub cut-few : n ≤ 65536

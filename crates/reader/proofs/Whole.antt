@@ -16,7 +16,7 @@ use Rattle.rooms.specs.Rooms.{encode, filled}
 use Rattle.tokens.specs.Tokens.{Shown, tokenLayout}
 use Rattle.cutter.specs.Cutting.{tokenStream, cutAnswer, cutRoom}
 use Rattle.tokens.specs.Items.{shownAll}
-use Rattle.styles.specs.declared.Reading.{Reading}
+use Rattle.readings.specs.declared.Reading.{Reading}
 use Rattle.parser.specs.declared.Counts.{Counts}
 use Rattle.parser.specs.declared.Answer.{Answer}
 use Rattle.parser.specs.declared.Answer.the-variants.{Read, Refuses}

@@ -11,7 +11,7 @@ use Rattle.rooms.specs.Rooms.{encode, filled}
 use Rattle.tokens.specs.Tokens.{Shown, Token, tokenLayout}
 use Rattle.cutter.specs.Cutting.{tokenStream, cutAnswer}
 use Rattle.fonts.specs.Rows.{tableWords}
-use Rattle.styles.specs.declared.Reading.{Reading}
+use Rattle.readings.specs.declared.Reading.{Reading}
 use Rattle.blocks.specs.Pages.{blocks, textOf, records}
 use Rattle.parser.specs.declared.Counts.{Counts}
 use Rattle.parser.specs.declared.Answer.{Answer}

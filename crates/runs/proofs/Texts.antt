@@ -17,7 +17,7 @@ use Rattle.answers.specs.declared.Refusal.{Refusal}
 use Rattle.answers.specs.declared.Why.the-variants.{TextRoom}
 use Rattle.answers.specs.Answers.{refusal}
 use Rattle.tokens.specs.declared.Property.{Property}
-use Rattle.tokens.specs.Tokens.{valueOf}
+use Rattle.tokens.specs.Tokens.{valueOf, tokenWords}
 use Rattle.tokens.specs.Items.{numberAt}
 use Rattle.tokens.proofs.Items.{rest as restWords, words-less}
 use Rattle.utf8.specs.declared.Encoded.{Encoded}
@@ -89,14 +89,14 @@ within-kept h g e k = rw k (within h g e)
 
 -- what was told of a run, and what is left: the text of what is left, appended here, is the text of the whole, appended there
 pub record Telling (skip : ℕ) (s : List ℕ) (count : ℕ) (page : Page) (text₀ t : List ℕ) (n : ℕ) (run : Run) (p : Page) (text : List ℕ) : Type 0 where
-  pub words : n * 6 ≤ length t
+  pub words : n * tokenWords ≤ length t
   pub fit : Fit run
   pub room : p .text ≤ textCapacity (length text)
   pub long : length text ≡ length text₀
   pub still : (w : ℕ) → ReadyBlocks page w → ReadyBlocks p w
   pub left : (b : List ℕ) → appendOf p (utf8All (rest skip run (numbersOf n t))) b text ≡ appendOf page (runText skip (numbersOf count s)) b text₀
 
-pub tell-start : (skip : ℕ) (s : List ℕ) (count : ℕ) (page : Page) (text : List ℕ) {run : Run} → run ≡ before → count * 6 ≤ length s
+pub tell-start : (skip : ℕ) (s : List ℕ) (count : ℕ) (page : Page) (text : List ℕ) {run : Run} → run ≡ before → count * tokenWords ≤ length s
     → page .text ≤ textCapacity (length text) → Telling skip s count page text s count run page text
 tell-start skip s count page text e h g = record {
   words = h;

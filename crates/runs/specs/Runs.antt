@@ -16,10 +16,11 @@ use Rattle.styles.specs.declared.Style.{Style}
 use Rattle.blocks.specs.declared.Page.{Page}
 use Rattle.blocks.specs.declared.Laid.{Laid}
 use Rattle.blocks.specs.Laying.{Laying, on, told, appendOf, addOf, ReadyBlocks, Still}
+use Rattle.tokens.specs.WordNumbers as words
 
 -- whether a token is a `u` word: number 2 of the names
 abbrev pub isUnit : Shown → Bool
-isUnit (Shown.word w num) = eqb w 2
+isUnit (Shown.word w num) = eqb w words.unicode
 isUnit (Shown.text p bs) = false
 isUnit Shown.opening = false
 isUnit Shown.closing = false

@@ -10,7 +10,7 @@ use Rattle.bytes.specs.Texts.{bytesOf}
 use Rattle.tokens.specs.declared.Property.the-variants.{None, Value}
 use Rattle.tokens.specs.Tokens.{Shown}
 use Rattle.tokens.specs.Tokens
-use Rattle.fonts.specs.Rows.{Font, fontWords, tableWords, hasKey, inserted, stored}
+use Rattle.fonts.specs.Rows.{Font, fontRecord, tableWords, hasKey, inserted, stored}
 use Rattle.fonts.specs.Fonts.{named, fontWord, fontToken, fontsFrom, fonts}
 
 -- `\f` and a number, and `\f` alone
@@ -31,7 +31,7 @@ arial = refl
 
 -- its records
 arial-words : tableWords (font 0 0 [] ∷ font 1 14 (bytesOf "Arial") ∷ []) ≡ 0 ∷ 0 ∷ 0 ∷ 1 ∷ 14 ∷ 5 ∷ []
-unfolding tableWords fontWords font
+unfolding tableWords fontRecord font
 arial-words = refl
 
 -- `\f5 A;\f7}`: `A` is stored under 5, the key before `\f7`, and, as nothing is reset, under 7 at the bracket

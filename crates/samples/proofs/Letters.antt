@@ -20,11 +20,11 @@ use Rattle.cutter.specs.Cutting.{located, last, allSlices, trimmed, tokenStream
 use Rattle.utf8.specs.Utf8.{utf8, written}
 use Rattle.units.specs.Units.{unitOf, units, later, kept, decode, utf8All, runText}
 use Rattle.walk.specs.Walk.{aimFrom, extent, walkFrom}
-use Rattle.fonts.specs.Rows.{fontWords, tableWords, hasKey, inserted, stored}
+use Rattle.fonts.specs.Rows.{fontRecord, tableWords, hasKey, inserted, stored}
 use Rattle.fonts.specs.Fonts.{named as fontNamed, fontWord, fontToken, fontsFrom, fonts}
 use Rattle.colours.specs.Colours.{colourWordOf, colourToken, coloursFrom, colours}
 use Rattle.header.specs.Header.{tablesFrom}
-use Rattle.styles.specs.declared.Reading.the-variants.{Plain}
+use Rattle.readings.specs.declared.Reading.the-variants.{Plain}
 use Rattle.styles.specs.Styles.{flagged, fitted, alignment, spacing, measured, character, change, flagsNumber, styleOf}
 use Rattle.blocks.specs.Pages.{blocksFrom, blocks, textOf, records, roomy}
 use Rattle.body.specs.Body.{gather, asks, bodyFrom}
@@ -72,5 +72,5 @@ holds [] = true
 holds (s ∷ ss) = says s (letterOf Plain (bytesOf (s .letter)) room) && holds ss
 
 sample-letters : holds samples ≡ true
-unfolding holds says samples room letterOf shownBy bodied placed roomy bodyFrom asks gather blocks blocksFrom textOf records tableWords fontWords walkFrom extent aimFrom tablesFrom fonts fontsFrom fontToken fontWord stored inserted hasKey fontNamed colours coloursFrom colourToken colourWordOf tableLimit runText utf8All decode kept later units unitOf utf8 written change styleOf flagsNumber flagged fitted alignment spacing measured character cutAnswer tokenStream trimmed allSlices last located settled answer items each andThen split slices lead body any tokens escaped other word wordTail bareLength named numbered shownWord lineBreakAnd hexEscape hexValue plain mark wordNumber placeIn sameBytes hexDigit hexPair digitsFrom digits decimal recordOf
+unfolding holds says samples room letterOf shownBy bodied placed roomy bodyFrom asks gather blocks blocksFrom textOf records tableWords fontRecord walkFrom extent aimFrom tablesFrom fonts fontsFrom fontToken fontWord stored inserted hasKey fontNamed colours coloursFrom colourToken colourWordOf tableLimit runText utf8All decode kept later units unitOf utf8 written change styleOf flagsNumber flagged fitted alignment spacing measured character cutAnswer tokenStream trimmed allSlices last located settled answer items each andThen split slices lead body any tokens escaped other word wordTail bareLength named numbered shownWord lineBreakAnd hexEscape hexValue plain mark wordNumber placeIn sameBytes hexDigit hexPair digitsFrom digits decimal recordOf
 sample-letters = refl

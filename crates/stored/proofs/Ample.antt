@@ -20,7 +20,7 @@ use Rattle.rooms.specs.Rooms.{capacity}
 use Rattle.sevens.specs.declared.Numeral.{Numeral}
 use Rattle.sevens.specs.declared.Numeral.the-variants.{Is as Numbered, Bad as BadNumber, Short}
 use Rattle.sevens.specs.Sevens.{numberOf}
-use Rattle.blocks.specs.Pages.{Piece, Last, none, last, starts, roomy}
+use Rattle.blocks.specs.Pages.{Piece, Last, none, last, starts, roomy, blockWords}
 use Rattle.stored.specs.declared.entry.Entry.{Entry}
 use Rattle.stored.specs.declared.entry.Entry.the-variants.{Is, Bad}
 use Rattle.stored.specs.Entries.{entry}
@@ -77,13 +77,13 @@ roomy-blocks (x ▸ s) b c t l h k =
     fewer false n h = omega arith
 
 -- "rooms counted as ample"
-pub check-reads : (s : List ℕ) (b t : ℕ) → length s ≤ capacity 13 b → 2147483647 ≤ t
+pub check-reads : (s : List ℕ) (b t : ℕ) → length s ≤ capacity blockWords b → 2147483647 ≤ t
     → answerNumber (storedAnswer b t s) ≡ outcomeNumber (checked s)
 unfolding storedAnswer checked placed
 check-reads s b t h k =
     let c = count-stored s in
-    let e : roomy (capacity 13 b) 2147483647 none (stored s) ≡ roomy (length s) 2147483647 none (stored s) =
-    roomy-blocks (stored s) (capacity 13 b) (length s) 2147483647 none (omega (arith, c, h)) c in
+    let e : roomy (capacity blockWords b) 2147483647 none (stored s) ≡ roomy (length s) 2147483647 none (stored s) =
+    roomy-blocks (stored s) (capacity blockWords b) (length s) 2147483647 none (omega (arith, c, h)) c in
     rw (le-ltb t 2147483647 k, e) (go (answer 0 (roomy (length s) 2147483647 none (stored s))))
   where
     go : (o : Outcome) → answerNumber (answered (items (roomy (length s) 2147483647 none (stored s))) o) ≡ outcomeNumber o

@@ -17,7 +17,7 @@ use Rattle.sevens.specs.Sevens.{numberOf}
 use Rattle.blocks.specs.declared.Page.{Page}
 use Rattle.blocks.specs.declared.Laid.{Laid}
 use Rattle.blocks.specs.declared.Laid.the-variants.{On, Full}
-use Rattle.blocks.specs.Pages.{Piece, none, blocks}
+use Rattle.blocks.specs.Pages.{Piece, none, blocks, blockWords}
 use Rattle.blocks.specs.Laying.{Laying, on, off, told, blank, blockCount, lastPut, layAll}
 use Rattle.blocks.proofs.Settling.{lay-refuses, lay-joins, Joined, Filled, joined-filled}
 use Rattle.stored.specs.declared.Answer.{Answer}
@@ -60,7 +60,7 @@ module _ (s b t : List ℕ) (l : Laid) (b₁ t₁ : List ℕ) (h : told l b₁ t
     joined = lay-joins (stored s) b t (sym h ∙ ap (λ (m : Laid). told m b₁ t₁) e)
 
     pub list-laid : {n : ℕ} {b₂ b₃ t₂ : List ℕ} → b₂ ≡ lastPut p b₁ → n ≡ blockCount p
-        → b₃ ≡ take (n * 13) b₂ ++ replicate (length b₂ - n * 13) 0
+        → b₃ ≡ take (n * blockWords) b₂ ++ replicate (length b₂ - n * blockWords) 0
         → t₂ ≡ take (p .text) t₁ ++ replicate (length t₁ - p .text) 0 → Whole s b t (Read (record { blocks = n; text = p .text })) b₃ t₂
     unfolding storedAnswer storedBlocks storedText
     list-laid {n} {b₂} {b₃} {t₂} g q u v =

@@ -10,6 +10,7 @@ use answers::Outcome;
 use answers::Refusal;
 use answers::Why;
 use blocks::Page;
+use rooms::wide;
 use sevens::Numeral;
 use sevens::number_at;
 ghost use mathlib.Core.Path.{_≡_};
@@ -19,12 +20,6 @@ ghost use Rattle.rooms.specs.Streams.{answer};
 ghost use Rattle.blocks.specs.Pages.{none, roomy};
 ghost use Rattle.stored.specs.Stored.{blocksFrom};
 ghost use Rattle.stored.specs.Checks.{checked};
-
-fn wide(x: u32) -> usize
-    ensures { λ r. ⌜ r ≡ x ⌝ }
-{
-    x as usize
-}
 
 // Checks k blocks: how many there are, or the refusal.
 fn check_blocks(list: &[u8], k: usize) -> Outcome

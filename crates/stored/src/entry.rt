@@ -10,6 +10,7 @@ use answers::Why;
 use fields::follows;
 use fields::in_range;
 use fields::unfold;
+use rooms::wide;
 use sevens::Numeral;
 use sevens::number_at;
 use styles::Style;
@@ -89,12 +90,6 @@ fn ruled(t: &[u8], begun: bool, before: Style, s: Style, n: usize, m: usize) -> 
         return Entry::Is(s, m, n);
     }
     Entry::Bad(Refusal::of(Why::StoredField))
-}
-
-fn wide(x: u32) -> usize
-    ensures { λ r. ⌜ r ≡ x ⌝ }
-{
-    x as usize
 }
 
 // The block that a list starts with, where `begun` says whether a block came before, of the style `before`.

@@ -18,6 +18,7 @@ use blocks::add;
 use blocks::finish;
 use rooms::clear_bytes_from;
 use rooms::clear_from;
+use rooms::wide;
 use sevens::Numeral;
 use sevens::number_at;
 ghost use mathlib.Core.Path.{_≡_};
@@ -36,12 +37,6 @@ pub struct Counts {
 pub enum Answer {
     Read(Counts),
     Refuses(Refusal),
-}
-
-fn wide(x: u32) -> usize
-    ensures { λ r. ⌜ r ≡ x ⌝ }
-{
-    x as usize
 }
 
 // Lays k blocks onto a page. The last block's record is left to `blocks::finish`.

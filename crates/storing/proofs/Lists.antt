@@ -21,7 +21,7 @@ use Rattle.rooms.proofs.Rooms.{wrote-stop, wrote-then}
 use Rattle.sevens.specs.Sevens.{written, byteLayout, streamed}
 use Rattle.sevens.proofs.Sevens.{written-length}
 use Rattle.sevens.proofs.Streamed.{place-after}
-use Rattle.blocks.specs.Pages.{none}
+use Rattle.blocks.specs.Pages.{none, blockWords}
 use Rattle.storing.specs.Lists.{piecesFrom, bytesOf, whole, listStream}
 
 module _ (ws tx : List ℕ) where
@@ -32,22 +32,22 @@ module _ (ws tx : List ℕ) where
 
   pub list-is : whole ws ≡ true
       → listStream ws tx
-      ≡ andThen (streamed (written (length ws / 13))) (bytesOf (piecesFrom (length ws / 13) none 0 ws tx))
+      ≡ andThen (streamed (written (length ws / blockWords))) (bytesOf (piecesFrom (length ws / blockWords) none 0 ws tx))
   unfolding listStream
   list-is t = rw t
 
   pub list-wrote : not (whole ws) ≡ false → {start : ℕ} {r : Outcome} {room room′ room″ : List ℕ}
-      → Wrote byteLayout 0 room (streamed (written (length ws / 13))) (Done start) room′
-      → Wrote byteLayout start room′ (bytesOf (piecesFrom (length ws / 13) none 0 ws tx)) r room″
+      → Wrote byteLayout 0 room (streamed (written (length ws / blockWords))) (Done start) room′
+      → Wrote byteLayout start room′ (bytesOf (piecesFrom (length ws / blockWords) none 0 ws tx)) r room″
       → Wrote byteLayout 0 room (listStream ws tx) r room″
   list-wrote t w v =
-      wrote-then byteLayout (bytesOf (piecesFrom (length ws / 13) none 0 ws tx)) (list-is (not-false (whole ws) t)) w refl v
+      wrote-then byteLayout (bytesOf (piecesFrom (length ws / blockWords) none 0 ws tx)) (list-is (not-false (whole ws) t)) w refl v
 
 -- whole blocks are few enough for a stored number
-pub whole-few : (ws : List ℕ) → not (whole ws) ≡ false → length ws / 13 ≤ 4294967295
+pub whole-few : (ws : List ℕ) → not (whole ws) ≡ false → length ws / blockWords ≤ 4294967295
 whole-few ws t =
-    leb-true (length ws / 13) 4294967295
-    (and-right (eqb (length ws % 13) 0) (leb (length ws / 13) 4294967295) (not-false (whole ws) t))
+    leb-true (length ws / blockWords) 4294967295
+    (and-right (eqb (length ws % blockWords) 0) (leb (length ws / blockWords) 4294967295) (not-false (whole ws) t))
 
 -- the place behind the count
 pub number-place : (v : ℕ) {at : ℕ} {room room′ : List ℕ} → Wrote byteLayout 0 room (streamed (written v)) (Done at) room′

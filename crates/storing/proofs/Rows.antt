@@ -20,7 +20,7 @@ use Rattle.sevens.specs.Sevens.{byteLayout, streamed}
 use Rattle.sevens.proofs.Streamed.{place-after}
 use Rattle.styles.specs.declared.Style.{Style}
 use Rattle.fields.specs.Fields.{lastOf}
-use Rattle.blocks.specs.Pages.{Piece, piece, Last, none, last}
+use Rattle.blocks.specs.Pages.{Piece, piece, Last, none, last, blockWords}
 use Rattle.storing.specs.Fitting.{styleAt, lengthAt, fits}
 use Rattle.storing.proofs.Fitting.{Fit, fits-fit}
 use Rattle.storing.specs.Bytes.{blockBytes}
@@ -29,31 +29,31 @@ use Rattle.storing.specs.Lists.{piecesFrom, bytesOf}
 
 -- the bytes of the records that words are
 abbrev pub rowsOf : List ℕ → Last → ℕ → List ℕ → Stream ℕ
-rowsOf ws l p tx = bytesOf (piecesFrom (length ws / 13) l p ws tx)
+rowsOf ws l p tx = bytesOf (piecesFrom (length ws / blockWords) l p ws tx)
 
 module _ (l : Last) (p : ℕ) (tx ws : List ℕ) where
-  one-fewer : 13 ≤ length ws → length ws / 13 ≡ suc (length (drop 13 ws) / 13)
+  one-fewer : blockWords ≤ length ws → length ws / blockWords ≡ suc (length (drop blockWords ws) / blockWords)
   one-fewer h = simp length-drop (omega arith)
 
-  row-bad : 13 ≤ length ws → fits l p ws tx ≡ false → rowsOf ws l p tx ≡ stop (refusal StoredField)
+  row-bad : blockWords ≤ length ws → fits l p ws tx ≡ false → rowsOf ws l p tx ≡ stop (refusal StoredField)
   unfolding piecesFrom bytesOf
   row-bad h f = rw (one-fewer h, f)
 
-  row-good : 13 ≤ length ws → fits l p ws tx ≡ true
+  row-good : blockWords ≤ length ws → fits l p ws tx ≡ true
       → rowsOf ws l p tx
       ≡ andThen (streamed (blockBytes (piece (styleAt ws) (take (lengthAt ws) (drop p tx)))))
-      (rowsOf (drop 13 ws) (last (styleAt ws)) (p + lengthAt ws) tx)
+      (rowsOf (drop blockWords ws) (last (styleAt ws)) (p + lengthAt ws) tx)
   unfolding piecesFrom bytesOf
   row-good h f = rw (one-fewer h, f)
 
-  none-left : length ws < 13 → length ws / 13 ≡ 0
+  none-left : length ws < blockWords → length ws / blockWords ≡ 0
   none-left h = omega arith
 
-  rows-rest : length ws < 13 → (p ≡ length tx → ⊥) → rowsOf ws l p tx ≡ stop (refusal StoredField)
+  rows-rest : length ws < blockWords → (p ≡ length tx → ⊥) → rowsOf ws l p tx ≡ stop (refusal StoredField)
   unfolding piecesFrom bytesOf
   rows-rest h f = rw (none-left h, ne-eqb p (length tx) f)
 
-  rows-end : length ws < 13 → p ≡ length tx → rowsOf ws l p tx ≡ end
+  rows-end : length ws < blockWords → p ≡ length tx → rowsOf ws l p tx ≡ end
   unfolding piecesFrom bytesOf
   rows-end h e = rw (none-left h, eq-eqb p (length tx) e)
 
@@ -74,35 +74,35 @@ module _ {blocks tx : List ℕ} {n : ℕ} {room₀ room ws : List ℕ} {begun : 
       → Wrote byteLayout n room₀ (rowsOf blocks none 0 tx) r room
   stops e q = rw q (l .left (Refused (refusal StoredField)) room (wrote-stop byteLayout e refl))
 
-  pub rows-stop : 13 ≤ length ws → {a : Bool} {r : Outcome} → a ≡ fits (lastOf begun before) p ws tx → not a ≡ true
+  pub rows-stop : blockWords ≤ length ws → {a : Bool} {r : Outcome} → a ≡ fits (lastOf begun before) p ws tx → not a ≡ true
       → r ≡ Refused (refusal StoredField)
       → Wrote byteLayout n room₀ (rowsOf blocks none 0 tx) r room
   rows-stop h {a} e t q = stops (row-bad (lastOf begun before) p tx ws h (sym e ∙ not-true a t)) q
 
-  pub rows-over : length ws < 13 → p < length tx → {r : Outcome} → r ≡ Refused (refusal StoredField)
+  pub rows-over : length ws < blockWords → p < length tx → {r : Outcome} → r ≡ Refused (refusal StoredField)
       → Wrote byteLayout n room₀ (rowsOf blocks none 0 tx) r room
   rows-over h f q = stops (rows-rest (lastOf begun before) p tx ws h (λ e. omega arith)) q
 
-  pub rows-done : length ws < 13 → length tx ≤ p → Wrote byteLayout n room₀ (rowsOf blocks none 0 tx) (Done at) room
+  pub rows-done : length ws < blockWords → length tx ≤ p → Wrote byteLayout n room₀ (rowsOf blocks none 0 tx) (Done at) room
   rows-done h e =
       let q : p ≡ length tx = omega (arith, l .within) in
       l .left (Done at) room (wrote-none byteLayout (rows-end (lastOf begun before) p tx ws h q))
 
-  module _ (h : 13 ≤ length ws) {a : Bool} (e : a ≡ fits (lastOf begun before) p ws tx) (t : not a ≡ false) where
+  module _ (h : blockWords ≤ length ws) {a : Bool} (e : a ≡ fits (lastOf begun before) p ws tx) (t : not a ≡ false) where
     pub row-fit : Fit (lastOf begun before) p ws tx
     row-fit = fits-fit (lastOf begun before) p ws tx (sym e ∙ not-false a t)
 
     pub rows-more : {s : Style} {count : ℕ} → s ≡ styleAt ws → count ≡ lengthAt ws → {at′ : ℕ} {room′ : List ℕ}
         → Wrote byteLayout at room (streamed (blockBytes (piece s (take (p + count - p) (drop p tx))))) (Done at′) room′
-        → Rows blocks tx n room₀ room′ (take (length ws - 13) (drop 13 ws)) true s (p + count) at′
+        → Rows blocks tx n room₀ room′ (take (length ws - blockWords) (drop blockWords ws)) true s (p + count) at′
     rows-more {s} {count} es ec {at′} {room′} w =
         let k : p + count - p ≡ lengthAt ws = omega arith in
         let x : Piece = piece s (take (p + count - p) (drop p tx)) in
         let f = row-fit in
         let z : length (x .bytes) ≡ count = simp (length-take, length-drop) (omega (arith, f .within)) in
-        let d : take (length ws - 13) (drop 13 ws) ≡ drop 13 ws =
-        take-all (length ws - 13) (drop 13 ws) (simp length-drop (omega arith)) in
-        let next : Stream ℕ = rowsOf (take (length ws - 13) (drop 13 ws)) (last s) (p + count) tx in
+        let d : take (length ws - blockWords) (drop blockWords ws) ≡ drop blockWords ws =
+        take-all (length ws - blockWords) (drop blockWords ws) (simp length-drop (omega arith)) in
+        let next : Stream ℕ = rowsOf (take (length ws - blockWords) (drop blockWords ws)) (last s) (p + count) tx in
         let c : rowsOf ws (lastOf begun before) p tx ≡ andThen (streamed (blockBytes x)) next =
         row-good (lastOf begun before) p tx ws h (sym e ∙ not-false a t) ∙ rw (k, es, ec, d) in
         record {

@@ -10,7 +10,7 @@ use Rattle.answers.specs.declared.Why.the-variants.{StoredField}
 use Rattle.answers.specs.Answers.{refusal}
 use Rattle.rooms.specs.Streams.{Stream, end, stop, _▸_, andThen}
 use Rattle.sevens.specs.Sevens.{written, streamed}
-use Rattle.blocks.specs.Pages.{Piece, piece, Last, none, last}
+use Rattle.blocks.specs.Pages.{Piece, piece, Last, none, last, blockWords}
 use Rattle.storing.specs.Fitting.{styleAt, lengthAt, fits}
 use Rattle.storing.specs.Bytes.{blockBytes}
 
@@ -19,7 +19,7 @@ unfoldable pub piecesFrom : ℕ → Last → ℕ → List ℕ → List ℕ → S
 piecesFrom zero l p ws tx = cond (eqb p (length tx)) end (stop (refusal StoredField))
 piecesFrom (suc k) l p ws tx =
     cond (fits l p ws tx)
-    (piece (styleAt ws) (take (lengthAt ws) (drop p tx)) ▸ piecesFrom k (last (styleAt ws)) (p + lengthAt ws) (drop 13 ws) tx)
+    (piece (styleAt ws) (take (lengthAt ws) (drop p tx)) ▸ piecesFrom k (last (styleAt ws)) (p + lengthAt ws) (drop blockWords ws) tx)
     (stop (refusal StoredField))
 
 -- the bytes of blocks, one after the other
@@ -30,11 +30,11 @@ bytesOf (x ▸ s) = andThen (streamed (blockBytes x)) (bytesOf s)
 
 -- whether words are whole blocks, of a count that a stored number has
 abbrev pub whole : List ℕ → Bool
-whole ws = eqb (length ws % 13) 0 && leb (length ws / 13) 4294967295
+whole ws = eqb (length ws % blockWords) 0 && leb (length ws / blockWords) 4294967295
 
 -- the bytes of the list
 unfoldable pub listStream : List ℕ → List ℕ → Stream ℕ
 listStream ws tx =
     cond (whole ws)
-    (andThen (streamed (written (length ws / 13))) (bytesOf (piecesFrom (length ws / 13) none 0 ws tx)))
+    (andThen (streamed (written (length ws / blockWords))) (bytesOf (piecesFrom (length ws / blockWords) none 0 ws tx)))
     (stop (refusal StoredField))

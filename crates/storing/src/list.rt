@@ -12,6 +12,7 @@ use answers::Refusal;
 use answers::Why;
 use blocks::BLOCK_WORDS;
 use blocks::Page;
+use rooms::wide;
 use sevens::put_number;
 ghost use mathlib.Core.Path.{_≡_};
 ghost use Prim.Native.Nat.{_/_, _≤_};
@@ -19,14 +20,8 @@ ghost use lib.ListN.{length};
 ghost use Rattle.answers.specs.Answers.{refusal};
 ghost use Rattle.rooms.specs.Rooms.{Wrote};
 ghost use Rattle.sevens.specs.Sevens.{byteLayout};
-ghost use Rattle.blocks.specs.Pages.{none};
+ghost use Rattle.blocks.specs.Pages.{none, blockWords};
 ghost use Rattle.storing.specs.Lists.{piecesFrom, bytesOf, listStream};
-
-fn wide(x: u32) -> usize
-    ensures { λ r. ⌜ r ≡ x ⌝ }
-{
-    x as usize
-}
 
 // 24, for words or a text that cannot be stored.
 fn unfit() -> Outcome
@@ -39,7 +34,7 @@ fn unfit() -> Outcome
 fn put_blocks(blocks: &[u32], text: &[u8], room: &mut [u8], n: usize) -> Outcome
     requires { ⌜ n ≤ 5 ⌝ }
     ensures { λ r. ⌜ Wrote byteLayout n (now (room .entry))
-        (bytesOf (piecesFrom (length (now (blocks .entry)) / 13) none 0 (now (blocks .entry)) (now (text .entry))))
+        (bytesOf (piecesFrom (length (now (blocks .entry)) / blockWords) none 0 (now (blocks .entry)) (now (text .entry))))
         r (now (room .exit)) ⌝ }
 {
     let mut words = blocks;

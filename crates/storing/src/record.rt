@@ -6,6 +6,7 @@
 // Both are for `storing` alone, which sees to it that a whole record is there.
 use fields::follows;
 use fields::in_range;
+use rooms::wide;
 use styles::Style;
 use wellformed::is_utf8;
 ghost use mathlib.Core.Path.{_≡_};
@@ -13,16 +14,11 @@ ghost use Prim.Native.Nat.{_≤_};
 ghost use lib.ListN.{length};
 ghost use Rattle.fields.specs.Fields.{lastOf};
 ghost use Rattle.storing.specs.Fitting.{styleAt, fits as fitsOf};
-
-fn wide(x: u32) -> usize
-    ensures { λ r. ⌜ r ≡ x ⌝ }
-{
-    x as usize
-}
+ghost use Rattle.blocks.specs.Pages.{blockWords};
 
 // The style that a block's record says.
 pub fn style_at(words: &[u32]) -> Style
-    requires { ⌜ 13 ≤ length (now words) ⌝ }
+    requires { ⌜ blockWords ≤ length (now words) ⌝ }
     ensures { λ r. ⌜ r ≡ styleAt (now (words .entry)) ⌝ }
 {
     Style {
@@ -43,7 +39,7 @@ pub fn style_at(words: &[u32]) -> Style
 // Whether words start with the record of a block that may stand where p bytes of the text came before. `begun` says whether
 // there is a block before, of the style `before`.
 pub fn fits(begun: bool, before: Style, p: usize, words: &[u32], text: &[u8]) -> bool
-    requires { ⌜ (13 ≤ length (now words)) × (p ≤ length (now text)) ⌝ }
+    requires { ⌜ (blockWords ≤ length (now words)) × (p ≤ length (now text)) ⌝ }
     ensures { λ r. ⌜ r ≡ fitsOf (lastOf begun before) p (now (words .entry)) (now (text .entry)) ⌝ }
 {
     let s = style_at(words);

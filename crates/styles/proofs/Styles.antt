@@ -19,7 +19,7 @@ use Rattle.tokens.specs.Tokens.{valueOf}
 use Rattle.styles.specs.declared.Painter.{Painter}
 use Rattle.styles.specs.declared.Paragraph.{Paragraph}
 use Rattle.styles.specs.declared.State.{State}
-use Rattle.styles.specs.declared.Reading.{Reading}
+use Rattle.readings.specs.declared.Reading.{Reading}
 use Rattle.styles.specs.declared.Change.{Change}
 use Rattle.styles.specs.declared.Change.the-variants.{To, Says, Refuses}
 use Rattle.styles.specs.Styles.{freshPainter, freshParagraph, painted, ruled, skipping, isFlag, flagging, isFitted, fitting, isAligned, aligning, lined, spacing, measured, isCharacter, character, ending, change}

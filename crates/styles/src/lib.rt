@@ -8,7 +8,9 @@
 // Signed numbers stand in two's complement. Every function is total.
 use answers::Refusal;
 use answers::Why;
+use readings::Reading;
 use tokens::Property;
+use tokens::words;
 ghost use mathlib.Core.Path.{_≡_};
 ghost use Prim.Native.Nat.{_≤_, _<_};
 ghost use Rattle.styles.specs.Styles.{freshFlags, freshPainter, freshParagraph, fresh as freshState, isOn, flagged, flagging, fitted, fitting, alignment as alignmentOf, aligning, lined, spacing, measured, character as characterOf, ending as endingOf, change as changeOf, bit as bitOf, flagsNumber, styleOf, sameStyle};
@@ -61,12 +63,6 @@ pub struct Style {
     pub line: u32,
     pub multiplier: u32,
     pub tab: u32,
-}
-
-// Plain as the crate; in paragraph reading `par` adds a line feed.
-pub enum Reading {
-    Plain,
-    Paragraphs,
 }
 
 pub enum Change {
@@ -154,35 +150,35 @@ fn flag(f: Flags, w: u32, on: bool) -> Flags
     ensures { λ r. ⌜ r ≡ flagged f w on ⌝ }
 {
     let mut r = f;
-    if w == 12 {
+    if w == words::ITALIC {
         r.italic = on;
         return r;
     }
-    if w == 13 {
+    if w == words::BOLD {
         r.bold = on;
         return r;
     }
-    if w == 14 {
+    if w == words::UNDERLINE {
         r.underline = on;
         return r;
     }
-    if w == 15 {
+    if w == words::UNDERLINE_NONE {
         r.underline = false;
         return r;
     }
-    if w == 16 {
+    if w == words::SUPERSCRIPT {
         r.superscript = on;
         return r;
     }
-    if w == 17 {
+    if w == words::SUBSCRIPT {
         r.subscript = on;
         return r;
     }
-    if w == 18 {
+    if w == words::SMALLCAPS {
         r.smallcaps = on;
         return r;
     }
-    if w == 19 {
+    if w == words::STRIKETHROUGH {
         r.strike = on;
         return r;
     }
@@ -207,15 +203,15 @@ fn fit(p: Painter, w: u32, v: u32) -> Painter
     ensures { λ r. ⌜ r ≡ fitted p w v ⌝ }
 {
     let mut r = p;
-    if w == 9 {
+    if w == words::FONT_NUMBER {
         r.font = v;
         return r;
     }
-    if w == 10 {
+    if w == words::FONT_SIZE {
         r.size = v;
         return r;
     }
-    if w == 11 {
+    if w == words::COLOUR_NUMBER {
         r.colour = v;
         return r;
     }
@@ -240,13 +236,13 @@ fn fit_word(s: State, w: u32, v: u32) -> Change
 fn alignment(w: u32) -> u32
     ensures { λ r. ⌜ r ≡ alignmentOf w ⌝ }
 {
-    if w == 26 {
+    if w == words::LEFT_ALIGNED {
         return 0;
     }
-    if w == 27 {
+    if w == words::RIGHT_ALIGNED {
         return 1;
     }
-    if w == 28 {
+    if w == words::JUSTIFY {
         return 3;
     }
     2
@@ -292,19 +288,19 @@ fn measure(p: Paragraph, w: u32, v: u32) -> Paragraph
     ensures { λ r. ⌜ r ≡ measured p w v ⌝ }
 {
     let mut r = p;
-    if w == 25 {
+    if w == words::PAR_DEF_TAB {
         r.tab = v;
         return r;
     }
-    if w == 33 {
+    if w == words::SPACE_BEFORE {
         r.before = v;
         return r;
     }
-    if w == 34 {
+    if w == words::SPACE_AFTER {
         r.after = v;
         return r;
     }
-    if w == 36 {
+    if w == words::SPACE_LINE_MUL {
         r.multiplier = v;
         return r;
     }
@@ -316,28 +312,28 @@ fn character(w: u32) -> u32
     requires { ⌜ (40 ≤ w) × (w ≤ 48) ⌝ }
     ensures { λ r. ⌜ r ≡ characterOf w ⌝ }
 {
-    if w == 40 {
+    if w == words::EMDASH {
         return 0x2014;
     }
-    if w == 41 {
+    if w == words::ENDASH {
         return 0x2013;
     }
-    if w == 42 {
+    if w == words::BULLET {
         return 0x2022;
     }
-    if w == 43 {
+    if w == words::LEFT_SINGLE_QUOTE {
         return 0x2018;
     }
-    if w == 44 {
+    if w == words::RIGHT_SINGLE_QUOTE {
         return 0x2019;
     }
-    if w == 45 {
+    if w == words::LEFT_DOUBLE_QUOTE {
         return 0x201C;
     }
-    if w == 46 {
+    if w == words::RIGHT_DOUBLE_QUOTE {
         return 0x201D;
     }
-    if w == 47 {
+    if w == words::TAB {
         return 0x9;
     }
     0xA
@@ -356,37 +352,37 @@ fn ending(reading: Reading, s: State) -> Change
 pub fn apply_word(reading: Reading, s: State, w: u32, number: Property) -> Change
     ensures { λ r. ⌜ r ≡ changeOf reading s w number ⌝ }
 {
-    if (12 <= w) & (w <= 19) {
+    if (words::ITALIC <= w) & (w <= words::STRIKETHROUGH) {
         return Change::To(flag_word(s, w, number));
     }
     let v = number.value();
-    if (9 <= w) & (w <= 11) {
+    if (words::FONT_NUMBER <= w) & (w <= words::COLOUR_NUMBER) {
         return fit_word(s, w, v);
     }
-    if (40 <= w) & (w <= 48) {
+    if (words::EMDASH <= w) & (w <= words::LINE) {
         return Change::Says(character(w));
     }
-    if (26 <= w) & (w <= 29) {
+    if (words::LEFT_ALIGNED <= w) & (w <= words::CENTER) {
         return Change::To(align(s, w));
     }
-    if w == 35 {
+    if w == words::SPACE_BETWEEN_LINE {
         return space(s, v);
     }
     let mut r = s;
-    if w == 23 {
+    if w == words::PLAIN {
         let painter = Painter::fresh();
         r.painter = painter;
         return Change::To(r);
     }
-    if w == 21 {
+    if w == words::PARD {
         let paragraph = Paragraph::fresh();
         r.paragraph = paragraph;
         return Change::To(r);
     }
-    if w == 20 {
+    if w == words::PAR {
         return ending(reading, s);
     }
-    if w == 3 {
+    if w == words::UNICODE_IGNORE_COUNT {
         r.skip = v;
         return Change::To(r);
     }

@@ -18,6 +18,7 @@ use Rattle.tokens.specs.declared.Property.{Property}
 use Rattle.tokens.specs.declared.Property.the-variants.{None, Value}
 use Rattle.tokens.specs.Tokens.{Shown}
 use Rattle.tokens.specs.Tokens
+use Rattle.tokens.specs.WordNumbers as words
 
 -- "`{`, `}` or a raw line feed"
 abbrev pub isMark : ℕ → Bool
@@ -37,7 +38,7 @@ isEscape b = (eqb b 123 || eqb b 125) || eqb b 92
 
 -- "`\'`: word `u` with the byte's value; the rest as a plain tail"; 3 and 4 of the answer numbers
 unfoldable pub hexValue : Number → Stream Shown → Stream Shown
-hexValue (Is v) rest = Shown.word 2 (Value v) ▸ rest
+hexValue (Is v) rest = Shown.word words.unicode (Value v) ▸ rest
 hexValue Bad rest = stop (refusal HexBad)
 
 unfoldable pub hexEscape : ℕ → List ℕ → Stream Shown
@@ -51,7 +52,7 @@ lineBreakAnd p s = Shown.lineBreak ▸ plain (p + 2) s
 
 -- a word by its name: "49 is unknown", and shows "its backslash, without its number"
 unfoldable pub shownWord : ℕ → List ℕ → Property → Shown
-shownWord p name num = cond (ltb (wordNumber name) 49) (Shown.word (wordNumber name) num) (Shown.unknown p (92 ∷ name) num)
+shownWord p name num = cond (ltb (wordNumber name) words.unknown) (Shown.word (wordNumber name) num) (Shown.unknown p (92 ∷ name) num)
 
 -- "Digits and minus signs at its end are the number."; 5 of the answer numbers
 unfoldable pub numbered : ℕ → List ℕ → Number → Stream Shown

@@ -25,6 +25,7 @@ use numbers::hex_pair;
 use tokens::Property;
 use tokens::Record;
 use tokens::put;
+use tokens::words;
 ghost use mathlib.Core.Path.{_≡_};
 ghost use Prim.Native.Nat.{_+_, _≤_, _<_};
 ghost use lib.ListN.{length};
@@ -106,7 +107,7 @@ pub fn word_record(name: &[u8], property: Property, place: usize, names: &Table)
     ensures { λ r. ⌜ r ≡ recordOf (shownWord place (now (name .entry)) property) ⌝ }
 {
     let w = names::number_of(names, name);
-    if w < 49 {
+    if w < words::UNKNOWN {
         return Record::word(w, property);
     }
     let length = 1 + name.len();
@@ -169,7 +170,7 @@ fn hex_escape(s: &[u8], place: usize, room: &mut [u32], n: usize) -> Outcome
     match value {
         Number::Bad => Outcome::Refused(Refusal::of(Why::HexBad)),
         Number::Is(v) => {
-            put(room, n, Record::word(2, Property::Value(v)));
+            put(room, n, Record::word(words::UNICODE, Property::Value(v)));
             plain(&s[2..], place + 4, room, n + 1)
         }
     }

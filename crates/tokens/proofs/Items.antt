@@ -13,7 +13,7 @@ use borrow.Author.Tests.{ne-eqb}
 use lib.ListN.{length, getD, take, drop, length-drop, length-take}
 use lib.Seq.{drop-drop, take-all, getD-take}
 use Rattle.tokens.specs.declared.Property.{Property}
-use Rattle.tokens.specs.Tokens.{Shown}
+use Rattle.tokens.specs.Tokens.{Shown, tokenWords}
 use Rattle.tokens.specs.declared.item.Item.{Item}
 use Rattle.tokens.specs.declared.item.Item.the-variants.{Text, Opening, Closing, LineBreak, Ignorable}
 use Rattle.tokens.specs.Items.{propertyOf, wordItem, itemOf, itemAt, part, shownOf, shownAll}
@@ -74,7 +74,7 @@ module _ (l : List ℕ) {p from : ℕ} (f : from ≡ p) where
     part-whole = rw (rest-drop l from, f, g)
 
 -- the words of the tokens behind the first
-pub words-less : (n : ℕ) (ws : List ℕ) → n * 6 ≤ length ws → (n - 1) * 6 ≤ length (rest ws 6)
+pub words-less : (n : ℕ) (ws : List ℕ) → n * tokenWords ≤ length ws → (n - 1) * tokenWords ≤ length (rest ws tokenWords)
 words-less n ws h = simp (length-take, length-drop) (omega arith)
 
 -- what stands behind a place, of the words up to a later one
@@ -84,7 +84,7 @@ drop-take (suc a) m [] = let z : suc a + m ≡ suc (a + m) = omega arith in rw z
 drop-take (suc a) m (x ∷ l) = let z : suc a + m ≡ suc (a + m) = omega arith in rw z (drop-take a m l)
 
 -- a record, of the words up to a place behind it
-item-take : (m : ℕ) (ws : List ℕ) → 6 ≤ m → itemAt (take m ws) ≡ itemAt ws
+item-take : (m : ℕ) (ws : List ℕ) → tokenWords ≤ m → itemAt (take m ws) ≡ itemAt ws
 unfolding itemAt
 item-take m ws h =
     rw (
@@ -103,31 +103,31 @@ module _ (src : List ℕ) where
   shown-none (suc n) ws h = absurd (not-suc-le-zero h)
 
   -- the first token, and the rest
-  pub shown-some : (n : ℕ) (ws : List ℕ) → 0 < n → shownAll src n ws ≡ shownOf src (itemAt ws) ∷ shownAll src (n - 1) (rest ws 6)
+  pub shown-some : (n : ℕ) (ws : List ℕ) → 0 < n → shownAll src n ws ≡ shownOf src (itemAt ws) ∷ shownAll src (n - 1) (rest ws tokenWords)
   unfolding shownAll
   shown-some zero ws h = absurd (not-suc-le-zero h)
   shown-some (suc n) ws h = let q : suc n - 1 ≡ n = omega arith in rw (q, rest-drop)
 
-  drop-words : (k n : ℕ) (ws : List ℕ) → k ≤ n → drop k (shownAll src n ws) ≡ shownAll src (n - k) (drop (k * 6) ws)
+  drop-words : (k n : ℕ) (ws : List ℕ) → k ≤ n → drop k (shownAll src n ws) ≡ shownAll src (n - k) (drop (k * tokenWords) ws)
   unfolding shownAll
   drop-words zero n ws h = let q : n - 0 ≡ n = omega arith in rw q
   drop-words (suc k) zero ws h = absurd (not-suc-le-zero h)
   drop-words (suc k) (suc n) ws h =
       let q : suc n - suc k ≡ n - k = omega arith in
-      let x : 6 + k * 6 ≡ suc k * 6 = omega arith in
-      let e : drop (suc k * 6) ws ≡ drop (k * 6) (drop 6 ws) = sym (drop-drop (k * 6) 6 ws ∙ ap (λ (m : ℕ). drop m ws) x) in
-      rw (q, e) (drop-words k n (drop 6 ws) (omega arith))
+      let x : tokenWords + k * tokenWords ≡ suc k * tokenWords = omega arith in
+      let e : drop (suc k * tokenWords) ws ≡ drop (k * tokenWords) (drop tokenWords ws) = sym (drop-drop (k * tokenWords) tokenWords ws ∙ ap (λ (m : ℕ). drop m ws) x) in
+      rw (q, e) (drop-words k n (drop tokenWords ws) (omega arith))
 
   -- the tokens behind the first k
-  pub shown-drop : (k n : ℕ) (ws : List ℕ) → k ≤ n → drop k (shownAll src n ws) ≡ shownAll src (n - k) (rest ws (k * 6))
+  pub shown-drop : (k n : ℕ) (ws : List ℕ) → k ≤ n → drop k (shownAll src n ws) ≡ shownAll src (n - k) (rest ws (k * tokenWords))
   shown-drop k n ws h = rw rest-drop (drop-words k n ws h)
 
   -- the first k tokens
-  pub shown-take : (k n : ℕ) (ws : List ℕ) → k ≤ n → take k (shownAll src n ws) ≡ shownAll src k (take (k * 6) ws)
+  pub shown-take : (k n : ℕ) (ws : List ℕ) → k ≤ n → take k (shownAll src n ws) ≡ shownAll src k (take (k * tokenWords) ws)
   unfolding shownAll
   shown-take zero n ws h = refl
   shown-take (suc k) zero ws h = absurd (not-suc-le-zero h)
   shown-take (suc k) (suc n) ws h =
-      let x : suc k * 6 ≡ 6 + k * 6 = omega arith in
-      rw (x, item-take (6 + k * 6) ws (omega arith), drop-take 6 (k * 6) ws)
-      (ap (λ (ts : List Shown). shownOf src (itemAt ws) ∷ ts) (shown-take k n (drop 6 ws) (omega arith)))
+      let x : suc k * tokenWords ≡ tokenWords + k * tokenWords = omega arith in
+      rw (x, item-take (tokenWords + k * tokenWords) ws (omega arith), drop-take tokenWords (k * tokenWords) ws)
+      (ap (λ (ts : List Shown). shownOf src (itemAt ws) ∷ ts) (shown-take k n (drop tokenWords ws) (omega arith)))

@@ -26,9 +26,9 @@ module _ (room : List ℕ) (n : ℕ) (t : Record) where
   six a = simp towards-suc
 
   pub put-six : n < capacity tokenWords (length room)
-      → set (set (set (set (set (set room (n * 6) (t .kind)) (n * 6 + 1) (t .word)) (n * 6 + 2) (t .has)) (n * 6 + 3) (t .number)) (n * 6 + 4) (t .place)) (n * 6 + 5) (t .length)
+      → set (set (set (set (set (set room (n * tokenWords) (t .kind)) (n * tokenWords + 1) (t .word)) (n * tokenWords + 2) (t .has)) (n * tokenWords + 3) (t .number)) (n * tokenWords + 4) (t .place)) (n * tokenWords + 5) (t .length)
       ≡ put tokenWords room n (recordWords t)
-  put-six h = six (n * 6) ∙ put-in tokenWords room n (recordWords t) h
+  put-six h = six (n * tokenWords) ∙ put-in tokenWords room n (recordWords t) h
 
 -- a record is as wide as its layout says
 pub token-sized : (t : Token) → length (tokenLayout .words t) ≡ tokenLayout .width

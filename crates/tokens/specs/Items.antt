@@ -11,6 +11,7 @@ use Rattle.tokens.specs.Tokens.{Shown, tokenWords}
 use Rattle.tokens.specs.Tokens
 use Rattle.tokens.specs.declared.item.Item.{Item}
 use Rattle.tokens.specs.declared.item.Item.the-variants.{Text, Opening, Closing, LineBreak, Ignorable, Word, Unknown}
+use Rattle.tokens.specs.WordNumbers as words
 
 -- "1 if a number is present, that number"
 abbrev pub propertyOf : ℕ → ℕ → Property
@@ -21,7 +22,7 @@ numberAt ws = propertyOf (getD ws 2 0) (getD ws 3 0)
 
 -- a word by its number: "49 is unknown"
 abbrev pub wordItem : ℕ → Property → ℕ → ℕ → Item
-wordItem w num p n = cond (eqb w 49) (Unknown p n num) (Word w num)
+wordItem w num p n = cond (eqb w words.unknown) (Unknown p n num) (Word w num)
 
 -- "kind (0 text, 1 open, 2 close, 3 line break, 4 ignorable, 5 word)"
 unfoldable pub itemOf : ℕ → ℕ → ℕ → ℕ → ℕ → ℕ → Item

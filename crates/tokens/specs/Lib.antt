@@ -1,3 +1,4 @@
--- Items: a token record read back.
-pub mod Items
+-- Tokens: what a token shows, and its record. WordNumbers: words by name. Items: a token's record, read back.
 pub mod Tokens
+pub mod WordNumbers
+pub mod Items

@@ -5,10 +5,12 @@
 //   number_at  its number, if it is a word
 //   part       the bytes of the source that an item points at
 use crate::Property;
+use crate::words;
+use rooms::wide;
 ghost use mathlib.Core.Path.{_≡_};
 ghost use Prim.Native.Nat.{_≤_, _<_};
 ghost use lib.ListN.{length};
-ghost use Rattle.tokens.specs.Tokens.{valueOf};
+ghost use Rattle.tokens.specs.Tokens.{valueOf, tokenWords};
 ghost use Rattle.tokens.specs.Items.{propertyOf, numberAt, wordItem, itemAt, part as partOf};
 
 pub enum Item {
@@ -33,7 +35,7 @@ fn property(has: u32, number: u32) -> Property
 fn word_item(w: u32, number: Property, place: u32, length: u32) -> Item
     ensures { λ r. ⌜ r ≡ wordItem w number place length ⌝ }
 {
-    if w == 49 {
+    if w == words::UNKNOWN {
         return Item::Unknown(place, length, number);
     }
     Item::Word(w, number)
@@ -41,7 +43,7 @@ fn word_item(w: u32, number: Property, place: u32, length: u32) -> Item
 
 // The number of the first token of a slice of words.
 pub fn number_at(t: &[u32]) -> Property
-    requires { ⌜ 6 ≤ length (now t) ⌝ }
+    requires { ⌜ tokenWords ≤ length (now t) ⌝ }
     ensures { λ r. ⌜ (r ≡ numberAt (now (t .entry))) × (valueOf r < 4294967296) ⌝ }
 {
     let has = t[2];
@@ -51,7 +53,7 @@ pub fn number_at(t: &[u32]) -> Property
 
 // The first token of a slice of words.
 pub fn item_at(t: &[u32]) -> Item
-    requires { ⌜ 6 ≤ length (now t) ⌝ }
+    requires { ⌜ tokenWords ≤ length (now t) ⌝ }
     ensures { λ r. ⌜ r ≡ itemAt (now (t .entry)) ⌝ }
 {
     let kind = t[0];
@@ -74,12 +76,6 @@ pub fn item_at(t: &[u32]) -> Item
         return word_item(t[1], number, place, count);
     }
     Item::Text(place, count)
-}
-
-fn wide(x: u32) -> usize
-    ensures { λ r. ⌜ r ≡ x ⌝ }
-{
-    x as usize
 }
 
 // The bytes of a source from a place on, as far as there are any.

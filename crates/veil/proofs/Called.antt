@@ -15,8 +15,8 @@ use Rattle.answers.specs.Answers.{Found, found, refused}
 use Rattle.rooms.specs.Rooms.{filled}
 use Rattle.rooms.specs.Streams.{items}
 use Rattle.cutter.specs.Cutting.{tokenStream, cutAnswer}
-use Rattle.fonts.specs.Rows.{Font, fontWords, tableWords}
-use Rattle.styles.specs.declared.Reading.{Reading}
+use Rattle.fonts.specs.Rows.{Font, fontRecord, tableWords}
+use Rattle.readings.specs.declared.Reading.{Reading}
 use Rattle.blocks.specs.Pages.{Piece, blocks, textOf, records}
 use Rattle.parser.specs.declared.Counts.{Counts}
 use Rattle.parser.specs.declared.Answer.{Answer}
@@ -36,7 +36,7 @@ use Rattle.veil.proofs.Hidden.{said-own, hidden-stays-hidden}
 -- ---- a font table in its room
 
 fonts-at : (src : List ℕ) (fs : List Font) (ws : List ℕ) → fontsAt src (length fs) (tableWords fs ++ ws) ≡ namesIn src fs
-unfolding fontsAt namesIn tableWords fontWords
+unfolding fontsAt namesIn tableWords fontRecord
 fonts-at src [] ws = refl
 fonts-at src (f ∷ fs) ws = ap (λ (l : List Named). nameIn src f ∷ l) (fonts-at src fs ws)
 
@@ -50,12 +50,12 @@ pairs [] = []
 pairs (x ∷ xs) = x .key ∷ length (x .name) ∷ pairs xs
 
 length-table : (fs : List Font) → length (tableWords fs) ≡ words (ownNames fs)
-unfolding words ownNames tableWords fontWords
+unfolding words ownNames tableWords fontRecord
 length-table [] = refl
 length-table (f ∷ fs) = rw (length-table fs)
 
 table-unplaced : (fs : List Font) (ws : List ℕ) → unplaced (tableWords fs ++ ws) ≡ pairs (ownNames fs) ++ unplaced ws
-unfolding unplaced pairs ownNames tableWords fontWords
+unfolding unplaced pairs ownNames tableWords fontRecord
 table-unplaced [] ws = refl
 table-unplaced (f ∷ fs) ws = ap (λ (l : List ℕ). f .key ∷ length (f .name) ∷ l) (table-unplaced fs ws)
 

@@ -17,7 +17,7 @@ use Rattle.rooms.proofs.Streams.{done-refused}
 use Rattle.tokens.specs.Tokens.{Shown, tokenLayout}
 use Rattle.cutter.specs.Cutting.{tokenStream, cutAnswer}
 use Rattle.walk.specs.Walk.{Step, walk}
-use Rattle.styles.specs.declared.Reading.{Reading}
+use Rattle.readings.specs.declared.Reading.{Reading}
 use Rattle.parser.specs.Parsing.{Sizes}
 use Rattle.reader.specs.Reading.{shownBy, cut, letterOf}
 use Rattle.veil.specs.Veil.{veil, Alike}

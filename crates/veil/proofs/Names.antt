@@ -27,17 +27,17 @@ use Rattle.tokenize.proofs.Places.{Stands}
 use Rattle.cutter.specs.Cutting.{tokenStream}
 use Rattle.cutter.proofs.Places.{Placed, stream-places}
 use Rattle.tokens.specs.Items.{part}
-use Rattle.fonts.specs.Rows.{Font, Fonts, noFonts, inserted, hasKey, stored}
+use Rattle.fonts.specs.Rows.{Font, Fonts, noFonts, inserted, hasKey, stored, fontWords}
 use Rattle.fonts.specs.Fonts.{named, rekeyed, fontWord, fontToken, nextFont}
 use Rattle.fonts.specs.Rows.{tableOf}
 use Rattle.fonts.specs.Fonts.{fontsFrom, fonts}
-use Rattle.colours.specs.Colours.{colours}
+use Rattle.colours.specs.Colours.{colours, colourWords}
 use Rattle.walk.specs.declared.Aim.{Aim}
 use Rattle.walk.specs.declared.Aim.the-variants.{Nothing, Hide, Fonts as ReadFonts, Colours as ReadColours}
 use Rattle.walk.specs.Walk.{aim, extent, Step, kept, hidden, fontTable, colourTable, entered, stepOf, passedBy, walkFrom, walk}
 use Rattle.header.specs.Entering.{Tables, withFonts, withColours, readStep}
 use Rattle.header.specs.Header.{noTables, nextStep, tablesFrom, tables}
-use Rattle.styles.specs.declared.Reading.{Reading}
+use Rattle.readings.specs.declared.Reading.{Reading}
 use Rattle.blocks.specs.Pages.{Piece}
 use Rattle.parser.specs.Parsing.{Letter, ended}
 use Rattle.reader.specs.Reading.{shownBy}
@@ -267,7 +267,7 @@ module _ (src : List ℕ) where
 
     stepped-at : (ss : List Step) → StepsAt ss → LetterAt (stepped rd f c b t ss)
     stepped-at ss e =
-        finished-at ss (tables (tableLimit 3 f) (tableLimit 1 c) ss) (tables-at (tableLimit 3 f) (tableLimit 1 c) ss e)
+        finished-at ss (tables (tableLimit fontWords f) (tableLimit colourWords c) ss) (tables-at (tableLimit fontWords f) (tableLimit colourWords c) ss e)
 
     first-at : (ss : List Step) → StepsAt ss → LetterAt (first rd f c b t ss)
     first-at [] e = tt

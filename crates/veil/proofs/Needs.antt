@@ -24,7 +24,7 @@ use Rattle.fonts.specs.Rows.{hasKey, inserted, stored}
 use Rattle.fonts.specs.Fonts.{named as fontNamed, fontWord, fontToken, fontsFrom, fonts}
 use Rattle.colours.specs.Colours.{colourWordOf, colourToken, coloursFrom, colours}
 use Rattle.header.specs.Header.{tablesFrom}
-use Rattle.styles.specs.declared.Reading.the-variants.{Plain}
+use Rattle.readings.specs.declared.Reading.the-variants.{Plain}
 use Rattle.styles.specs.Styles.{flagged, fitted, alignment, spacing, measured, character, change, flagsNumber, styleOf}
 use Rattle.blocks.specs.Pages.{blocksFrom, blocks, textOf, roomy}
 use Rattle.body.specs.Body.{gather, asks, bodyFrom}

@@ -16,7 +16,7 @@ use Rattle.tokenize.specs.Tokenize.{mark, plain, hexValue, hexEscape, lineBreak
 use Rattle.tokenize.specs.Tokenize.{wordTail, word, other as otherBytes, escaped, tokens}
 use Rattle.cutter.specs.Cutting.{located, last, allSlices, trimmed, tokenStream, cutAnswer}
 use Rattle.walk.specs.Walk.{aimFrom}
-use Rattle.styles.specs.declared.Reading.{Reading}
+use Rattle.readings.specs.declared.Reading.{Reading}
 use Rattle.parser.specs.Parsing.{Sizes}
 use Rattle.veil.specs.Veil.{part, parts, pieces, join, shown, mask, veil, behind, own, endsBare, Ignored, Alike, same}
 use Rattle.veil.specs.Veil.{other}

@@ -16,6 +16,7 @@ use Rattle.blocks.proofs.Page.count.Reads as count-reads
 use Rattle.blocks.proofs.finish.Reads as finish-reads
 use Rattle.rooms.proofs.clear_bytes_from.Reads as clear-bytes-from-reads
 use Rattle.rooms.proofs.clear_from.Reads as clear-from-reads
+use Rattle.blocks.specs.Pages.{blockWords}
 
 lay-body-requires : tie.Need-lay-body-requires
 lay-body-requires c κs = search needs
@@ -33,7 +34,7 @@ count-requires : tie.Need-count-requires
 count-requires c κs = blocks-small (length (c .before .before .before .before .before .before .before .before .before .before .before .before .before .before .before .before .before .before .args .blocks .now)) _ (still-on _ _ (c .before .before .before .before .before .before .before .before .before .before .before .lay-body .ensures .1) (c .before .before .before .before .before .laid2 .given .1)) (let a = c .before .before .before .before .before .before .before .before .before .before .before .before .before .before .before .before .before .before .fits in let b = c .before .before .before .before .before .before .before .before .before .before .before .before .before .before .before .before .before .before .good in omega arith)
 
 mul-clear-from : tie.Need-mul-clear-from
-mul-clear-from c = let a = c .before .before .before .before .before .before .before .before .before .before .before .before .before .before .before .before .before .before .before .before .fits in let b = c .before .before .before .before .before .before .before .before .before .before .before .before .before .before .before .before .before .before .before .before .good in let h : c .before .count .result * 13 ≤ length (c .before .before .before .before .before .before .before .before .before .before .before .before .before .before .before .before .before .before .before .before .args .blocks .now) = count-words _ _ (still-on _ _ (c .before .before .before .before .before .before .before .before .before .before .before .before .before .lay-body .ensures .1) (c .before .before .before .before .before .before .before .laid2 .given .1)) (c .before .count .ensures) in omega arith
+mul-clear-from c = let a = c .before .before .before .before .before .before .before .before .before .before .before .before .before .before .before .before .before .before .before .before .fits in let b = c .before .before .before .before .before .before .before .before .before .before .before .before .before .before .before .before .before .before .before .before .good in let h : c .before .count .result * blockWords ≤ length (c .before .before .before .before .before .before .before .before .before .before .before .before .before .before .before .before .before .before .before .before .args .blocks .now) = count-words _ _ (still-on _ _ (c .before .before .before .before .before .before .before .before .before .before .before .before .before .lay-body .ensures .1) (c .before .before .before .before .before .before .before .laid2 .given .1)) (c .before .count .ensures) in omega arith
 
 clear-from-requires : tie.Need-clear-from-requires
 clear-from-requires c κs = search needs

@@ -8,6 +8,7 @@ use Rattle.blocks.proofs.Settling.{blocks-small, count-words}
 use Rattle.stored.proofs.Whole.{list-full, list-laid}
 use Rattle.stored.proofs.read_list.Statement.{statement}
 use Rattle.stored.proofs.read_list.Tie as tie
+use Rattle.blocks.specs.Pages.{blockWords}
 
 lay-list-requires : tie.Need-lay-list-requires
 lay-list-requires c κs = search needs
@@ -41,7 +42,7 @@ mul-clear-from c =
     let at-lay-list = at-laid2 .before .before .before .before .before .before in
     let start = at-lay-list .before .before .before .before .before .before in
     let b = start .good in
-    let h : c .before .count .result * 13 ≤ length (start .args .blocks .now) = count-words _
+    let h : c .before .count .result * blockWords ≤ length (start .args .blocks .now) = count-words _
     (length (start .args .text .now)) (rw (at-laid2 .laid2 .given .1) at (at-lay-list .lay-list .ensures .1))
     (c .before .count .ensures) in
     omega arith

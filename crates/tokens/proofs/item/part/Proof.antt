@@ -7,7 +7,6 @@ use Rattle.tokens.proofs.item.part.Statement.{statement}
 use Rattle.tokens.proofs.item.part.Tie as tie
 use Rattle.tokens.proofs.item.part.Reads as reads
 use Rattle.tokens.proofs.item.part.Lts as lts
-use Rattle.tokens.proofs.item.wide.Reads as wide-reads
 
 wide-requires : tie.Need-wide-requires
 wide-requires c κs = search needs
