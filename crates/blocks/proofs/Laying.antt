@@ -35,11 +35,11 @@ pub lay-stop : (p : Page) (b t : List ℕ) (r : Refusal) → layAll (on p b t) (
 unfolding layAll
 lay-stop p b t r = refl
 
-pub lay-more : (l : Laying) (x : Piece) (s : Stream Piece) → layAll l (x ▸ s) ≡ layAll (laidOn l x) s
+pub lay-more : (l : Laying) (x : Piece) (s : Stream Refusal Piece) → layAll l (x ▸ s) ≡ layAll (laidOn l x) s
 unfolding layAll
 lay-more l x s = refl
 
-pub lay-off : (r : Refusal) (s : Stream Piece) → layAll (off r) s ≡ off r
+pub lay-off : (r : Refusal) (s : Stream Refusal Piece) → layAll (off r) s ≡ off r
 unfolding layAll
 lay-off r end = refl
 lay-off r (stop q) = refl

@@ -21,7 +21,7 @@ use Rattle.answers.specs.declared.Refusal.{Refusal}
 use Rattle.answers.specs.declared.Outcome.the-variants.{Done, Refused}
 use Rattle.answers.specs.declared.Why.the-variants.{BlockRoom, TextRoom}
 use Rattle.answers.specs.Answers.{refusal}
-use Rattle.rooms.specs.Streams.{Stream, end, stop, _▸_, count, items, answer}
+use Rattle.rooms.specs.Streams.{Stream, end, stop, _▸_, count, items, answer, ended}
 use Rattle.rooms.specs.Rooms.{capacity, put, filled}
 use Rattle.rooms.proofs.Rooms.{put-in, length-put}
 use Rattle.rooms.proofs.Clearing.{filled-front}
@@ -118,7 +118,7 @@ going-first b t c l h =
     }
 
 -- the next piece, by whether it starts a block and finds room
-module _ (B C : ℕ) (st : Style) (x : Piece) (s : Stream Piece) where
+module _ (B C : ℕ) (st : Style) (x : Piece) (s : Stream Refusal Piece) where
   module _ (e : sameStyle st (x .style) ≡ true) where
     roomy-over : C < length (x .bytes) → roomy B C (last st) (x ▸ s) ≡ stop (refusal TextRoom)
     unfolding roomy
@@ -143,7 +143,7 @@ module _ (B C : ℕ) (st : Style) (x : Piece) (s : Stream Piece) where
     unfolding roomy
     roomy-new z h = rw (e, ne-eqb B 0 z, le-ltb C (length (x .bytes)) h)
 
-module _ (B C : ℕ) (x : Piece) (s : Stream Piece) where
+module _ (B C : ℕ) (x : Piece) (s : Stream Refusal Piece) where
   first-full : B ≡ 0 → roomy B C none (x ▸ s) ≡ stop (refusal BlockRoom)
   unfolding roomy
   first-full z = rw (eq-eqb B 0 z)
@@ -183,18 +183,18 @@ record Settled (w v k : ℕ) (W T : List ℕ) (place : ℕ) (bs : List Piece) (u
   fits : blockCount p ≤ capacity blockWords w
   room : p .text ≤ textCapacity v
 
-abbrev Meets : ℕ → ℕ → ℕ → List ℕ → List ℕ → ℕ → (List Piece → List Piece) → Stream Piece → Laying → Type 0
+abbrev Meets : ℕ → ℕ → ℕ → List ℕ → List ℕ → ℕ → (List Piece → List Piece) → Stream Refusal Piece → Laying → Type 0
 Meets w v k W T place join q (on p b t) =
     Settled w v k W T place (join (items q)) (textOf (items q)) p b t × ((m : ℕ) → answer m q ≡ Done (m + count q))
 Meets w v k W T place join q (off r) = (m : ℕ) → answer m q ≡ Refused r
 
-more-done : (q : Stream Piece) (m n : ℕ) → answer (m + 1) q ≡ Done (m + 1 + n) → answer (m + 1) q ≡ Done (m + suc n)
+more-done : (q : Stream Refusal Piece) (m n : ℕ) → answer (m + 1) q ≡ Done (m + 1 + n) → answer (m + 1) q ≡ Done (m + suc n)
 more-done q m n e = let z : m + 1 + n ≡ m + suc n = omega arith in e ∙ rw z
 
-module _ (w v k place : ℕ) (W : List ℕ) (x : Piece) (q : Stream Piece) where
+module _ (w v k place : ℕ) (W : List ℕ) (x : Piece) (q : Stream Refusal Piece) where
   meets-same : (st : Style) (P D : List ℕ) → sameStyle st (x .style) ≡ true → (l : Laying)
       → Meets w v k W (P ++ (D ++ x .bytes)) place (blocksFrom st (D ++ x .bytes)) q l → Meets w v k W (P ++ D) place (blocksFrom st D) (x ▸ q) l
-  unfolding items answer count blocksFrom textOf
+  unfolding items ended count blocksFrom textOf
   meets-same st P D e (on p b t) h =
       let s = h .0 in (
         rw e (record {
@@ -214,7 +214,7 @@ module _ (w v k place : ℕ) (W : List ℕ) (x : Piece) (q : Stream Piece) where
   meets-new : (st : Style) (T D : List ℕ) (n : ℕ) → sameStyle st (x .style) ≡ false → place + length D ≡ n → (l : Laying)
       → Meets w v (k + 1) (W ++ blockRecord st place (length D)) (T ++ x .bytes) n (blocksFrom (x .style) (x .bytes)) q l
       → Meets w v k W T place (blocksFrom st D) (x ▸ q) l
-  unfolding items answer count blocksFrom textOf records
+  unfolding items ended count blocksFrom textOf records
   meets-new st T D n e z (on p b t) h =
       let s = h .0 in (
         rw e (record {
@@ -232,7 +232,7 @@ module _ (w v k place : ℕ) (W : List ℕ) (x : Piece) (q : Stream Piece) where
   meets-new st T D n e z (off r) h = λ m. h (m + 1)
 
   meets-first : (l : Laying) → Meets w v k W (x .bytes) place (blocksFrom (x .style) (x .bytes)) q l → Meets w v k W [] place blocks (x ▸ q) l
-  unfolding items answer count blocks textOf
+  unfolding items ended count blocks textOf
   meets-first (on p b t) h =
       let s = h .0 in (
         record {
@@ -249,18 +249,18 @@ module _ (w v k place : ℕ) (W : List ℕ) (x : Piece) (q : Stream Piece) where
       )
   meets-first (off r) h = λ m. h (m + 1)
 
-meets-stop : (w v k place : ℕ) (W T : List ℕ) (join : List Piece → List Piece) (r : Refusal) (s : Stream Piece)
+meets-stop : (w v k place : ℕ) (W T : List ℕ) (join : List Piece → List Piece) (r : Refusal) (s : Stream Refusal Piece)
     → Meets w v k W T place join (stop r) (layAll (off r) s)
-unfolding answer
+unfolding ended
 meets-stop w v k place W T join r s = rw (lay-off r s) (λ m. refl)
 
-abbrev Settles : ℕ → ℕ → Stream Piece → Type 0
+abbrev Settles : ℕ → ℕ → Stream Refusal Piece → Type 0
 Settles w v s =
     (B C k n f : ℕ) (st : Style) (W P D b t : List ℕ) → Going w v B C k n f W P D b t
     → Meets w v k W (P ++ D) f (blocksFrom st D) (roomy B C (last st) s) (layAll (on (page k n st f) b t) s)
 
 settle-end : (w v : ℕ) → Settles w v end
-unfolding layAll roomy items answer count blocksFrom textOf records
+unfolding layAll roomy items ended count blocksFrom textOf records
 settle-end w v B C k n f st W P D b t g = (
   record {
     counted = refl;
@@ -276,10 +276,10 @@ settle-end w v B C k n f st W P D b t g = (
 )
 
 settle-stop : (w v : ℕ) (r : Refusal) → Settles w v (stop r)
-unfolding layAll roomy answer
+unfolding layAll roomy ended
 settle-stop w v r B C k n f st W P D b t g = λ m. refl
 
-module _ (w v : ℕ) (x : Piece) (s : Stream Piece) (ih : Settles w v s) (B C k n f : ℕ) (st : Style) (W P D b t : List ℕ)
+module _ (w v : ℕ) (x : Piece) (s : Stream Refusal Piece) (ih : Settles w v s) (B C k n f : ℕ) (st : Style) (W P D b t : List ℕ)
     (g : Going w v B C k n f W P D b t) where
   abbrev Goal : Type 0
   Goal = Meets w v k W (P ++ D) f (blocksFrom st D) (roomy B C (last st) (x ▸ s)) (layAll (on (page k n st f) b t) (x ▸ s))
@@ -343,18 +343,18 @@ module _ (w v : ℕ) (x : Piece) (s : Stream Piece) (ih : Settles w v s) (B C k 
       at false e false i true h = step-new-over e (eqb-false B 0 i) (ltb-true C (length (x .bytes)) h)
       at false e false i false h = step-new e (eqb-false B 0 i) (ltb-false C (length (x .bytes)) h)
 
-settle : (w v : ℕ) (s : Stream Piece) → Settles w v s
+settle : (w v : ℕ) (s : Stream Refusal Piece) → Settles w v s
 settle w v end = settle-end w v
 settle w v (stop r) = settle-stop w v r
 settle w v (x ▸ s) = step w v x s (settle w v s)
 
 -- and from two rooms on
-abbrev Begins : List ℕ → List ℕ → Stream Piece → Type 0
+abbrev Begins : List ℕ → List ℕ → Stream Refusal Piece → Type 0
 Begins b t s =
     Meets (length b) (length t) 0 [] [] 0 blocks (roomy (capacity blockWords (length b)) (textCapacity (length t)) none s) (layAll (on blank b t) s)
 
 begin-end : (b t : List ℕ) → Begins b t end
-unfolding layAll roomy items answer count blocks textOf records
+unfolding layAll roomy items ended count blocks textOf records
 begin-end b t =
     let zero-le : (n : ℕ) → 0 ≤ n = λ n. omega arith in (
       record {
@@ -371,10 +371,10 @@ begin-end b t =
     )
 
 begin-stop : (b t : List ℕ) (r : Refusal) → Begins b t (stop r)
-unfolding layAll roomy answer
+unfolding layAll roomy ended
 begin-stop b t r = λ m. refl
 
-module _ (b t : List ℕ) (x : Piece) (s : Stream Piece) where
+module _ (b t : List ℕ) (x : Piece) (s : Stream Refusal Piece) where
   begin-full : capacity blockWords (length b) ≡ 0 → Begins b t (x ▸ s)
   unfolding layAll
   begin-full z =
@@ -420,13 +420,13 @@ module _ (b t : List ℕ) (x : Piece) (s : Stream Piece) where
       at false i true h = begin-over (eqb-false (capacity blockWords (length b)) 0 i) (ltb-true (textCapacity (length t)) (length (x .bytes)) h)
       at false i false h = begin-fits (eqb-false (capacity blockWords (length b)) 0 i) (ltb-false (textCapacity (length t)) (length (x .bytes)) h)
 
-begins : (b t : List ℕ) (s : Stream Piece) → Begins b t s
+begins : (b t : List ℕ) (s : Stream Refusal Piece) → Begins b t s
 begins b t end = begin-end b t
 begins b t (stop r) = begin-stop b t r
 begins b t (x ▸ s) = begin-more b t x s
 
 -- what the rooms hold when all the pieces of q are laid
-pub record Joined (q : Stream Piece) (b t : List ℕ) (p : Page) (b′ t′ : List ℕ) : Type 0 where
+pub record Joined (q : Stream Refusal Piece) (b t : List ℕ) (p : Page) (b′ t′ : List ℕ) : Type 0 where
   pub done : answer 0 q ≡ Done (count q)
   pub counted : blockCount p ≡ length (blocks (items q))
   pub text : p .text ≡ length (textOf (items q))
@@ -438,13 +438,13 @@ pub record Joined (q : Stream Piece) (b t : List ℕ) (p : Page) (b′ t′ : Li
   pub room : p .text ≤ textCapacity (length t)
 
 -- the pieces that find room
-abbrev pub placed : List ℕ → List ℕ → Stream Piece → Stream Piece
+abbrev pub placed : List ℕ → List ℕ → Stream Refusal Piece → Stream Refusal Piece
 placed b t s = roomy (capacity blockWords (length b)) (textCapacity (length t)) none s
 
-pub lay-refuses : (s : Stream Piece) (b t : List ℕ) {r : Refusal} → layAll (on blank b t) s ≡ off r → answer 0 (placed b t s) ≡ Refused r
+pub lay-refuses : (s : Stream Refusal Piece) (b t : List ℕ) {r : Refusal} → layAll (on blank b t) s ≡ off r → answer 0 (placed b t s) ≡ Refused r
 lay-refuses s b t e = (rw e at (begins b t s)) 0
 
-pub lay-joins : (s : Stream Piece) (b t : List ℕ) {p : Page} {b′ t′ : List ℕ} → layAll (on blank b t) s ≡ on p b′ t′ → Joined (placed b t s) b t p b′ t′
+pub lay-joins : (s : Stream Refusal Piece) (b t : List ℕ) {p : Page} {b′ t′ : List ℕ} → layAll (on blank b t) s ≡ on p b′ t′ → Joined (placed b t s) b t p b′ t′
 lay-joins s b t {p} {b′} {t′} e = joined (rw e at (begins b t s))
   where
     joined : Meets (length b) (length t) 0 [] [] 0 blocks (placed b t s) (on p b′ t′) → Joined (placed b t s) b t p b′ t′
@@ -464,13 +464,13 @@ lay-joins s b t {p} {b′} {t′} e = joined (rw e at (begins b t s))
         }
 
 -- rooms that are finished and cleared behind what they hold
-pub record Filled (q : Stream Piece) (b t : List ℕ) (n m : ℕ) (b′ t′ : List ℕ) : Type 0 where
+pub record Filled (q : Stream Refusal Piece) (b t : List ℕ) (n m : ℕ) (b′ t′ : List ℕ) : Type 0 where
   pub counted : n ≡ length (blocks (items q))
   pub text : m ≡ length (textOf (items q))
   pub words : b′ ≡ filled (length b) (records 0 (blocks (items q)))
   pub bytes : t′ ≡ filled (length t) (textOf (items q))
 
-pub joined-filled : {q : Stream Piece} {b t : List ℕ} {p : Page} {b₁ t₁ : List ℕ} → Joined q b t p b₁ t₁ → {n : ℕ} {b₂ b₃ t₂ : List ℕ} → b₂ ≡ lastPut p b₁ → n ≡ blockCount p
+pub joined-filled : {q : Stream Refusal Piece} {b t : List ℕ} {p : Page} {b₁ t₁ : List ℕ} → Joined q b t p b₁ t₁ → {n : ℕ} {b₂ b₃ t₂ : List ℕ} → b₂ ≡ lastPut p b₁ → n ≡ blockCount p
     → b₃ ≡ take (n * blockWords) b₂ ++ replicate (length b₂ - n * blockWords) 0 → t₂ ≡ take (p .text) t₁ ++ replicate (length t₁ - p .text) 0 → Filled q b t n (p .text) b₃ t₂
 joined-filled {q} {b} {t} {p} {b₁} {t₁} j {n} {b₂} {b₃} {t₂} g e u v =
     let bl : List Piece = blocks (items q) in

@@ -78,7 +78,7 @@ stopped (on p b t) r = off r
 stopped (off q) r = off q
 
 -- pieces one after the other; the first refusal stays
-unfoldable pub layAll : Laying → Stream Piece → Laying
+unfoldable pub layAll : Laying → Stream Refusal Piece → Laying
 layAll l end = l
 layAll l (stop r) = stopped l r
 layAll l (x ▸ s) = layAll (laidOn l x) s

@@ -10,6 +10,7 @@ use Rattle.answers.specs.Answers.{refusal}
 use Rattle.rooms.specs.Streams.{Stream, end, stop, _▸_}
 use Rattle.styles.specs.declared.Style.{Style}
 use Rattle.styles.specs.Styles.{styleWords, sameStyle}
+use Rattle.answers.specs.declared.Refusal.{Refusal}
 
 -- text of a style
 pub record Piece : Type 0 where
@@ -62,7 +63,7 @@ starts none s = true
 starts (last l) s = not (sameStyle l s)
 
 -- "19, 20: no room for a new block; then, for the text": the pieces that find room, where b blocks and t bytes are left
-unfoldable pub roomy : ℕ → ℕ → Last → Stream Piece → Stream Piece
+unfoldable pub roomy : ℕ → ℕ → Last → Stream Refusal Piece → Stream Refusal Piece
 roomy b t l end = end
 roomy b t l (stop r) = stop r
 roomy b t l (x ▸ s) =

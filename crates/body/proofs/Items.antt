@@ -28,6 +28,7 @@ use Rattle.walk.proofs.Walk.{walk-one}
 use Rattle.runs.specs.Runs.{isUnit, runLength, numberOf, runNumbers}
 use Rattle.body.specs.Acting.{from}
 use Rattle.body.specs.Body.{Item, token, run, apart, joined, stepItems, gather, Asked, bareAsks, asks, statesOf, uttered, bodyFrom}
+use Rattle.answers.specs.declared.Refusal.{Refusal}
 
 -- the tokens' items, from the first one on
 abbrev pub items : List Shown → List Item
@@ -172,7 +173,7 @@ module _ (rd : Reading) where
   bare-run Shown.ignorable h = absurd (false≢true h)
   bare-run (Shown.unknown p bs num) h = absurd (false≢true h)
 
-  bare-stops : (t : Shown) (s u : Stream Piece) → isUnit t ≡ true → uttered (bareAsks t) s ≡ uttered (bareAsks t) u
+  bare-stops : (t : Shown) (s u : Stream Refusal Piece) → isUnit t ≡ true → uttered (bareAsks t) s ≡ uttered (bareAsks t) u
   bare-stops (Shown.word w num) s u h = refl
   bare-stops (Shown.text p bs) s u h = absurd (false≢true h)
   bare-stops Shown.opening s u h = absurd (false≢true h)

@@ -24,9 +24,10 @@ use Rattle.body.specs.declared.act.Act.the-variants.{Push, Pop, Keep, Sa
 use Rattle.body.specs.declared.act.Bare.{Bare}
 use Rattle.body.specs.declared.act.Bare.the-variants.{Opens, Refuses}
 use Rattle.body.specs.Body.{gather, Asked, statesOf, uttered, bodyFrom, stackLimit}
+use Rattle.answers.specs.declared.Refusal.{Refusal}
 
 -- the body of tokens, from a stack of states
-abbrev pub from : Reading → List State → List Shown → Stream Piece
+abbrev pub from : Reading → List State → List Shown → Stream Refusal Piece
 from rd st ts = bodyFrom rd st (gather (walk ts))
 
 -- text of k tokens was laid

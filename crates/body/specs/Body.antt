@@ -118,16 +118,16 @@ pieceOf [] bs = piece (styleOf fresh) bs
 pieceOf (top ∷ rest) bs = piece (styleOf top) bs
 
 -- what it writes, and what is written behind it
-abbrev pub uttered : Asked → Stream Piece → Stream Piece
+abbrev pub uttered : Asked → Stream Refusal Piece → Stream Refusal Piece
 uttered (stops r) more = stop r
 uttered (goes st) more = more
 uttered (says st bs) more = pieceOf st bs ▸ more
 
 -- item by item, from a stack of states
-unfoldable pub bodyFrom : Reading → List State → List Item → Stream Piece
+unfoldable pub bodyFrom : Reading → List State → List Item → Stream Refusal Piece
 bodyFrom rd st [] = end
 bodyFrom rd st (i ∷ is) = uttered (asks rd st i) (bodyFrom rd (statesOf (asks rd st i)) is)
 
 -- "One is held at the start."
-abbrev pub body : Reading → List Step → Stream Piece
+abbrev pub body : Reading → List Step → Stream Refusal Piece
 body rd ss = bodyFrom rd (fresh ∷ []) (gather ss)

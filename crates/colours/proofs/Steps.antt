@@ -12,9 +12,9 @@ use native.Mathlib.Nat.{div-one}
 use native.Mathlib.Numerals.{add-one}
 use native.Mathlib.Omega.{arith}
 use borrow.Author.Tests.{ltb-true, ltb-false, lt-ltb, le-ltb, ne-eqb}
-use lib.ListN.{length, take, set, length-set}
+use lib.ListN.{length, take, set, length-set, drop, take-append-drop}
 use lib.Dec.{eqb, ltb}
-use lib.Seq.{length-take-le, take-suc-set}
+use lib.Seq.{length-take-le, take-suc-set, drop-set-lt, drop-drop}
 use Rattle.answers.specs.declared.Why.the-variants.{NumberField, ColourRoom}
 use Rattle.answers.specs.declared.Refusal.{Refusal}
 use Rattle.answers.specs.declared.Outcome.the-variants.{Done, Refused}
@@ -142,6 +142,7 @@ pub record Loop (tokens : List ℕ) (count : ℕ) (room₀ : List ℕ) (limit : 
   pub long : length room ≡ length room₀
   pub limited : limit ≡ tableLimit colourWords (length room₀)
   pub held : limit ≤ length room
+  pub behind : drop k room ≡ drop k room₀
   pub within : k ≤ limit
   pub small : Small c
   pub left : (src : List ℕ) → coloursFrom limit (state room k c) (shownAll src n ws) ≡ coloursFrom limit (found noColours) (shownAll src count tokens)
@@ -155,6 +156,7 @@ loop-start tokens count room limit h e =
       long = refl;
       limited = e;
       held = rw e (limit-within (length room));
+      behind = refl;
       within = omega arith;
       small = record { red = omega arith; green = omega arith; blue = omega arith };
       left = λ src. refl;
@@ -171,18 +173,19 @@ module _ {tokens : List ℕ} {count : ℕ} {room₀ : List ℕ} {limit : ℕ} {r
   ended src x e = rw (← (l .limited)) (ap tableOf e)
 
   stopped : (src : List ℕ) (q : Refusal) (ts : List Shown) → coloursFrom limit (refused q) ts ≡ coloursFrom limit (found noColours) (shownAll src count tokens)
-      → ReadColours (colours (tableLimit colourWords (length room₀)) (shownAll src count tokens)) (Refused q) room
+      → ReadColours (colours (tableLimit colourWords (length room₀)) (shownAll src count tokens)) room₀ (Refused q) room
   stopped src q ts e =
       let z : refused q ≡ colours (tableLimit colourWords (length room₀)) (shownAll src count tokens) = ended src (refused q) (sym (colours-refused limit q ts) ∙ e) in
       rw (← z) refl
 
   -- no token is left
-  pub loop-end : n ≤ 0 → (src : List ℕ) → ReadColours (colours (tableLimit colourWords (length room₀)) (shownAll src count tokens)) (Done k) room
+  pub loop-end : n ≤ 0 → (src : List ℕ) → ReadColours (colours (tableLimit colourWords (length room₀)) (shownAll src count tokens)) room₀ (Done k) room
   unfolding coloursFrom
   loop-end h src =
       let e : state room k c ≡ coloursFrom limit (found noColours) (shownAll src count tokens) = rw (shown-none src n ws h) at (l .left src) in
       let z : found (take k room) ≡ colours (tableLimit colourWords (length room₀)) (shownAll src count tokens) = ended src (state room k c) e in
-      rw (← z, filled) (refl, refl)
+      let b : room ≡ take k room ++ drop k room₀ = sym (take-append-drop k room) ∙ ap (λ (x : List ℕ). take k room ++ x) (l .behind) in
+      rw (← z, filled) (refl, b)
 
   module _ (h : 0 < n) {i : Item} (a : i ≡ itemAt ws) {e : Effect} (b : e ≡ effectOf i c) where
     turned : (src : List ℕ) → coloursFrom limit (applied limit (take k room) e) (shownAll src (n - 1) (rest ws tokenWords))
@@ -204,6 +207,7 @@ module _ {tokens : List ℕ} {count : ℕ} {room₀ : List ℕ} {limit : ℕ} {r
           long = l .long;
           limited = l .limited;
           held = l .held;
+          behind = l .behind;
           within = l .within;
           small = rw x at still;
           left = λ src. rw x at (turned src);
@@ -211,7 +215,7 @@ module _ {tokens : List ℕ} {count : ℕ} {room₀ : List ℕ} {limit : ℕ} {r
 
     -- 12, a number that does not fit
     pub loop-unfit : (q : Refusal) → q ≡ refusal NumberField → e ≡ Unfit → (src : List ℕ)
-        → ReadColours (colours (tableLimit colourWords (length room₀)) (shownAll src count tokens)) (Refused q) room
+        → ReadColours (colours (tableLimit colourWords (length room₀)) (shownAll src count tokens)) room₀ (Refused q) room
     loop-unfit q y x src = rw y (stopped src (refusal NumberField) (shownAll src (n - 1) (rest ws tokenWords)) (rw x at (turned src)))
 
     module _ (d : Colour) (x : e ≡ Store d) where
@@ -224,7 +228,7 @@ module _ {tokens : List ℕ} {count : ℕ} {room₀ : List ℕ} {limit : ℕ} {r
 
       -- 18, a colour too many
       pub loop-full : limit ≤ k → (q : Refusal) → q ≡ refusal ColourRoom → (src : List ℕ)
-          → ReadColours (colours (tableLimit colourWords (length room₀)) (shownAll src count tokens)) (Refused q) room
+          → ReadColours (colours (tableLimit colourWords (length room₀)) (shownAll src count tokens)) room₀ (Refused q) room
       loop-full g q y src =
           let t : ltb (length (take k room)) limit ≡ false = le-ltb (length (take k room)) limit (rw filled g) in
           rw y (stopped src (refusal ColourRoom) (shownAll src (n - 1) (rest ws tokenWords)) (rw t at (stored-turned src)))
@@ -241,6 +245,7 @@ module _ {tokens : List ℕ} {count : ℕ} {room₀ : List ℕ} {limit : ℕ} {r
             long = simp length-set (l .long);
             limited = l .limited;
             held = simp length-set u;
+            behind = drop-set-lt (k + 1) room k w (omega arith) ∙ sym (drop-drop 1 k room) ∙ ap (drop 1) (l .behind) ∙ drop-drop 1 k room₀;
             within = omega arith;
             small = stored-small;
             left = λ src. rw s (rw t at (stored-turned src));

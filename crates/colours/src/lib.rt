@@ -120,7 +120,7 @@ fn colour_word(c: Colour) -> u32
 // Reads the table of a group's tokens, which starts anew.
 pub fn read_colours(tokens: &[u32], count: usize, room: &mut [u32]) -> Outcome
     requires { ⌜ (count * tokenWords ≤ length (now tokens)) × (count ≤ 65536) ⌝ }
-    ensures { λ r. ⌜ ((src : List ℕ) → ReadColours (coloursOf (tableLimit colourWords (length (now (room .entry)))) (shownAll src count (now (tokens .entry)))) r (now (room .exit))) ⌝ }
+    ensures { λ r. ⌜ ((src : List ℕ) → ReadColours (coloursOf (tableLimit colourWords (length (now (room .entry)))) (shownAll src count (now (tokens .entry)))) (now (room .entry)) r (now (room .exit))) ⌝ }
 {
     let limit = limit_of(room.len());
     let mut t = tokens;

@@ -24,7 +24,7 @@ use Rattle.cutter.specs.Cutting.{locate, located, last, allSlices, trimS
 
 count-located : (p : ℕ) (s : List ℕ) → count (located p s) ≤ length s
 unfolding located
-count-located p s = rw (count-each (locate p (length s)) (tokens p s)) (count-tokens p s)
+count-located p s = rw (count-each refusal (locate p (length s)) (tokens p s)) (count-tokens p s)
 
 count-last : (p : ℕ) (s : List ℕ) → count (last p s) ≤ length s
 unfolding last count

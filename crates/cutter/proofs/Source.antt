@@ -14,7 +14,7 @@ use Rattle.answers.specs.declared.Outcome.the-variants.{Done, Refused}
 use Rattle.answers.specs.Answers.{refusal}
 use Rattle.bytes.specs.declared.Class.the-variants.{White}
 use Rattle.bytes.specs.Bytes.{isHigh, inClass, lead, body, any}
-use Rattle.rooms.specs.Streams.{Stream, end, stop, _▸_, count}
+use Rattle.rooms.specs.Streams.{Stream, end, stop, _▸_, count, byRefusal}
 use Rattle.rooms.specs.Rooms.{capacity, put, Wrote, encode, settled, content}
 use Rattle.rooms.proofs.Streams.{answer-count}
 use Rattle.rooms.proofs.Rooms.{wrote-one, length-putAll, length-encode, putAll-front, settled-fits, settled-over}
@@ -44,8 +44,8 @@ module _ (p : ℕ) where
   last-close (b ∷ []) h e = rw e
   last-close (b ∷ c ∷ s) h e = absurd (omega arith)
 
-pub last-wrote : {x : Stream Token} {p n : ℕ} {room room′ : List ℕ} {r : Record} → x ≡ locate p 1 Shown.closing ▸ end → r ≡ bareRecord 2
-    → room′ ≡ put tokenWords room n (recordWords r) → Wrote tokenLayout n room x (Done (n + 1)) room′
+pub last-wrote : {x : Stream Refusal Token} {p n : ℕ} {room room′ : List ℕ} {r : Record} → x ≡ locate p 1 Shown.closing ▸ end → r ≡ bareRecord 2
+    → room′ ≡ put tokenWords room n (recordWords r) → Wrote tokenLayout byRefusal n room x (Done (n + 1)) room′
 last-wrote {n = n} {room = room} e q h =
     wrote-one tokenLayout e (h ∙ ap (λ (z : Record). put tokenWords room n (recordWords z)) (closing-record q))
 
@@ -68,7 +68,7 @@ module _ (src : List ℕ) where
           rw (le-ltb 65536 (length src) h, ← q, g, y, t, ← x)
 
 -- what `whole` wrote, settled
-module _ (src : List ℕ) {room room′ : List ℕ} {r : Outcome} (w : Wrote tokenLayout 0 room (tokenStream src) r room′) where
+module _ (src : List ℕ) {room room′ : List ℕ} {r : Outcome} (w : Wrote tokenLayout byRefusal 0 room (tokenStream src) r room′) where
   length-wrote : length room′ ≡ length room
   length-wrote = ap length (w .holds) ∙ length-putAll tokenLayout (tokenStream src) room 0
 

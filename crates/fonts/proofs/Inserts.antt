@@ -12,7 +12,7 @@ use native.Mathlib.Nat.{not-suc-le-zero}
 use native.Mathlib.Omega.{arith}
 use borrow.Author.Tests.{lt-ltb, le-ltb, eq-eqb, ne-eqb}
 use lib.ListN.{length, getD, take, drop, length-append, length-drop, take-append-drop}
-use lib.Seq.{sets, length-take-le, split-at, take-append-seam}
+use lib.Seq.{sets, length-take-le, split-at, take-append-seam, drop-drop}
 use lib.Dec.{eqb, ltb}
 use Rattle.answers.specs.declared.Why.the-variants.{FontRoom}
 use Rattle.answers.specs.declared.Refusal.{Refusal}
@@ -100,7 +100,7 @@ table-parts a f b tail = ap (λ (l : List ℕ). l ++ tail) (table-append a (f �
 front-length : (fs : List Font) (r : ℕ) → r ≤ length fs → length (tableWords (take r fs)) ≡ r * fontWords
 front-length fs r h = length-table (take r fs) ∙ rw (length-take-le r fs h) (omega arith)
 
-words-length : (f : Font) → length (fontRecord f) ≡ 3
+words-length : (f : Font) → length (fontRecord f) ≡ fontWords
 unfolding fontRecord
 words-length f = refl
 
@@ -129,7 +129,7 @@ over-table fs room f r h l =
 
 -- the later records have moved on
 new-table : (fs : List Font) (room : List ℕ) (f : Font) (r n : ℕ) → length fs ≡ n → InFront (tableWords fs) room → r ≤ n → n * fontWords + fontWords ≤ length room
-    → sets (shifted (r * fontWords) (n * fontWords) room) (r * fontWords) (fontRecord f) ≡ tableWords (take r fs ++ (f ∷ drop r fs)) ++ drop 3 (behind fs room)
+    → sets (shifted (r * fontWords) (n * fontWords) room) (r * fontWords) (fontRecord f) ≡ tableWords (take r fs ++ (f ∷ drop r fs)) ++ drop fontWords (behind fs room)
 new-table fs room f r n q h l k =
     let a : List Font = take r fs in
     let b : List Font = drop r fs in
@@ -141,16 +141,16 @@ new-table fs room f r n q h l k =
     let t : length (tableWords fs) ≡ 3 * length fs = length-table fs in
     let u : length (tableWords a) + length (tableWords b) ≡ length (tableWords fs) = sym (length-append (tableWords a) (tableWords b)) ∙ ap length (sym s) in
     let j : length (tableWords a) + length (tableWords b) ≡ n * fontWords = u ∙ t ∙ rw q (omega arith) in
-    let m : 3 ≤ length tail = simp length-drop (omega arith) in
+    let m : fontWords ≤ length tail = simp length-drop (omega arith) in
     let p : ℕ = length (tableWords a) in
     let v : sets (shifted p (p + length (tableWords b)) (tableWords a ++ (tableWords b ++ tail))) p (fontRecord f)
-    ≡ tableWords a ++ (fontRecord f ++ (tableWords b ++ drop 3 tail)) =
+    ≡ tableWords a ++ (fontRecord f ++ (tableWords b ++ drop fontWords tail)) =
     between (tableWords a) (tableWords b) tail (fontRecord f) (words-length f) m in
     ap (λ (ws : List ℕ). sets (shifted (r * fontWords) (n * fontWords) ws) (r * fontWords) (fontRecord f)) e
     ∙ ap (λ (y : ℕ). sets (shifted y (n * fontWords) (tableWords a ++ (tableWords b ++ tail))) y (fontRecord f)) (sym i)
     ∙ ap (λ (y : ℕ). sets (shifted (length (tableWords a)) y (tableWords a ++ (tableWords b ++ tail))) (length (tableWords a)) (fontRecord f)) (sym j)
     ∙ v
-    ∙ sym (table-parts a f b (drop 3 tail))
+    ∙ sym (table-parts a f b (drop fontWords tail))
 
 -- the definition's answer, by its two tests
 module _ (limit : ℕ) (fs : List Font) (g : Font) where
@@ -163,9 +163,9 @@ module _ (limit : ℕ) (fs : List Font) (g : Font) where
   unfolding stored
   kept-refused e = rw e
 
-  read-found : (ts : List Font) (tail room : List ℕ) (m : ℕ) → hasKey (g .key) fs || ltb (length fs) limit ≡ true → inserted g fs ≡ ts → length ts ≡ m
-      → room ≡ tableWords ts ++ tail → ReadFonts (tableOf (stored limit (record { table = fs; font = g }))) (Done m) room
-  read-found ts tail room m e i l q = rw (kept-found e, i, ← l) (refl, front-of (tableWords ts) tail room q)
+  read-found : (ts : List Font) (tail room room′ : List ℕ) (m : ℕ) → hasKey (g .key) fs || ltb (length fs) limit ≡ true → inserted g fs ≡ ts → length ts ≡ m
+      → tail ≡ drop (length (tableWords ts)) room → room′ ≡ tableWords ts ++ tail → ReadFonts (tableOf (stored limit (record { table = fs; font = g }))) room (Done m) room′
+  read-found ts tail room room′ m e i l b q = rw (kept-found e, i, ← l) (refl, q ∙ ap (λ (z : List ℕ). tableWords ts ++ z) b)
 
 length-over : (fs : List Font) (f : Font) (r : ℕ) → r < length fs → length (take r fs ++ (f ∷ drop (suc r) fs)) ≡ length fs
 length-over fs f r h = length-append (take r fs) (f ∷ drop (suc r) fs) ∙ rw (length-take-le r fs (omega arith), length-drop) (omega arith)
@@ -184,7 +184,9 @@ module _ {limit n : ℕ} {f : Row} {room : List ℕ} (pre : (n ≤ limit) × (li
       let l : r < length fs = rw e (y .0) in
       let i : (inserted g fs ≡ take r fs ++ (g ∷ drop (suc r) fs)) × (hasKey (g .key) fs ≡ true) =
       insert-over g fs r l (λ i m. rw (← (key-in fs room h i (omega arith)), ← v) (k .below i m)) (sym (key-in fs room h r l) ∙ y .1 ∙ v) in
-      read-found limit fs g _ (behind fs room) room′ n (rw (i .1)) (i .0) (length-over fs g r l ∙ e)
+      let w′ : length (tableWords (take r fs ++ (g ∷ drop (suc r) fs))) ≡ length (tableWords fs) =
+      length-table (take r fs ++ (g ∷ drop (suc r) fs)) ∙ rw (length-over fs g r l) (sym (length-table fs)) in
+      read-found limit fs g _ (behind fs room) room room′ n (rw (i .1)) (i .0) (length-over fs g r l ∙ e) (rw w′)
       (w ∙ ap (sets room (r * fontWords)) (row-words f g q) ∙ over-table fs room g r h l)
 
   module _ (b : t ≡ false) (fs : List Font) (g : Font) (e : length fs ≡ n) (h : InFront (tableWords fs) room) (q : f ≡ row g) where
@@ -195,16 +197,19 @@ module _ {limit n : ℕ} {f : Row} {room : List ℕ} (pre : (n ≤ limit) × (li
         insert-new g fs r (omega arith) (λ i m. rw (← (key-in fs room h i (omega arith)), ← v) (k .below i m))
         (λ i m o. rw (← (key-in fs room h i o), ← v) (stands-apart n room r (f .key) (sym s ∙ b) (pre .3) k i m (omega arith)))
 
-    full : limit ≤ n → (z : Refusal) → z ≡ refusal FontRoom → ReadFonts (tableOf (stored limit (record { table = fs; font = g }))) (Refused z) room
+    full : limit ≤ n → (z : Refusal) → z ≡ refusal FontRoom → ReadFonts (tableOf (stored limit (record { table = fs; font = g }))) room (Refused z) room
     full l z y = rw (kept-refused limit fs g (rw (apart .1, e) (le-ltb n limit l)), y) refl
 
     new : n < limit → (room₁ room₂ : List ℕ) → room₁ ≡ shifted (r * fontWords) (n * fontWords) room → room₂ ≡ sets room₁ (r * fontWords) (rowWords f)
-        → ReadFonts (tableOf (stored limit (record { table = fs; font = g }))) (Done (n + 1)) room₂
+        → ReadFonts (tableOf (stored limit (record { table = fs; font = g }))) room (Done (n + 1)) room₂
     new l room₁ room₂ w₁ w₂ =
         let m : r ≤ n = k .within in
         let p : limit * fontWords ≤ length room = pre .2 in
-        read-found limit fs g _ (drop 3 (behind fs room)) room₂ (n + 1) (rw (apart .1, e) (lt-ltb n limit l)) (apart .0)
-        (length-new fs g r (omega arith) ∙ rw e)
+        let ts : List Font = take r fs ++ (g ∷ drop r fs) in
+        let w : length (tableWords ts) ≡ length (tableWords fs) + fontWords =
+        length-table ts ∙ rw (length-new fs g r (omega arith)) (let y = length-table fs in omega arith) in
+        read-found limit fs g ts (drop fontWords (behind fs room)) room room₂ (n + 1) (rw (apart .1, e) (lt-ltb n limit l)) (apart .0)
+        (length-new fs g r (omega arith) ∙ rw e) (drop-drop fontWords (length (tableWords fs)) room ∙ rw w)
         (w₂ ∙ ap (λ (l : List ℕ). sets l (r * fontWords) (rowWords f)) w₁ ∙ ap (sets (shifted (r * fontWords) (n * fontWords) room) (r * fontWords)) (row-words f g q)
         ∙ new-table fs room g r n e h m (omega arith))
 

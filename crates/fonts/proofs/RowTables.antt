@@ -2,7 +2,7 @@
 --     table-append       the records of two tables, one after the other
 --     length-table       a record is three words
 --     up-at              keys that ascend, by index
---     ascending-insert, keys-insert, length-insert, length-kept   a table with a font more
+--     ascending-insert, keys-insert, length-insert, length-kept, stored-longer   a table with a font more
 -- Assumes nothing.
 use mathlib.Core.Path.{_≡_, refl, sym, ap, _∙_}
 use mathlib.Core.List.{List, [], _∷_, _++_, append-assoc}
@@ -12,17 +12,19 @@ use native.Mathlib.Omega.{arith}
 use borrow.Author.Tests.{ltb-true, ltb-false, eqb-true, eqb-false, ne-eqb}
 use lib.ListN.{length, getD}
 use lib.Dec.{eqb, ltb}
-use Rattle.fonts.specs.Rows.{Font, firstFont, fontRecord, tableWords, hasKey, inserted}
+use Rattle.answers.specs.declared.Why.the-variants.{FontRoom}
+use Rattle.answers.specs.Answers.{refusal, found, refused}
+use Rattle.fonts.specs.Rows.{Font, Fonts, firstFont, fontWords, fontRecord, tableWords, hasKey, inserted, stored}
 
 pub table-append : (fs gs : List Font) → tableWords (fs ++ gs) ≡ tableWords fs ++ tableWords gs
 unfolding tableWords
 table-append [] gs = refl
 table-append (f ∷ fs) gs = ap (λ (l : List ℕ). fontRecord f ++ l) (table-append fs gs) ∙ sym (append-assoc (fontRecord f) (tableWords fs) (tableWords gs))
 
-pub length-table : (fs : List Font) → length (tableWords fs) ≡ 3 * length fs
+pub length-table : (fs : List Font) → length (tableWords fs) ≡ fontWords * length fs
 unfolding tableWords fontRecord
 length-table [] = omega arith
-length-table (f ∷ fs) = let e : length (tableWords fs) ≡ 3 * length fs = length-table fs in omega arith
+length-table (f ∷ fs) = let e : length (tableWords fs) ≡ fontWords * length fs = length-table fs in omega arith
 
 -- every key of a table is above k
 abbrev pub Above : ℕ → List Font → Type 0
@@ -117,6 +119,16 @@ module _ (f : Font) where
       go false false k = omega arith
 
   -- none more where the key is there
+  pub length-insert-le : (fs : List Font) → length fs ≤ length (inserted f fs)
+  unfolding inserted
+  length-insert-le [] = omega arith
+  length-insert-le (g ∷ gs) = go (ltb (g .key) (f .key)) (eqb (g .key) (f .key)) (length-insert-le gs)
+    where
+      go : (t u : Bool) → length gs ≤ length (inserted f gs) → suc (length gs) ≤ length (cond t (g ∷ inserted f gs) (cond u (f ∷ gs) (f ∷ g ∷ gs)))
+      go true u k = omega arith
+      go false true k = omega arith
+      go false false k = omega arith
+
   pub length-kept : (fs : List Font) → Ascending fs → hasKey (f .key) fs ≡ true → length (inserted f fs) ≡ length fs
   unfolding inserted hasKey
   length-kept [] h e = absurd (false≢true e)
@@ -134,3 +146,13 @@ module _ (f : Font) where
       go false p false q x k =
           let a : f .key ≤ g .key = ltb-false (g .key) (f .key) p in
           absurd (false≢true (sym (above-none (f .key) gs (above-weaken (f .key) (g .key) a gs (h .0))) ∙ x))
+
+-- a table that a font was stored in is no shorter
+pub stored-longer : (limit : ℕ) (s r : Fonts) → stored limit s ≡ found r → length (s .table) ≤ length (r .table)
+unfolding stored
+stored-longer limit s r e = go (hasKey (s .font .key) (s .table) || ltb (length (s .table)) limit) e
+  where
+    go : (t : Bool) → cond t (found (record { table = inserted (s .font) (s .table); font = s .font })) (refused (refusal FontRoom)) ≡ found r
+        → length (s .table) ≤ length (r .table)
+    go true d = let q : record { table = inserted (s .font) (s .table); font = s .font } ≡ r = cc in rw (← q) (length-insert-le (s .font) (s .table))
+    go false d = absurd (let z : _≡_ {A = ℕ} 0 1 = cc in omega arith)

@@ -18,9 +18,10 @@ use Rattle.answers.specs.declared.Refusal.{Refusal}
 use Rattle.answers.specs.declared.Outcome.{Outcome}
 use Rattle.answers.specs.declared.Outcome.the-variants.{Done, Refused}
 use Rattle.answers.specs.Answers.{refusal, Found, found, refused}
-use Rattle.rooms.specs.Rooms.{tableLimit}
+use Rattle.rooms.specs.Rooms.{tableLimit, overlaid}
 use Rattle.rooms.proofs.Streams.{done-refused}
 use Rattle.rooms.proofs.Rooms.{limit-256}
+use Rattle.rooms.proofs.Clearing.{overlaid-front, overlaid-again}
 use Rattle.bytes.specs.declared.Class.the-variants.{Semicolon}
 use Rattle.bytes.specs.Bytes.{inClass, body, grown}
 use Rattle.tokens.specs.declared.Property.{Property}
@@ -41,6 +42,7 @@ use Rattle.fonts.specs.Rows.{row, Ascends, StoredFont}
 use Rattle.fonts.specs.Effects.{namedRow, numbered, wordEffect, effectOf, unnumbered}
 use Rattle.fonts.proofs.Limits.{limit-within}
 use Rattle.fonts.proofs.Inserts.{table-ascends}
+use Rattle.fonts.proofs.RowTables.{stored-longer, length-table}
 use Rattle.fonts.proofs.Tables.{fonts-refused, Sound, SoundIf, sound-start, sound-next}
 
 done-done : (n m : ℕ) → Done n ≡ Done m → n ≡ m
@@ -194,7 +196,7 @@ pub record Loop (src tokens : List ℕ) (count : ℕ) (room₀ : List ℕ) (limi
   pub sound : Sound limit state
   pub same : font ≡ row (state .font)
   pub size : length (state .table) ≡ held
-  pub front : InFront (tableWords (state .table)) room
+  pub laid : room ≡ overlaid (tableWords (state .table)) room₀
   pub left : fontsFrom limit (found state) (shownAll src n ws) ≡ fontsFrom limit (found noFonts) (shownAll src count tokens)
 
 pub loop-start : (src tokens : List ℕ) (count : ℕ) (room : List ℕ) (limit : ℕ) → (count * tokenWords ≤ length tokens) × (count ≤ 65536)
@@ -212,7 +214,7 @@ loop-start src tokens count room limit h e =
       sound = sound-start limit;
       same = refl;
       size = refl;
-      front = refl;
+      laid = refl;
       left = refl;
     }
 
@@ -224,18 +226,21 @@ module _ {src tokens : List ℕ} {count : ℕ} {room₀ : List ℕ} {limit : ℕ
   ended x e = rw (← (l .limited)) (ap tableOf e)
 
   stopped : (q : Refusal) (ts : List Shown) (room′ : List ℕ) → fontsFrom limit (refused q) ts ≡ fontsFrom limit (found noFonts) (shownAll src count tokens)
-      → ReadFonts (fonts (tableLimit fontWords (length room₀)) (shownAll src count tokens)) (Refused q) room′
+      → ReadFonts (fonts (tableLimit fontWords (length room₀)) (shownAll src count tokens)) room₀ (Refused q) room′
   stopped q ts room′ e =
       let z : refused q ≡ fonts (tableLimit fontWords (length room₀)) (shownAll src count tokens) = ended (refused q) (sym (fonts-refused limit q ts) ∙ e) in
       rw (← z) refl
 
   -- no token is left
-  pub loop-end : n ≤ 0 → ReadFonts (fonts (tableLimit fontWords (length room₀)) (shownAll src count tokens)) (Done held) room
+  pub loop-end : n ≤ 0 → ReadFonts (fonts (tableLimit fontWords (length room₀)) (shownAll src count tokens)) room₀ (Done held) room
   unfolding fontsFrom
   loop-end h =
       let e : found (l .state) ≡ fontsFrom limit (found noFonts) (shownAll src count tokens) = rw (shown-none src n ws h) at (l .left) in
       let z : found (l .state .table) ≡ fonts (tableLimit fontWords (length room₀)) (shownAll src count tokens) = ended (found (l .state)) e in
-      rw (← z) (ap Done (sym (l .size)), l .front)
+      rw (← z) (ap Done (sym (l .size)), l .laid)
+
+  front : InFront (tableWords (l .state .table)) room
+  front = rw (l .laid) (overlaid-front (tableWords (l .state .table)) room₀)
 
   -- what a store asks
   pub loop-ready : (held ≤ limit) × (limit ≤ 256) × (limit * fontWords ≤ length room) × Ascends held room
@@ -243,7 +248,7 @@ module _ {src tokens : List ℕ} {count : ℕ} {room₀ : List ℕ} {limit : ℕ
     let k : length (l .state .table) ≤ limit = l .sound .few in let e : length (l .state .table) ≡ held = l .size in omega arith,
     rw (l .limited) (limit-256 fontWords (length room₀)),
     l .fits,
-    table-ascends (l .state .table) room held (l .sound .up) (l .front) (l .size),
+    table-ascends (l .state .table) room held (l .sound .up) front (l .size),
   )
 
   module _ (h : 0 < n) {i : Item} (a : i ≡ itemAt ws) {e : Effect} (b : e ≡ effectOf src i font) where
@@ -282,21 +287,21 @@ module _ {src tokens : List ℕ} {count : ℕ} {room₀ : List ℕ} {limit : ℕ
           sound = rw x at sound-after;
           same = rw x at leaves;
           size = l .size;
-          front = l .front;
+          laid = l .laid;
           left = rw x at turned;
         }
 
     -- a store was asked, of the font before the token
     module _ (o : Outcome) (room′ : List ℕ) (told : (fs : List Font) (g : Font) → StoredFont limit held font fs g room o room′)
         (kept : length room′ ≡ length room) where
-      answered : ReadFonts (tableOf (stored limit (l .state))) o room′
-      answered = told (l .state .table) (l .state .font) (l .size) (l .front) (l .same)
+      answered : ReadFonts (tableOf (stored limit (l .state))) room o room′
+      answered = told (l .state .table) (l .state .font) (l .size) front (l .same)
 
       pub loop-full : (g : Row) → e ≡ Store g → (q : Refusal) → o ≡ Refused q
-          → ReadFonts (fonts (tableLimit fontWords (length room₀)) (shownAll src count tokens)) (Refused q) room′
+          → ReadFonts (fonts (tableLimit fontWords (length room₀)) (shownAll src count tokens)) room₀ (Refused q) room′
       loop-full g x q y = stopped q (shownAll src (n - 1) (rest ws tokenWords)) room′ (go (stored limit (l .state)) (rw y at answered) (rw x at turned))
         where
-          go : (z : Found Fonts) → ReadFonts (tableOf z) (Refused q) room′
+          go : (z : Found Fonts) → ReadFonts (tableOf z) room (Refused q) room′
               → fontsFrom limit (thenFont (fontAfter src i (l .state .font)) z) (shownAll src (n - 1) (rest ws tokenWords))
               ≡ fontsFrom limit (found noFonts) (shownAll src count tokens)
               → fontsFrom limit (refused q) (shownAll src (n - 1) (rest ws tokenWords)) ≡ fontsFrom limit (found noFonts) (shownAll src count tokens)
@@ -304,10 +309,10 @@ module _ {src tokens : List ℕ} {count : ℕ} {room₀ : List ℕ} {limit : ℕ
           go (refused p) r t = let d : q ≡ p = cc in rw d t
 
       pub loop-unnumbered : e ≡ Unnumbered → (q : Refusal) → q ≡ unnumbered o
-          → ReadFonts (fonts (tableLimit fontWords (length room₀)) (shownAll src count tokens)) (Refused q) room′
+          → ReadFonts (fonts (tableLimit fontWords (length room₀)) (shownAll src count tokens)) room₀ (Refused q) room′
       loop-unnumbered x q y = stopped q (shownAll src (n - 1) (rest ws tokenWords)) room′ (go (stored limit (l .state)) answered (rw x at turned))
         where
-          go : (z : Found Fonts) → ReadFonts (tableOf z) o room′
+          go : (z : Found Fonts) → ReadFonts (tableOf z) room o room′
               → fontsFrom limit (thenNone z) (shownAll src (n - 1) (rest ws tokenWords))
               ≡ fontsFrom limit (found noFonts) (shownAll src count tokens)
               → fontsFrom limit (refused q) (shownAll src (n - 1) (rest ws tokenWords)) ≡ fontsFrom limit (found noFonts) (shownAll src count tokens)
@@ -315,15 +320,17 @@ module _ {src tokens : List ℕ} {count : ℕ} {room₀ : List ℕ} {limit : ℕ
           go (refused p) r t = let d : q ≡ p = y ∙ ap unnumbered r in rw d t
 
       pub loop-store : (g : Row) → e ≡ Store g → (m : ℕ) → o ≡ Done m → Loop src tokens count room₀ limit room′ (rest ws tokenWords) (n - 1) g m
-      loop-store g x m y = go (stored limit (l .state)) (rw y at answered) (rw x at turned) (rw x at sound-after)
+      loop-store g x m y = go (stored limit (l .state)) refl (rw y at answered) (rw x at turned) (rw x at sound-after)
         where
-          go : (z : Found Fonts) → ReadFonts (tableOf z) (Done m) room′
+          go : (z : Found Fonts) → stored limit (l .state) ≡ z → ReadFonts (tableOf z) room (Done m) room′
               → fontsFrom limit (thenFont (fontAfter src i (l .state .font)) z) (shownAll src (n - 1) (rest ws tokenWords))
               ≡ fontsFrom limit (found noFonts) (shownAll src count tokens)
               → SoundIf limit (thenFont (fontAfter src i (l .state .font)) z)
               → Loop src tokens count room₀ limit room′ (rest ws tokenWords) (n - 1) g m
-          go (found s) r t u =
+          go (found s) v r t u =
               let d : m ≡ length (s .table) = done-done m (length (s .table)) (r .0) in
+              let w : length (tableWords (l .state .table)) ≤ length (tableWords (s .table)) =
+              (let y = stored-longer limit (l .state) s v in let i = length-table (l .state .table) in let j = length-table (s .table) in omega arith) in
               record {
                 state = record { table = s .table; font = fontAfter src i (l .state .font) };
                 words = words-less n ws (l .words);
@@ -334,7 +341,7 @@ module _ {src tokens : List ℕ} {count : ℕ} {room₀ : List ℕ} {limit : ℕ
                 sound = u;
                 same = rw x at leaves;
                 size = sym d;
-                front = r .1;
+                laid = r .1 ∙ ap (overlaid (tableWords (s .table))) (l .laid) ∙ overlaid-again (tableWords (s .table)) (tableWords (l .state .table)) room₀ w;
                 left = t;
               }
-          go (refused p) r t u = absurd (done-refused r)
+          go (refused p) v r t u = absurd (done-refused r)

@@ -10,6 +10,7 @@ use Rattle.answers.specs.declared.Why.the-variants.{FontRoom}
 use Rattle.answers.specs.declared.Outcome.{Outcome}
 use Rattle.answers.specs.declared.Outcome.the-variants.{Done, Refused}
 use Rattle.answers.specs.Answers.{refusal, Found, found, refused}
+use Rattle.rooms.specs.Rooms.{overlaid}
 use Rattle.fonts.specs.declared.rows.Font.{Font as Row}
 
 -- a font: its key, its name, and the source place of that
@@ -69,10 +70,11 @@ tableOf (refused r) = refused r
 abbrev pub InFront : List ℕ → List ℕ → Type 0
 InFront ws room = take (length ws) room ≡ ws
 
--- what a function that reads a font table answers, and what it leaves in the room
-abbrev pub ReadFonts : Found (List Font) → Outcome → List ℕ → Type 0
-ReadFonts (found fs) r room = (r ≡ Done (length fs)) × InFront (tableWords fs) room
-ReadFonts (refused q) r room = r ≡ Refused q
+-- what a function that reads a font table into a room answers, and the room that it leaves: the records over what stood there. After a
+-- refusal `reader::read` clears the room
+abbrev pub ReadFonts : Found (List Font) → List ℕ → Outcome → List ℕ → Type 0
+ReadFonts (found fs) room r room′ = (r ≡ Done (length fs)) × (room′ ≡ overlaid (tableWords fs) room)
+ReadFonts (refused q) room r room′ = r ≡ Refused q
 
 -- a font as the code holds it: the length of its name, not the name
 abbrev pub row : Font → Row
@@ -106,4 +108,4 @@ shifted from to room = take (from + fontWords) room ++ (take (to - from) (drop f
 -- what a function that stores a font answers, and what it leaves in the room, if the room has a table of n fonts in front
 abbrev pub StoredFont : ℕ → ℕ → Row → List Font → Font → List ℕ → Outcome → List ℕ → Type 0
 StoredFont limit n f fs g room r room′ =
-    length fs ≡ n → InFront (tableWords fs) room → f ≡ row g → ReadFonts (tableOf (stored limit (record { table = fs; font = g }))) r room′
+    length fs ≡ n → InFront (tableWords fs) room → f ≡ row g → ReadFonts (tableOf (stored limit (record { table = fs; font = g }))) room r room′

@@ -149,7 +149,7 @@ fn unnumbered(o: Outcome) -> Refusal
 // Reads the table of a group's tokens, which starts anew.
 pub fn read_fonts(source: &[u8], tokens: &[u32], count: usize, room: &mut [u32]) -> Outcome
     requires { ⌜ (count * tokenWords ≤ length (now tokens)) × (count ≤ 65536) ⌝ }
-    ensures { λ r. ⌜ ReadFonts (fontsOf (tableLimit fontWords (length (now (room .entry)))) (shownAll (now (source .entry)) count (now (tokens .entry)))) r (now (room .exit)) ⌝ }
+    ensures { λ r. ⌜ ReadFonts (fontsOf (tableLimit fontWords (length (now (room .entry)))) (shownAll (now (source .entry)) count (now (tokens .entry)))) (now (room .entry)) r (now (room .exit)) ⌝ }
 {
     let limit = limit_of(room.len());
     let mut t = tokens;

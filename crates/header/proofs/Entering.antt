@@ -23,7 +23,8 @@ use Rattle.tokens.specs.Tokens.{Shown, tokenWords}
 use Rattle.tokens.specs.declared.item.Item.the-variants.{Text, Closing, LineBreak, Ignorable, Word, Unknown}
 use Rattle.tokens.specs.Items.{propertyOf, itemOf, itemAt, shownAll}
 use Rattle.tokens.proofs.Items.{item-opening, shown-take}
-use Rattle.fonts.specs.Rows.{Font, ReadFonts}
+use Rattle.rooms.proofs.Clearing.{overlaid-front}
+use Rattle.fonts.specs.Rows.{Font, tableWords, ReadFonts}
 use Rattle.fonts.specs.Fonts.{fonts}
 use Rattle.colours.specs.Colours.{colours, ReadColours}
 use Rattle.walk.specs.declared.Aim.{Aim}
@@ -75,41 +76,41 @@ module _ (src t : List ℕ) (n : ℕ) {late : Bool} (limit held : ℕ) (room : L
   late-colours l e = rw l (ap Bad e)
 
   module _ (l : late ≡ false) {h : ℕ} (a : h ≡ extent 1 (shownAll src n t)) (b : h ≤ n) (o : Outcome) where
-    module _ (r : ReadFonts (fonts limit (shownAll src h (take (h * tokenWords) t))) o room) where
-      fonts-told : ReadFonts (fonts limit (group (shownAll src n t))) o room
+    module _ (room₀ : List ℕ) (r : ReadFonts (fonts limit (shownAll src h (take (h * tokenWords) t))) room₀ o room) where
+      fonts-told : ReadFonts (fonts limit (group (shownAll src n t))) room₀ o room
       fonts-told = rw (← (group-words src t n a b)) r
 
       pub fonts-read : {k : ℕ} → o ≡ Done k
           → FontsMet late (fonts limit (group (shownAll src n t))) held (extent 1 (shownAll src n t)) (On k held h) room × (h ≤ n)
       fonts-read {k} e = (rw l (go (fonts limit (group (shownAll src n t))) (rw e at fonts-told)), b)
         where
-          go : (x : Found (List Font)) → ReadFonts x (Done k) room → FontsMet false x held (extent 1 (shownAll src n t)) (On k held h) room
-          go (found fs) y = let d : k ≡ length fs = done-done k (length fs) (y .0) in (rw (d, ← a) refl, y .1)
+          go : (x : Found (List Font)) → ReadFonts x room₀ (Done k) room → FontsMet false x held (extent 1 (shownAll src n t)) (On k held h) room
+          go (found fs) y = let d : k ≡ length fs = done-done k (length fs) (y .0) in (rw (d, ← a) refl, rw (y .1) (overlaid-front (tableWords fs) room₀))
           go (refused q) y = absurd (done-refused y)
 
       pub fonts-bad : {q : Refusal} → o ≡ Refused q
           → FontsMet late (fonts limit (group (shownAll src n t))) held (extent 1 (shownAll src n t)) (Bad q) room × (0 ≤ n)
       fonts-bad {q} e = (rw l (go (fonts limit (group (shownAll src n t))) (rw e at fonts-told)), omega arith)
         where
-          go : (x : Found (List Font)) → ReadFonts x (Refused q) room → FontsMet false x held (extent 1 (shownAll src n t)) (Bad q) room
+          go : (x : Found (List Font)) → ReadFonts x room₀ (Refused q) room → FontsMet false x held (extent 1 (shownAll src n t)) (Bad q) room
           go (found fs) y = absurd (done-refused (sym (y .0)))
           go (refused p) y = ap Bad (refused-refused q p y)
 
-    module _ (r : ReadColours (colours limit (shownAll src h (take (h * tokenWords) t))) o room) where
-      colours-told : ReadColours (colours limit (group (shownAll src n t))) o room
+    module _ (room₀ : List ℕ) (r : ReadColours (colours limit (shownAll src h (take (h * tokenWords) t))) room₀ o room) where
+      colours-told : ReadColours (colours limit (group (shownAll src n t))) room₀ o room
       colours-told = rw (← (group-words src t n a b)) r
 
       pub colours-read : {k : ℕ} → o ≡ Done k → ColoursMet late (colours limit (group (shownAll src n t))) held (extent 1 (shownAll src n t)) (On held k h) room
       colours-read {k} e = rw l (go (colours limit (group (shownAll src n t))) (rw e at colours-told))
         where
-          go : (x : Found (List ℕ)) → ReadColours x (Done k) room → ColoursMet false x held (extent 1 (shownAll src n t)) (On held k h) room
-          go (found cs) y = let d : k ≡ length cs = done-done k (length cs) (y .0) in (rw (d, ← a) refl, y .1)
+          go : (x : Found (List ℕ)) → ReadColours x room₀ (Done k) room → ColoursMet false x held (extent 1 (shownAll src n t)) (On held k h) room
+          go (found cs) y = let d : k ≡ length cs = done-done k (length cs) (y .0) in (rw (d, ← a) refl, rw (y .1) (overlaid-front cs room₀))
           go (refused q) y = absurd (done-refused y)
 
       pub colours-bad : {q : Refusal} → o ≡ Refused q → ColoursMet late (colours limit (group (shownAll src n t))) held (extent 1 (shownAll src n t)) (Bad q) room
       colours-bad {q} e = rw l (go (colours limit (group (shownAll src n t))) (rw e at colours-told))
         where
-          go : (x : Found (List ℕ)) → ReadColours x (Refused q) room → ColoursMet false x held (extent 1 (shownAll src n t)) (Bad q) room
+          go : (x : Found (List ℕ)) → ReadColours x room₀ (Refused q) room → ColoursMet false x held (extent 1 (shownAll src n t)) (Bad q) room
           go (found cs) y = absurd (done-refused (sym (y .0)))
           go (refused p) y = ap Bad (refused-refused q p y)
 

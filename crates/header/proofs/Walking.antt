@@ -24,7 +24,7 @@ use Rattle.header.specs.declared.Header.the-variants.{Read, Refused}
 use Rattle.header.specs.declared.group.Entered.{Entered}
 use Rattle.header.specs.declared.group.Entered.the-variants.{On, Bad}
 use Rattle.header.specs.Entering.{Tables, readStep}
-use Rattle.header.specs.Header.{noTables, tablesFrom, tables, ReadHeader}
+use Rattle.header.specs.Header.{noTables, tablesFrom, tables, InFronts}
 use Rattle.header.specs.Entering.{opens, Holds, passed, Met, Enters}
 use Rattle.header.proofs.Tables.{tables-refused}
 use Rattle.colours.specs.Colours.{colourWords}
@@ -118,7 +118,7 @@ module _ {a b h a′ b′ h′ : ℕ} (e : On a b h ≡ On a′ b′ h′) where
 module _ {src tokens : List ℕ} {count : ℕ} {fonts₀ colours₀ fs cs t : List ℕ} {n nf nc : ℕ}
     (w : Walking src tokens count fonts₀ colours₀ fs cs t n nf nc) where
   -- no token is left
-  pub walking-end : n ≤ 0 → ReadHeader (whole src tokens count fonts₀ colours₀) (Read nf nc) fs cs
+  pub walking-end : n ≤ 0 → InFronts (whole src tokens count fonts₀ colours₀) (Read nf nc) fs cs
   unfolding tablesFrom
   walking-end z =
       let e : found (w .state) ≡ whole src tokens count fonts₀ colours₀ = rw (shown-none src n t z, walk-end) at (w .left) in
@@ -168,12 +168,12 @@ module _ {src tokens : List ℕ} {count : ℕ} {fonts₀ colours₀ fs cs t : Li
       answered : Met (groupStep fonts₀ colours₀ (behind src n t) (w .state)) (groupLength (behind src n t)) r fs′ cs′
       answered = rw (w .fontsLong, w .coloursLong) at (m .0 (w .state) (w .holds))
 
-      pub walking-bad : {q : Refusal} → r ≡ Bad q → ReadHeader (whole src tokens count fonts₀ colours₀) (Refused q) fs′ cs′
+      pub walking-bad : {q : Refusal} → r ≡ Bad q → InFronts (whole src tokens count fonts₀ colours₀) (Refused q) fs′ cs′
       walking-bad {q} e = go (groupStep fonts₀ colours₀ (behind src n t) (w .state)) (rw e at answered) into
         where
           go : (x : Found Tables) → Met x (groupLength (behind src n t)) (Bad q) fs′ cs′
               → onward fonts₀ colours₀ x (drop (groupLength (behind src n t)) (behind src n t)) ≡ whole src tokens count fonts₀ colours₀
-              → ReadHeader (whole src tokens count fonts₀ colours₀) (Refused q) fs′ cs′
+              → InFronts (whole src tokens count fonts₀ colours₀) (Refused q) fs′ cs′
           go (found s) u v = absurd (on-bad (sym (u .0)))
           go (refused p) u v =
               let d : refused p ≡ whole src tokens count fonts₀ colours₀ = sym (tables-refused _ _ p _) ∙ v in

@@ -21,6 +21,7 @@ use Rattle.parser.specs.declared.Answer.{Answer}
 use Rattle.parser.specs.declared.Answer.the-variants.{Read, Refuses}
 use Rattle.fonts.specs.Rows.{fontWords}
 use Rattle.colours.specs.Colours.{colourWords}
+use Rattle.answers.specs.declared.Refusal.{Refusal}
 
 -- "8: no tokens (blank source)", "9: first token is no opening bracket"
 abbrev pub begun : List Shown → Found (List Shown)
@@ -51,17 +52,17 @@ pub record Letter : Type 0 where
   pub pieces : List Piece
 
 -- the pieces of the body that find room in b words and t bytes, or the first refusal met
-abbrev pub ended : Tables → Stream Piece → Outcome → Found Letter
-ended h s (Done n) = found (record { tables = h; pieces = items s })
-ended h s (Refused r) = refused r
+abbrev pub letterFrom : Tables → Stream Refusal Piece → Outcome → Found Letter
+letterFrom h s (Done n) = found (record { tables = h; pieces = items s })
+letterFrom h s (Refused r) = refused r
 
-unfoldable pub placed : Reading → ℕ → ℕ → List Shown → Stream Piece
+unfoldable pub placed : Reading → ℕ → ℕ → List Shown → Stream Refusal Piece
 placed rd b t ts = roomy (capacity blockWords b) (textCapacity t) none (body rd (walk ts))
 
 unfoldable pub bodied : Reading → ℕ → ℕ → List Shown → Tables → Found Letter
 bodied rd b t ts h =
     let s = placed rd b t ts in
-    ended h s (answer 0 s)
+    letterFrom h s (answer 0 s)
 
 -- "then the header walk; then the body"
 abbrev pub headed : Reading → ℕ → ℕ → List Shown → Found Tables → Found Letter

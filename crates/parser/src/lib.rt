@@ -12,7 +12,6 @@ use blocks::Laid;
 use blocks::Page;
 use blocks::finish;
 use body::lay_body;
-use fonts::FONT_WORDS;
 use header::Header;
 use header::read_header;
 use readings::Reading;
@@ -126,11 +125,7 @@ fn letter(
     let header = read_header(source, tokens, n, fonts, colours);
     match header {
         Header::Refused(refusal) => Answer::Refuses(refusal),
-        Header::Read(f, c) => {
-            clear_from(fonts, f * FONT_WORDS);
-            clear_from(colours, c);
-            read_body(source, reading, tokens, n, f, c, blocks, text)
-        }
+        Header::Read(f, c) => read_body(source, reading, tokens, n, f, c, blocks, text),
     }
 }
 

@@ -11,10 +11,10 @@ use Rattle.bytes.specs.Bytes.{lead, body, any}
 use Rattle.bytes.specs.Texts.{bytesOf}
 use Rattle.names.specs.Names.{sameBytes, placeIn, wordNumber}
 use Rattle.numbers.specs.Numbers.{hexDigit, hexPair, digitsFrom, digits, decimal}
-use Rattle.rooms.specs.Streams.{andThen, each, answer, items}
+use Rattle.rooms.specs.Streams.{andThen, each, answer, items, ended}
 use Rattle.rooms.specs.Rooms.{settled, tableLimit}
 use Rattle.slices.specs.Slices.{split, slices}
-use Rattle.tokens.specs.Tokens.{recordOf}
+use Rattle.tokens.specs.Tokens.{recordOf, shownBy}
 use Rattle.tokenize.specs.Tokenize.{mark, plain, hexValue, hexEscape, lineBreakAnd, shownWord, numbered, named, bareLength, wordTail, word, other, escaped, tokens}
 use Rattle.cutter.specs.Cutting.{located, last, allSlices, trimmed, tokenStream, cutAnswer}
 use Rattle.utf8.specs.Utf8.{utf8, written}
@@ -29,7 +29,7 @@ use Rattle.styles.specs.Styles.{flagged, fitted, alignment, spacing, measured, 
 use Rattle.blocks.specs.Pages.{blocksFrom, blocks, textOf, records, roomy}
 use Rattle.body.specs.Body.{gather, asks, bodyFrom}
 use Rattle.parser.specs.Parsing.{Sizes, Letter, placed, bodied, answerNumber}
-use Rattle.reader.specs.Reading.{shownBy, letterOf, answered}
+use Rattle.reader.specs.Reading.{letterOf, answered}
 
 -- a letter; its answer; its text; its fonts' words; how many blocks it has
 record Sample : Type 0 where
@@ -72,5 +72,5 @@ holds [] = true
 holds (s ∷ ss) = says s (letterOf Plain (bytesOf (s .letter)) room) && holds ss
 
 sample-letters : holds samples ≡ true
-unfolding holds says samples room letterOf shownBy bodied placed roomy bodyFrom asks gather blocks blocksFrom textOf records tableWords fontRecord walkFrom extent aimFrom tablesFrom fonts fontsFrom fontToken fontWord stored inserted hasKey fontNamed colours coloursFrom colourToken colourWordOf tableLimit runText utf8All decode kept later units unitOf utf8 written change styleOf flagsNumber flagged fitted alignment spacing measured character cutAnswer tokenStream trimmed allSlices last located settled answer items each andThen split slices lead body any tokens escaped other word wordTail bareLength named numbered shownWord lineBreakAnd hexEscape hexValue plain mark wordNumber placeIn sameBytes hexDigit hexPair digitsFrom digits decimal recordOf
+unfolding holds says samples room letterOf shownBy bodied placed roomy bodyFrom asks gather blocks blocksFrom textOf records tableWords fontRecord walkFrom extent aimFrom tablesFrom fonts fontsFrom fontToken fontWord stored inserted hasKey fontNamed colours coloursFrom colourToken colourWordOf tableLimit runText utf8All decode kept later units unitOf utf8 written change styleOf flagsNumber flagged fitted alignment spacing measured character cutAnswer tokenStream trimmed allSlices last located settled ended items each andThen split slices lead body any tokens escaped other word wordTail bareLength named numbered shownWord lineBreakAnd hexEscape hexValue plain mark wordNumber placeIn sameBytes hexDigit hexPair digitsFrom digits decimal recordOf
 sample-letters = refl

@@ -27,6 +27,7 @@ use Rattle.stored.specs.Entries.{entry}
 use Rattle.stored.specs.Stored.{over, entered, blocksFrom, counted, stored, placed, answered, storedAnswer, answerNumber}
 use Rattle.stored.specs.Checks.{checked}
 use Rattle.stored.proofs.Entries.{entry-is}
+use Rattle.answers.specs.declared.Refusal.{Refusal}
 
 count-over : (s : List ℕ) → count (over s) ≤ length s
 unfolding count
@@ -56,18 +57,18 @@ count-stored s = go (numberOf s)
     go Short = omega arith
 
 -- the next block, by whether it starts one
-one : (b t : ℕ) (y : Bool) (x : Piece) (s z : Stream Piece) → 0 < b
+one : (b t : ℕ) (y : Bool) (x : Piece) (s z : Stream Refusal Piece) → 0 < b
     → cond (y && eqb b 0) (stop (refusal BlockRoom)) (cond (ltb t (length (x .bytes))) (stop (refusal TextRoom)) z) ≡ cond (ltb t (length (x .bytes))) (stop (refusal TextRoom)) z
 one b t true x s z h = rw (ne-eqb b 0 (λ q. omega arith))
 one b t false x s z h = refl
 
-pub roomy-blocks : (x : Stream Piece) (b c t : ℕ) (l : Last) → count x ≤ b → count x ≤ c → roomy b t l x ≡ roomy c t l x
+pub roomy-blocks : (x : Stream Refusal Piece) (b c t : ℕ) (l : Last) → count x ≤ b → count x ≤ c → roomy b t l x ≡ roomy c t l x
 unfolding roomy count
 roomy-blocks end b c t l h k = refl
 roomy-blocks (stop r) b c t l h k = refl
 roomy-blocks (x ▸ s) b c t l h k =
     one b t (starts l (x .style)) x s (x ▸ roomy (cond (starts l (x .style)) (b - 1) b) (t - length (x .bytes)) (last (x .style)) s) (omega arith)
-    ∙ ap (λ (z : Stream Piece). cond (ltb t (length (x .bytes))) (stop (refusal TextRoom)) (x ▸ z))
+    ∙ ap (λ (z : Stream Refusal Piece). cond (ltb t (length (x .bytes))) (stop (refusal TextRoom)) (x ▸ z))
     (roomy-blocks s (cond (starts l (x .style)) (b - 1) b) (cond (starts l (x .style)) (c - 1) c) (t - length (x .bytes)) (last (x .style))
     (fewer (starts l (x .style)) b h) (fewer (starts l (x .style)) c k))
     ∙ sym (one c t (starts l (x .style)) x s (x ▸ roomy (cond (starts l (x .style)) (c - 1) c) (t - length (x .bytes)) (last (x .style)) s) (omega arith))

@@ -6,7 +6,7 @@ use mathlib.Core.Bool.{Bool, true, false, cond, _&&_}
 use Prim.Native.Nat.{ℕ}
 use lib.Dec.{eqb}
 use Rattle.answers.specs.Answers.{outcomeNumber}
-use Rattle.rooms.specs.Streams.{items, answer}
+use Rattle.rooms.specs.Streams.{items, answer, ended}
 use Rattle.sevens.specs.Sevens.{high, sumFrom, valueOf, isLong, numberOf}
 use Rattle.wellformed.specs.WellFormed.{behind, goesOn}
 use Rattle.fields.specs.Fields.{unfolded, inRange}
@@ -95,5 +95,5 @@ every [] = true
 every (c ∷ cs) = agrees c && every cs
 
 as-listed : every cases ≡ true
-unfolding same items answer high sumFrom valueOf isLong numberOf behind goesOn unfolded inRange blocks joinedFrom textOf blockRecord records roomy numbersFrom ruled entry blocksFrom stored placed storedAnswer storedBlocks storedText checked cases refuses zeros held agrees every
+unfolding same items ended high sumFrom valueOf isLong numberOf behind goesOn unfolded inRange blocks joinedFrom textOf blockRecord records roomy numbersFrom ruled entry blocksFrom stored placed storedAnswer storedBlocks storedText checked cases refuses zeros held agrees every
 as-listed = refl

@@ -17,7 +17,7 @@ use Rattle.answers.specs.Answers.{refusal}
 use Rattle.sevens.specs.declared.Numeral.{Numeral}
 use Rattle.sevens.specs.declared.Numeral.the-variants.{Is as Numbered, Bad as BadNumber, Short}
 use Rattle.sevens.specs.Sevens.{numberOf}
-use Rattle.rooms.specs.Streams.{Stream, stop, _▸_, answer}
+use Rattle.rooms.specs.Streams.{Stream, stop, _▸_, answer, ended}
 use Rattle.styles.specs.declared.Style.{Style}
 use Rattle.blocks.specs.Pages.{Piece, piece, Last, none, last, starts, roomy}
 use Rattle.fields.specs.Fields.{lastOf}
@@ -29,7 +29,7 @@ use Rattle.stored.specs.Stored.{entered, blocksFrom}
 use Rattle.stored.proofs.Blocks.{blocks-next, blocks-over, over-some, over-none, stored-is, stored-bad, stored-short}
 use Rattle.stored.specs.Checks.{checked}
 
-module _ (b t : ℕ) (l : Last) (x : Piece) (s : Stream Piece) (e : starts l (x .style) ≡ true) (h : 0 < b) where
+module _ (b t : ℕ) (l : Last) (x : Piece) (s : Stream Refusal Piece) (e : starts l (x .style) ≡ true) (h : 0 < b) where
   roomy-next : length (x .bytes) ≤ t → roomy b t l (x ▸ s) ≡ x ▸ roomy (b - 1) (t - length (x .bytes)) (last (x .style)) s
   unfolding roomy
   roomy-next k = rw (e, ne-eqb b 0 (λ z. omega arith), le-ltb t (length (x .bytes)) k)
@@ -58,7 +58,7 @@ module _ {k : ℕ} {s t : List ℕ} {n left : ℕ} {begun : Bool} {before : Styl
     to-check = g .all B w ∙ rw (blocks-next n (n - 1) (lastOf begun before) t (omega arith), ← d)
 
     pub checking-bad : {r : Refusal} → e ≡ Bad r → Refused r ≡ answer 0 (roomy B 2147483647 none (blocksFrom k none s))
-    unfolding roomy answer
+    unfolding roomy ended
     checking-bad f = sym (to-check ∙ rw f)
 
     module _ {st : Style} {m c : ℕ} (f : e ≡ Is st m c) where
@@ -70,7 +70,7 @@ module _ {k : ℕ} {s t : List ℕ} {n left : ℕ} {begun : Bool} {before : Styl
 
       pub checking-text : left < c → {r : Refusal} → r ≡ refusal TextRoom
           → Refused r ≡ answer 0 (roomy B 2147483647 none (blocksFrom k none s))
-      unfolding answer
+      unfolding ended
       checking-text l q =
           sym (to-check ∙ rw (
             f,
@@ -81,7 +81,7 @@ module _ {k : ℕ} {s t : List ℕ} {n left : ℕ} {begun : Bool} {before : Styl
 
       checking-next : c ≤ left → answer 0 (roomy B 2147483647 none (blocksFrom k none s))
           ≡ answer (k - (n - 1)) (roomy (B - (k - (n - 1))) (left - c) (last st) (blocksFrom (n - 1) (last st) (drop (m + c) t)))
-      unfolding answer
+      unfolding ended
       checking-next l =
           let i : k - (n - 1) ≡ k - n + 1 = omega (arith, h, g .held) in
           let j : B - (k - n + 1) ≡ B - (k - n) - 1 = omega arith in
@@ -108,11 +108,11 @@ module _ {k : ℕ} {s t : List ℕ} {n left : ℕ} {begun : Bool} {before : Styl
   module _ (h : n ≤ 0) (B : ℕ) (w : length s ≤ B) where
     pub checking-left : 0 < length t → {r : Refusal} → r ≡ refusal StoredLong
         → Refused r ≡ answer 0 (roomy B 2147483647 none (blocksFrom k none s))
-    unfolding roomy answer
+    unfolding roomy ended
     checking-left l e = sym (g .all B w ∙ rw (e, blocks-over n (lastOf begun before) t h, over-some t l))
 
     pub checking-end : length t ≤ 0 → Done k ≡ answer 0 (roomy B 2147483647 none (blocksFrom k none s))
-    unfolding roomy answer
+    unfolding roomy ended
     checking-end l = let z : k - n ≡ k = omega (arith, h) in sym (g .all B w ∙ rw (blocks-over n (lastOf begun before) t h, over-none t l, z))
 
 -- ---- the whole list
@@ -126,9 +126,9 @@ module _ (s : List ℕ) {x : Numeral} (d : x ≡ numberOf s) where
       h (length s) l ∙ rw (stored-is s d e f)
 
   pub check-bad : x ≡ BadNumber → {r : Refusal} → r ≡ refusal StoredNumber → Refused r ≡ checked s
-  unfolding checked roomy answer
+  unfolding checked roomy ended
   check-bad e f = rw (f, stored-bad s d e)
 
   pub check-short : x ≡ Short → {r : Refusal} → r ≡ refusal StoredShort → Refused r ≡ checked s
-  unfolding checked roomy answer
+  unfolding checked roomy ended
   check-short e f = rw (f, stored-short s d e)

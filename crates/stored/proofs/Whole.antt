@@ -64,7 +64,7 @@ module _ (s b t : List ℕ) (l : Laid) (b₁ t₁ : List ℕ) (h : told l b₁ t
         → t₂ ≡ take (p .text) t₁ ++ replicate (length t₁ - p .text) 0 → Whole s b t (Read (record { blocks = n; text = p .text })) b₃ t₂
     unfolding storedAnswer storedBlocks storedText
     list-laid {n} {b₂} {b₃} {t₂} g q u v =
-        let st : Stream Piece = placed (length b) (length t) s in
+        let st : Stream Refusal Piece = placed (length b) (length t) s in
         let i : Filled st b t n (p .text) b₃ t₂ = joined-filled joined g q u v in
         record {
           answer = rw (joined .done) (ap (λ (m : ℕ). Read (record { blocks = m; text = p .text })) (i .counted)

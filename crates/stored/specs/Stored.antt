@@ -19,33 +19,34 @@ use Rattle.stored.specs.declared.Counts.{Counts}
 use Rattle.stored.specs.declared.Answer.{Answer}
 use Rattle.stored.specs.declared.Answer.the-variants.{Read, Refuses}
 use Rattle.stored.specs.Entries.{entry}
+use Rattle.answers.specs.declared.Refusal.{Refusal}
 
 -- the end of a list: 23 "has bytes left over"
-abbrev pub over : List ℕ → Stream Piece
+abbrev pub over : List ℕ → Stream Refusal Piece
 over [] = end
 over (b ∷ s) = stop (refusal StoredLong)
 
 -- a block, and what follows it
-abbrev pub entered : Entry → List ℕ → (Last → List ℕ → Stream Piece) → Stream Piece
+abbrev pub entered : Entry → List ℕ → (Last → List ℕ → Stream Refusal Piece) → Stream Refusal Piece
 entered (Is st m n) s more = piece st (take n (drop m s)) ▸ more (last st) (drop (m + n) s)
 entered (Bad r) s more = stop r
 
 -- k blocks, where a block l came before
-unfoldable pub blocksFrom : ℕ → Last → List ℕ → Stream Piece
+unfoldable pub blocksFrom : ℕ → Last → List ℕ → Stream Refusal Piece
 blocksFrom zero l s = over s
 blocksFrom (suc k) l s = entered (entry l s) s (blocksFrom k)
 
 -- "The list: block count; per block .."
-abbrev pub counted : Numeral → List ℕ → Stream Piece
+abbrev pub counted : Numeral → List ℕ → Stream Refusal Piece
 counted (Numbered n m) s = blocksFrom n none (drop m s)
 counted BadNumber s = stop (refusal StoredNumber)
 counted Short s = stop (refusal StoredShort)
 
-unfoldable pub stored : List ℕ → Stream Piece
+unfoldable pub stored : List ℕ → Stream Refusal Piece
 stored s = counted (numberOf s) s
 
 -- "19, 20": the blocks that find room in b words and t bytes
-unfoldable pub placed : ℕ → ℕ → List ℕ → Stream Piece
+unfoldable pub placed : ℕ → ℕ → List ℕ → Stream Refusal Piece
 placed b t s = roomy (capacity blockWords b) (textCapacity t) none (stored s)
 
 abbrev pub countsOf : List Piece → Counts

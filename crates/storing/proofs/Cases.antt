@@ -6,7 +6,7 @@ use Prim.Native.Nat.{ℕ}
 use lib.Dec.{eqb}
 use lib.ListN.{length}
 use Rattle.answers.specs.Answers.{outcomeNumber, outcomeCount}
-use Rattle.rooms.specs.Streams.{andThen, answer}
+use Rattle.rooms.specs.Streams.{andThen, answer, ended}
 use Rattle.rooms.specs.Rooms.{filled, encode, settled, content}
 use Rattle.sevens.specs.Sevens.{groups, streamed}
 use Rattle.wellformed.specs.WellFormed.{behind, goesOn}
@@ -79,5 +79,5 @@ every [] = true
 every (c ∷ cs) = right c && every cs
 
 cases-right : every cases ≡ true
-unfolding cases written refused row right every sameBytes andThen answer encode settled content groups streamed behind goesOn folded inRange styleNumbers numbersBytes blockBytes fits piecesFrom bytesOf listStream writeAnswer writeRoom
+unfolding cases written refused row right every sameBytes andThen ended encode settled content groups streamed behind goesOn folded inRange styleNumbers numbersBytes blockBytes fits piecesFrom bytesOf listStream writeAnswer writeRoom
 cases-right = refl

@@ -15,7 +15,7 @@ use Rattle.answers.specs.declared.Outcome.{Outcome}
 use Rattle.answers.specs.declared.Outcome.the-variants.{Done, Refused}
 use Rattle.answers.specs.Answers.{refusal}
 use Rattle.bytes.proofs.Runs.{and-right}
-use Rattle.rooms.specs.Streams.{andThen}
+use Rattle.rooms.specs.Streams.{andThen, byRefusal}
 use Rattle.rooms.specs.Rooms.{Wrote}
 use Rattle.rooms.proofs.Rooms.{wrote-stop, wrote-then}
 use Rattle.sevens.specs.Sevens.{written, byteLayout, streamed}
@@ -23,10 +23,11 @@ use Rattle.sevens.proofs.Sevens.{written-length}
 use Rattle.sevens.proofs.Streamed.{place-after}
 use Rattle.blocks.specs.Pages.{none, blockWords}
 use Rattle.storing.specs.Lists.{piecesFrom, bytesOf, whole, listStream}
+use Rattle.rooms.proofs.Streams.{refusal-apart}
 
 module _ (ws tx : List ℕ) where
   pub list-none : not (whole ws) ≡ true → {r : Outcome} {room : List ℕ} → r ≡ Refused (refusal StoredField)
-      → Wrote byteLayout 0 room (listStream ws tx) r room
+      → Wrote byteLayout byRefusal 0 room (listStream ws tx) r room
   unfolding listStream
   list-none t e = rw e (wrote-stop byteLayout (rw (not-true (whole ws) t)) refl)
 
@@ -37,11 +38,11 @@ module _ (ws tx : List ℕ) where
   list-is t = rw t
 
   pub list-wrote : not (whole ws) ≡ false → {start : ℕ} {r : Outcome} {room room′ room″ : List ℕ}
-      → Wrote byteLayout 0 room (streamed (written (length ws / blockWords))) (Done start) room′
-      → Wrote byteLayout start room′ (bytesOf (piecesFrom (length ws / blockWords) none 0 ws tx)) r room″
-      → Wrote byteLayout 0 room (listStream ws tx) r room″
+      → Wrote byteLayout byRefusal 0 room (streamed (written (length ws / blockWords))) (Done start) room′
+      → Wrote byteLayout byRefusal start room′ (bytesOf (piecesFrom (length ws / blockWords) none 0 ws tx)) r room″
+      → Wrote byteLayout byRefusal 0 room (listStream ws tx) r room″
   list-wrote t w v =
-      wrote-then byteLayout (bytesOf (piecesFrom (length ws / blockWords) none 0 ws tx)) (list-is (not-false (whole ws) t)) w refl v
+      wrote-then byteLayout refusal-apart (bytesOf (piecesFrom (length ws / blockWords) none 0 ws tx)) (list-is (not-false (whole ws) t)) w refl v
 
 -- whole blocks are few enough for a stored number
 pub whole-few : (ws : List ℕ) → not (whole ws) ≡ false → length ws / blockWords ≤ 4294967295
@@ -50,6 +51,6 @@ whole-few ws t =
     (and-right (eqb (length ws % blockWords) 0) (leb (length ws / blockWords) 4294967295) (not-false (whole ws) t))
 
 -- the place behind the count
-pub number-place : (v : ℕ) {at : ℕ} {room room′ : List ℕ} → Wrote byteLayout 0 room (streamed (written v)) (Done at) room′
+pub number-place : (v : ℕ) {at : ℕ} {room room′ : List ℕ} → Wrote byteLayout byRefusal 0 room (streamed (written v)) (Done at) room′
     → at ≤ 5
 number-place v w = omega (arith, place-after (written v) w, written-length v)

@@ -14,7 +14,7 @@ use lib.ListN.{length, getD, drop, length-append, drop-of-length-le}
 use lib.Seq.{drop-cons}
 use Rattle.answers.specs.declared.Outcome.{Outcome}
 use Rattle.answers.specs.declared.Outcome.the-variants.{Done}
-use Rattle.rooms.specs.Streams.{Stream, end, andThen}
+use Rattle.rooms.specs.Streams.{Stream, end, andThen, byRefusal}
 use Rattle.rooms.specs.Rooms.{Wrote, put}
 use Rattle.rooms.proofs.Rooms.{wrote-none, wrote-then, wrote-more, length-put, length-putAll}
 use Rattle.sevens.specs.Sevens.{written, byteLayout, streamed}
@@ -24,14 +24,16 @@ use Rattle.styles.specs.declared.Style.{Style}
 use Rattle.fields.specs.Fields.{folded, styleNumbers}
 use Rattle.blocks.specs.Pages.{Piece, piece}
 use Rattle.storing.specs.Bytes.{numbersBytes, blockNumbers, blockBytes}
+use Rattle.answers.specs.declared.Refusal.{Refusal}
+use Rattle.rooms.proofs.Streams.{refusal-apart}
 
 -- who writes y from place `at` on has then written x from place n on
-abbrev pub Ahead : ℕ → List ℕ → Stream ℕ → ℕ → List ℕ → Stream ℕ → Type 0
+abbrev pub Ahead : ℕ → List ℕ → Stream Refusal ℕ → ℕ → List ℕ → Stream Refusal ℕ → Type 0
 Ahead n room₀ x at room y =
-    (r : Outcome) (room′ : List ℕ) → Wrote byteLayout at room y r room′ → Wrote byteLayout n room₀ x r room′
+    (r : Outcome) (room′ : List ℕ) → Wrote byteLayout byRefusal at room y r room′ → Wrote byteLayout byRefusal n room₀ x r room′
 
 -- what is written keeps the room's length
-pub wrote-length : {n : ℕ} {room room′ : List ℕ} {s : Stream ℕ} {r : Outcome} → Wrote byteLayout n room s r room′
+pub wrote-length : {n : ℕ} {room room′ : List ℕ} {s : Stream Refusal ℕ} {r : Outcome} → Wrote byteLayout byRefusal n room s r room′
     → length room′ ≡ length room
 wrote-length {n} {room} {room′} {s} w = ap length (w .holds) ∙ length-putAll byteLayout s room n
 
@@ -56,16 +58,16 @@ numbers-start ws n room = record { within = omega arith; place = omega arith; sa
 
 module _ {ws : List ℕ} {n : ℕ} {room₀ room : List ℕ} {at i : ℕ} (l : Numbers ws n room₀ room at i) where
   pub numbers-more : i < length ws → {at′ : ℕ} {room′ : List ℕ}
-      → Wrote byteLayout at room (streamed (written (getD ws i 0))) (Done at′) room′ → Numbers ws n room₀ room′ at′ (i + 1)
+      → Wrote byteLayout byRefusal at room (streamed (written (getD ws i 0))) (Done at′) room′ → Numbers ws n room₀ room′ at′ (i + 1)
   numbers-more h {at′} {room′} w = record {
     within = omega arith;
     place = omega (arith, l .place, place-after (written (getD ws i 0)) w, written-length (getD ws i 0));
     same = wrote-length w ∙ l .same;
     left = λ r room″ v. l .left r room″
-        (wrote-then byteLayout (streamed (numbersBytes (drop (i + 1) ws))) (numbers-cons ws i h) w refl v);
+        (wrote-then byteLayout refusal-apart (streamed (numbersBytes (drop (i + 1) ws))) (numbers-cons ws i h) w refl v);
   }
 
-  pub numbers-done : length ws ≤ i → Wrote byteLayout n room₀ (streamed (numbersBytes ws)) (Done at) room
+  pub numbers-done : length ws ≤ i → Wrote byteLayout byRefusal n room₀ (streamed (numbersBytes ws)) (Done at) room
   unfolding numbersBytes streamed
   numbers-done h =
       let e : streamed (numbersBytes (drop i ws)) ≡ end =
@@ -100,7 +102,7 @@ module _ {bs : List ℕ} {n : ℕ} {room₀ room : List ℕ} {at i : ℕ} (l : B
     left = λ r room″ v. l .left r room″ (wrote-more byteLayout (ap streamed (drop-cons bs i 0 h) ∙ rw (add-one i)) e v);
   }
 
-  pub bytes-done : length bs ≤ i → Wrote byteLayout n room₀ (streamed bs) (Done at) room
+  pub bytes-done : length bs ≤ i → Wrote byteLayout byRefusal n room₀ (streamed bs) (Done at) room
   unfolding streamed
   bytes-done h = l .left (Done at) room (wrote-none byteLayout (ap streamed (drop-of-length-le bs h)))
 
@@ -112,16 +114,16 @@ length-block x = omega (arith, length-append (numbersBytes (blockNumbers x)) (x 
 
 pub block-wrote : (s : Style) (text ws : List ℕ) → ws ≡ styleNumbers s ++ (length text ∷ [])
     → {n at r : ℕ} {room room′ room″ : List ℕ}
-    → Wrote byteLayout n room (streamed (numbersBytes ws)) (Done at) room′
-    → Wrote byteLayout at room′ (streamed text) (Done r) room″
-    → Wrote byteLayout n room (streamed (blockBytes (piece s text))) (Done r) room″
+    → Wrote byteLayout byRefusal n room (streamed (numbersBytes ws)) (Done at) room′
+    → Wrote byteLayout byRefusal at room′ (streamed text) (Done r) room″
+    → Wrote byteLayout byRefusal n room (streamed (blockBytes (piece s text))) (Done r) room″
 unfolding blockBytes
 block-wrote s text ws e w v =
-    wrote-then byteLayout (streamed text) (rw (← e) (streamed-append (numbersBytes ws) text)) w refl v
+    wrote-then byteLayout refusal-apart (streamed text) (rw (← e) (streamed-append (numbersBytes ws) text)) w refl v
 
 -- the place behind twelve numbers
 pub numbers-place : (ws : List ℕ) {n at : ℕ} {room room′ : List ℕ}
-    → Wrote byteLayout n room (streamed (numbersBytes ws)) (Done at) room′
+    → Wrote byteLayout byRefusal n room (streamed (numbersBytes ws)) (Done at) room′
     → at ≤ n + 5 * length ws
 numbers-place ws w = omega (arith, place-after (numbersBytes ws) w, length-numbers ws)
 

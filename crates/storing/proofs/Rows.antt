@@ -13,7 +13,7 @@ use Rattle.answers.specs.declared.Why.the-variants.{StoredField}
 use Rattle.answers.specs.declared.Outcome.{Outcome}
 use Rattle.answers.specs.declared.Outcome.the-variants.{Done, Refused}
 use Rattle.answers.specs.Answers.{refusal}
-use Rattle.rooms.specs.Streams.{Stream, end, stop, andThen}
+use Rattle.rooms.specs.Streams.{Stream, end, stop, andThen, byRefusal}
 use Rattle.rooms.specs.Rooms.{Wrote}
 use Rattle.rooms.proofs.Rooms.{wrote-none, wrote-stop, wrote-then}
 use Rattle.sevens.specs.Sevens.{byteLayout, streamed}
@@ -26,9 +26,11 @@ use Rattle.storing.proofs.Fitting.{Fit, fits-fit}
 use Rattle.storing.specs.Bytes.{blockBytes}
 use Rattle.storing.proofs.Putting.{Ahead, wrote-length, length-block}
 use Rattle.storing.specs.Lists.{piecesFrom, bytesOf}
+use Rattle.answers.specs.declared.Refusal.{Refusal}
+use Rattle.rooms.proofs.Streams.{refusal-apart}
 
 -- the bytes of the records that words are
-abbrev pub rowsOf : List ℕ → Last → ℕ → List ℕ → Stream ℕ
+abbrev pub rowsOf : List ℕ → Last → ℕ → List ℕ → Stream Refusal ℕ
 rowsOf ws l p tx = bytesOf (piecesFrom (length ws / blockWords) l p ws tx)
 
 module _ (l : Last) (p : ℕ) (tx ws : List ℕ) where
@@ -71,19 +73,19 @@ rows-start blocks tx n room s h = record { within = omega arith; place = omega a
 module _ {blocks tx : List ℕ} {n : ℕ} {room₀ room ws : List ℕ} {begun : Bool} {before : Style} {p at : ℕ}
     (l : Rows blocks tx n room₀ room ws begun before p at) where
   stops : rowsOf ws (lastOf begun before) p tx ≡ stop (refusal StoredField) → {r : Outcome} → r ≡ Refused (refusal StoredField)
-      → Wrote byteLayout n room₀ (rowsOf blocks none 0 tx) r room
+      → Wrote byteLayout byRefusal n room₀ (rowsOf blocks none 0 tx) r room
   stops e q = rw q (l .left (Refused (refusal StoredField)) room (wrote-stop byteLayout e refl))
 
   pub rows-stop : blockWords ≤ length ws → {a : Bool} {r : Outcome} → a ≡ fits (lastOf begun before) p ws tx → not a ≡ true
       → r ≡ Refused (refusal StoredField)
-      → Wrote byteLayout n room₀ (rowsOf blocks none 0 tx) r room
+      → Wrote byteLayout byRefusal n room₀ (rowsOf blocks none 0 tx) r room
   rows-stop h {a} e t q = stops (row-bad (lastOf begun before) p tx ws h (sym e ∙ not-true a t)) q
 
   pub rows-over : length ws < blockWords → p < length tx → {r : Outcome} → r ≡ Refused (refusal StoredField)
-      → Wrote byteLayout n room₀ (rowsOf blocks none 0 tx) r room
+      → Wrote byteLayout byRefusal n room₀ (rowsOf blocks none 0 tx) r room
   rows-over h f q = stops (rows-rest (lastOf begun before) p tx ws h (λ e. omega arith)) q
 
-  pub rows-done : length ws < blockWords → length tx ≤ p → Wrote byteLayout n room₀ (rowsOf blocks none 0 tx) (Done at) room
+  pub rows-done : length ws < blockWords → length tx ≤ p → Wrote byteLayout byRefusal n room₀ (rowsOf blocks none 0 tx) (Done at) room
   rows-done h e =
       let q : p ≡ length tx = omega (arith, l .within) in
       l .left (Done at) room (wrote-none byteLayout (rows-end (lastOf begun before) p tx ws h q))
@@ -93,7 +95,7 @@ module _ {blocks tx : List ℕ} {n : ℕ} {room₀ room ws : List ℕ} {begun : 
     row-fit = fits-fit (lastOf begun before) p ws tx (sym e ∙ not-false a t)
 
     pub rows-more : {s : Style} {count : ℕ} → s ≡ styleAt ws → count ≡ lengthAt ws → {at′ : ℕ} {room′ : List ℕ}
-        → Wrote byteLayout at room (streamed (blockBytes (piece s (take (p + count - p) (drop p tx))))) (Done at′) room′
+        → Wrote byteLayout byRefusal at room (streamed (blockBytes (piece s (take (p + count - p) (drop p tx))))) (Done at′) room′
         → Rows blocks tx n room₀ room′ (take (length ws - blockWords) (drop blockWords ws)) true s (p + count) at′
     rows-more {s} {count} es ec {at′} {room′} w =
         let k : p + count - p ≡ lengthAt ws = omega arith in
@@ -102,12 +104,12 @@ module _ {blocks tx : List ℕ} {n : ℕ} {room₀ room ws : List ℕ} {begun : 
         let z : length (x .bytes) ≡ count = simp (length-take, length-drop) (omega (arith, f .within)) in
         let d : take (length ws - blockWords) (drop blockWords ws) ≡ drop blockWords ws =
         take-all (length ws - blockWords) (drop blockWords ws) (simp length-drop (omega arith)) in
-        let next : Stream ℕ = rowsOf (take (length ws - blockWords) (drop blockWords ws)) (last s) (p + count) tx in
+        let next : Stream Refusal ℕ = rowsOf (take (length ws - blockWords) (drop blockWords ws)) (last s) (p + count) tx in
         let c : rowsOf ws (lastOf begun before) p tx ≡ andThen (streamed (blockBytes x)) next =
         row-good (lastOf begun before) p tx ws h (sym e ∙ not-false a t) ∙ rw (k, es, ec, d) in
         record {
           within = omega (arith, l .within, f .within);
           place = omega (arith, l .place, f .some, place-after (blockBytes x) w, length-block x);
           same = wrote-length w ∙ l .same;
-          left = λ r room″ v. l .left r room″ (wrote-then byteLayout next c w refl v);
+          left = λ r room″ v. l .left r room″ (wrote-then byteLayout refusal-apart next c w refl v);
         }

@@ -18,7 +18,7 @@ use Rattle.answers.specs.declared.Why.the-variants.{StoredField, OutputRoom}
 use Rattle.answers.specs.declared.Outcome.the-variants.{Done}
 use Rattle.answers.specs.Answers.{refusal}
 use Rattle.bytes.proofs.Runs.{and-left, and-right}
-use Rattle.rooms.specs.Streams.{Stream, end, stop, andThen, answer}
+use Rattle.rooms.specs.Streams.{Stream, end, stop, andThen, answer, ended}
 use Rattle.rooms.specs.Rooms.{filled, settled, content}
 use Rattle.rooms.proofs.Streams.{answer-then, done-refused}
 use Rattle.rooms.proofs.Rooms.{settled-fits}
@@ -35,6 +35,7 @@ use Rattle.storing.specs.Lists.{piecesFrom, bytesOf, whole, listStream}
 use Rattle.storing.proofs.Lists.{list-is}
 use Rattle.storing.specs.Storing.{writeAnswer, writeRoom}
 use Rattle.storing.specs.Good.{Good}
+use Rattle.answers.specs.declared.Refusal.{Refusal}
 
 -- ---- good blocks
 
@@ -87,7 +88,7 @@ module _ (k : ℕ) (l : Last) (p : ℕ) (ws tx : List ℕ) where
   row-more f = rw f
 
   row-stop : fits l p ws tx ≡ false → (m n : ℕ) → answer m (bytesOf (piecesFrom (suc k) l p ws tx)) ≡ Done n → ⊥
-  unfolding piecesFrom bytesOf answer
+  unfolding piecesFrom bytesOf ended
   row-stop f m n e = done-refused (sym (rw f at e))
 
 blocks-cons : (x : Piece) (xs : List Piece)
@@ -190,7 +191,7 @@ no-words (w ∷ ws) h = absurd (omega arith)
 
 rows-none : (l : Last) (p : ℕ) (ws tx : List ℕ) (m n : ℕ) → length ws ≡ 0
     → answer m (bytesOf (piecesFrom 0 l p ws tx)) ≡ Done n → Rows 0 l p ws tx
-unfolding piecesFrom bytesOf answer records textOf Good blocksBytes streamed
+unfolding piecesFrom bytesOf ended records textOf Good blocksBytes streamed
 rows-none l p ws tx m n z = go (eqb p (length tx)) refl
   where
     go : (t : Bool) → eqb p (length tx) ≡ t → answer m (bytesOf (cond t end (stop (refusal StoredField)))) ≡ Done n
@@ -244,7 +245,7 @@ rows-ends (suc k) l p ws tx m n z a =
         → Rows (suc k) l p ws tx
     go true f ih =
         let b : List ℕ = blockBytes (piece (styleAt ws) (take (lengthAt ws) (drop p tx))) in
-        let s : Stream ℕ = bytesOf (piecesFrom k (last (styleAt ws)) (p + lengthAt ws) (drop blockWords ws) tx) in
+        let s : Stream Refusal ℕ = bytesOf (piecesFrom k (last (styleAt ws)) (p + lengthAt ws) (drop blockWords ws) tx) in
         let e : answer (m + length b) s ≡ Done n =
         sym (answer-then s (streamed b) m (m + length b) (answer-streamed b m))
         ∙ ap (answer m) (sym (row-more k l p ws tx f))
@@ -253,7 +254,7 @@ rows-ends (suc k) l p ws tx m n z a =
     go false f ih = absurd (row-stop k l p ws tx f m n a)
 
 list-whole : (ws tx : List ℕ) {n : ℕ} → answer 0 (listStream ws tx) ≡ Done n → whole ws ≡ true
-unfolding listStream answer
+unfolding listStream ended
 list-whole ws tx {n} = go (whole ws)
   where
     go : (t : Bool)
@@ -270,7 +271,7 @@ stream-ends ws tx {n} a =
     let k : ℕ = length ws / blockWords in
     let m : ℕ = 0 + length (written k) in
     let w : whole ws ≡ true = list-whole ws tx a in
-    let s : Stream ℕ = bytesOf (piecesFrom k none 0 ws tx) in
+    let s : Stream Refusal ℕ = bytesOf (piecesFrom k none 0 ws tx) in
     let b : answer m s ≡ Done n =
     sym (answer-then s (streamed (written k)) 0 m (answer-streamed (written k) 0))
     ∙ ap (answer 0) (sym (list-is ws tx w))
@@ -290,7 +291,7 @@ module _ (xs : List Piece) (total : ℕ) (h : Good none xs ≡ true) (s : length
   unfolding writeAnswer
   good-answer =
       let z : 0 + length (listBytes xs) ≡ length (listBytes xs) = omega arith in
-      ap (λ (y : Stream ℕ). settled byteLayout (refusal OutputRoom) total (answer 0 y)) (stream-good xs h s)
+      ap (λ (y : Stream Refusal ℕ). settled byteLayout (refusal OutputRoom) total (answer 0 y)) (stream-good xs h s)
       ∙ ap (settled byteLayout (refusal OutputRoom) total) (answer-streamed (listBytes xs) 0)
       ∙ ap (λ (n : ℕ). settled byteLayout (refusal OutputRoom) total (Done n)) z
       ∙ settled-fits byteLayout (refusal OutputRoom) total (length (listBytes xs)) (omega arith)

@@ -13,9 +13,10 @@ use Rattle.sevens.specs.Sevens.{written, streamed}
 use Rattle.blocks.specs.Pages.{Piece, piece, Last, none, last, blockWords}
 use Rattle.storing.specs.Fitting.{styleAt, lengthAt, fits}
 use Rattle.storing.specs.Bytes.{blockBytes}
+use Rattle.answers.specs.declared.Refusal.{Refusal}
 
 -- the blocks of k records
-unfoldable pub piecesFrom : ℕ → Last → ℕ → List ℕ → List ℕ → Stream Piece
+unfoldable pub piecesFrom : ℕ → Last → ℕ → List ℕ → List ℕ → Stream Refusal Piece
 piecesFrom zero l p ws tx = cond (eqb p (length tx)) end (stop (refusal StoredField))
 piecesFrom (suc k) l p ws tx =
     cond (fits l p ws tx)
@@ -23,7 +24,7 @@ piecesFrom (suc k) l p ws tx =
     (stop (refusal StoredField))
 
 -- the bytes of blocks, one after the other
-unfoldable pub bytesOf : Stream Piece → Stream ℕ
+unfoldable pub bytesOf : Stream Refusal Piece → Stream Refusal ℕ
 bytesOf end = end
 bytesOf (stop r) = stop r
 bytesOf (x ▸ s) = andThen (streamed (blockBytes x)) (bytesOf s)
@@ -33,7 +34,7 @@ abbrev pub whole : List ℕ → Bool
 whole ws = eqb (length ws % blockWords) 0 && leb (length ws / blockWords) 4294967295
 
 -- the bytes of the list
-unfoldable pub listStream : List ℕ → List ℕ → Stream ℕ
+unfoldable pub listStream : List ℕ → List ℕ → Stream Refusal ℕ
 listStream ws tx =
     cond (whole ws)
     (andThen (streamed (written (length ws / blockWords))) (bytesOf (piecesFrom (length ws / blockWords) none 0 ws tx)))

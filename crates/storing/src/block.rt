@@ -16,11 +16,12 @@ ghost use Rattle.rooms.specs.Rooms.{Wrote};
 ghost use Rattle.sevens.specs.Sevens.{byteLayout, streamed};
 ghost use Rattle.blocks.specs.Pages.{piece};
 ghost use Rattle.storing.specs.Bytes.{numbersBytes, blockBytes};
+ghost use Rattle.rooms.specs.Streams.{byRefusal};
 
 // Numbers one after the other from place n of a room on. The next place.
 fn put_numbers(words: &[u32], room: &mut [u8], n: usize) -> usize
     requires { ⌜ (length (now words) ≤ 12) × (n ≤ 4611686018427387904) ⌝ }
-    ensures { λ r. ⌜ Wrote byteLayout n (now (room .entry)) (streamed (numbersBytes (now (words .entry)))) (Outcome.Done r)
+    ensures { λ r. ⌜ Wrote byteLayout byRefusal n (now (room .entry)) (streamed (numbersBytes (now (words .entry)))) (Outcome.Done r)
         (now (room .exit)) ⌝ }
 {
     let mut at = n;
@@ -36,7 +37,7 @@ fn put_numbers(words: &[u32], room: &mut [u8], n: usize) -> usize
 // Bytes from place n of a room on. The next place.
 fn put_bytes(bytes: &[u8], room: &mut [u8], n: usize) -> usize
     requires { ⌜ n ≤ 4611686018427387904 ⌝ }
-    ensures { λ r. ⌜ Wrote byteLayout n (now (room .entry)) (streamed (now (bytes .entry))) (Outcome.Done r)
+    ensures { λ r. ⌜ Wrote byteLayout byRefusal n (now (room .entry)) (streamed (now (bytes .entry))) (Outcome.Done r)
         (now (room .exit)) ⌝ }
 {
     let mut at = n;
@@ -53,7 +54,7 @@ fn put_bytes(bytes: &[u8], room: &mut [u8], n: usize) -> usize
 // A block from place n of a room on: its numbers, then its text. The next place.
 pub fn put_block(s: Style, text: &[u8], room: &mut [u8], n: usize) -> usize
     requires { ⌜ (length (now text) < 4294967296) × (n ≤ 1152921504606846976) ⌝ }
-    ensures { λ r. ⌜ Wrote byteLayout n (now (room .entry)) (streamed (blockBytes (piece s (now (text .entry)))))
+    ensures { λ r. ⌜ Wrote byteLayout byRefusal n (now (room .entry)) (streamed (blockBytes (piece s (now (text .entry)))))
         (Outcome.Done r) (now (room .exit)) ⌝ }
 {
     let before = fold(s.before);

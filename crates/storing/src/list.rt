@@ -22,6 +22,7 @@ ghost use Rattle.rooms.specs.Rooms.{Wrote};
 ghost use Rattle.sevens.specs.Sevens.{byteLayout};
 ghost use Rattle.blocks.specs.Pages.{none, blockWords};
 ghost use Rattle.storing.specs.Lists.{piecesFrom, bytesOf, listStream};
+ghost use Rattle.rooms.specs.Streams.{byRefusal};
 
 // 24, for words or a text that cannot be stored.
 fn unfit() -> Outcome
@@ -33,7 +34,7 @@ fn unfit() -> Outcome
 // The blocks of all records. The next place, if their text is the whole text.
 fn put_blocks(blocks: &[u32], text: &[u8], room: &mut [u8], n: usize) -> Outcome
     requires { ⌜ n ≤ 5 ⌝ }
-    ensures { λ r. ⌜ Wrote byteLayout n (now (room .entry))
+    ensures { λ r. ⌜ Wrote byteLayout byRefusal n (now (room .entry))
         (bytesOf (piecesFrom (length (now (blocks .entry)) / blockWords) none 0 (now (blocks .entry)) (now (text .entry))))
         r (now (room .exit)) ⌝ }
 {
@@ -61,7 +62,7 @@ fn put_blocks(blocks: &[u32], text: &[u8], room: &mut [u8], n: usize) -> Outcome
 
 // The whole list, from the start of a room on.
 pub fn put_list(blocks: &[u32], text: &[u8], room: &mut [u8]) -> Outcome
-    ensures { λ r. ⌜ Wrote byteLayout 0 (now (room .entry)) (listStream (now (blocks .entry)) (now (text .entry))) r
+    ensures { λ r. ⌜ Wrote byteLayout byRefusal 0 (now (room .entry)) (listStream (now (blocks .entry)) (now (text .entry))) r
         (now (room .exit)) ⌝ }
 {
     let count = blocks.len() / BLOCK_WORDS;

@@ -3,10 +3,10 @@ use mathlib.Core.Path.{_≡_, refl}
 use mathlib.Core.List.{List, [], _∷_}
 use Prim.Native.Nat.{ℕ}
 use Rattle.bytes.specs.Texts.{bytesOf}
-use Rattle.names.specs.Names.{wordNumber, names}
+use Rattle.names.specs.Names.{wordNumber, names, placeIn, sameBytes}
 use Rattle.tokens.specs.WordNumbers as words
 
-numbersOf : List (List ℕ) → List ℕ
+abbrev numbersOf : List (List ℕ) → List ℕ
 numbersOf [] = []
 numbersOf (n ∷ ns) = wordNumber n ∷ numbersOf ns
 
@@ -18,10 +18,10 @@ pub words-numbered : numbersOf names
     ∷ words.justify ∷ words.center ∷ words.firstLineIndent ∷ words.rightIndent ∷ words.leftIndent ∷ words.spaceBefore ∷ words.spaceAfter
     ∷ words.spaceBetweenLine ∷ words.spaceLineMul ∷ words.colourRed ∷ words.colourGreen ∷ words.colourBlue ∷ words.emdash ∷ words.endash
     ∷ words.bullet ∷ words.leftSingleQuote ∷ words.rightSingleQuote ∷ words.leftDoubleQuote ∷ words.rightDoubleQuote ∷ words.tab ∷ words.line ∷ []
-unfolding wordNumber
+unfolding wordNumber placeIn sameBytes
 words-numbered = refl
 
 -- any other word is unknown
 pub word-unknown : wordNumber (bytesOf "sect") ≡ words.unknown
-unfolding wordNumber
+unfolding wordNumber placeIn sameBytes
 word-unknown = refl

@@ -26,6 +26,11 @@ pub record Token : Type 0 where
   pub length : ℕ
   pub shows : Shown
 
+-- what tokens show
+unfoldable pub shownBy : List Token → List Shown
+shownBy [] = []
+shownBy (t ∷ ts) = t .shows ∷ shownBy ts
+
 -- "1 if a number is present, that number modulo 2^32"
 abbrev pub hasOf : Property → ℕ
 hasOf None = 0

@@ -21,7 +21,7 @@ use Rattle.rooms.specs.Rooms.{tableLimit}
 use Rattle.rooms.proofs.Streams.{Each}
 use Rattle.tokens.specs.declared.Property.{Property}
 use Rattle.tokens.specs.declared.Property.the-variants.{None, Value}
-use Rattle.tokens.specs.Tokens.{Shown, Token}
+use Rattle.tokens.specs.Tokens.{Shown, Token, shownBy}
 use Rattle.tokens.specs.Tokens
 use Rattle.tokenize.proofs.Places.{Stands}
 use Rattle.cutter.specs.Cutting.{tokenStream}
@@ -39,10 +39,10 @@ use Rattle.header.specs.Entering.{Tables, withFonts, withColours, readStep}
 use Rattle.header.specs.Header.{noTables, nextStep, tablesFrom, tables}
 use Rattle.readings.specs.declared.Reading.{Reading}
 use Rattle.blocks.specs.Pages.{Piece}
-use Rattle.parser.specs.Parsing.{Letter, ended}
-use Rattle.reader.specs.Reading.{shownBy}
+use Rattle.parser.specs.Parsing.{Letter, letterFrom}
 use Rattle.veil.specs.Said.{namesIn, saidBy}
 use Rattle.veil.proofs.Steps.{laid, finished, stepped, first, ownNames, sayOf}
+use Rattle.answers.specs.declared.Refusal.{Refusal}
 
 module _ (src : List ℕ) where
   -- ---- tokens: the bytes of a text stand at its place
@@ -70,7 +70,7 @@ module _ (src : List ℕ) where
   text-at (Shown.word w num) a = tt
   text-at (Shown.unknown p bs num) a = tt
 
-  texts-at : (s : Stream Token) → Each (Placed src) s → TextsAt (shownBy (items s))
+  texts-at : (s : Stream Refusal Token) → Each (Placed src) s → TextsAt (shownBy (items s))
   unfolding items shownBy
   texts-at end h = tt
   texts-at (stop r) h = tt
@@ -256,7 +256,7 @@ module _ (src : List ℕ) where
   LetterAt (found l) = NamesAt (l .tables .fonts)
   LetterAt (refused r) = Unit {0}
 
-  ended-at : (h : Tables) (s : Stream Piece) (o : Outcome) → NamesAt (h .fonts) → LetterAt (ended h s o)
+  ended-at : (h : Tables) (s : Stream Refusal Piece) (o : Outcome) → NamesAt (h .fonts) → LetterAt (letterFrom h s o)
   ended-at h s (Done n) k = k
   ended-at h s (Refused r) k = tt
 

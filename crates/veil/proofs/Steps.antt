@@ -36,18 +36,19 @@ use Rattle.styles.specs.Styles.{fresh}
 use Rattle.blocks.specs.Pages.{Piece, blocks, textOf, blockWords, textCapacity, none, roomy}
 use Rattle.body.specs.Body.{Item, token, run, apart, joined, keptItems, gather, Asked, tokenAsks, bareAsks, asks, statesOf}
 use Rattle.body.specs.Body.{uttered, bodyFrom, body}
-use Rattle.parser.specs.Parsing.{begun, Sizes, Letter, ended, placed, bodied, headed, walked}
+use Rattle.parser.specs.Parsing.{begun, Sizes, Letter, letterFrom, placed, bodied, headed, walked}
 use Rattle.veil.specs.Said.{Named, Said, refuses, says}
 use Rattle.veil.proofs.Bare.{bare, bareAll, bareStep, bareSteps}
+use Rattle.answers.specs.declared.Refusal.{Refusal}
 
 -- ---- a letter by its steps, in rooms for so many fonts and colours, and of b words and t bytes
 
 module _ (rd : Reading) (b t : ℕ) (ss : List Step) where
-  abbrev pub laid : Stream Piece
+  abbrev pub laid : Stream Refusal Piece
   laid = roomy (capacity blockWords b) (textCapacity t) none (body rd ss)
 
   abbrev pub finished : Found Tables → Found Letter
-  finished (found h) = ended h laid (answer 0 laid)
+  finished (found h) = letterFrom h laid (answer 0 laid)
   finished (refused r) = refused r
 
 module _ (rd : Reading) (f c b t : ℕ) where
@@ -387,7 +388,7 @@ unfolding ownNames bareFonts
 names-bare [] = refl
 names-bare (f ∷ fs) = ap (λ (l : List Named). ownName f ∷ l) (names-bare fs)
 
-ended-bare : (h : Tables) (s : Stream Piece) (o : Outcome) → sayOf (ended (bareTables h) s o) ≡ sayOf (ended h s o)
+ended-bare : (h : Tables) (s : Stream Refusal Piece) (o : Outcome) → sayOf (letterFrom (bareTables h) s o) ≡ sayOf (letterFrom h s o)
 ended-bare h s (Done n) = rw (names-bare (h .fonts))
 ended-bare h s (Refused r) = refl
 

@@ -39,13 +39,13 @@ same-length : tie.Need-same-length
 same-length c = search needs
 
 returns-2 : tie.Need-returns-2
-returns-2 c = fonts-read _ _ _ _ _ _ (c .before .before .before .before .before .before .before .before .before .if1 .left) (c .before .before .before .before .before .before .before .before .extent .ensures .0 _) (c .before .before .before .before .before .before .before .before .extent .ensures .1) _ (c .before .before .before .before .before .read-fonts .ensures) (c .before .o .given .1)
+returns-2 c = fonts-read _ _ _ _ _ _ (c .before .before .before .before .before .before .before .before .before .if1 .left) (c .before .before .before .before .before .before .before .before .extent .ensures .0 _) (c .before .before .before .before .before .before .before .before .extent .ensures .1) _ _ (c .before .before .before .before .before .read-fonts .ensures) (c .before .o .given .1)
 
 same-length-2 : tie.Need-same-length-2
 same-length-2 c = search needs
 
 returns-3 : tie.Need-returns-3
-returns-3 c = fonts-bad _ _ _ _ _ _ (c .before .before .before .before .before .before .before .before .before .if1 .left) (c .before .before .before .before .before .before .before .before .extent .ensures .0 _) (c .before .before .before .before .before .before .before .before .extent .ensures .1) _ (c .before .before .before .before .before .read-fonts .ensures) (c .before .o2 .given .1)
+returns-3 c = fonts-bad _ _ _ _ _ _ (c .before .before .before .before .before .before .before .before .before .if1 .left) (c .before .before .before .before .before .before .before .before .extent .ensures .0 _) (c .before .before .before .before .before .before .before .before .extent .ensures .1) _ _ (c .before .before .before .before .before .read-fonts .ensures) (c .before .o2 .given .1)
 
 pub font-table-spec : {M : Type 1} → statement M
 font-table-spec =

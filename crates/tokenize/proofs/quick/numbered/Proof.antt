@@ -1,4 +1,5 @@
 -- `numbered` meets its contract: no number, a number, or one that is none. Assumes nothing.
+use mathlib.Core.Path.{refl}
 use native.Mathlib.Omega.{arith}
 use lib.ListN.{length-take}
 use borrow.Author.Needs.{needs}
@@ -10,7 +11,6 @@ use Rattle.tokenize.proofs.quick.numbered.Statement.{statement}
 use Rattle.tokenize.proofs.quick.numbered.Tie as tie
 use Rattle.tokenize.proofs.quick.numbered.Reads as reads
 use Rattle.tokenize.proofs.quick.numbered.Lts as lts
-use Rattle.answers.proofs.Refusal.of.Reads as of-reads
 use Rattle.numbers.proofs.decimal_of.Reads as decimal-of-reads
 use Rattle.tokenize.proofs.word_record.Reads as word-record-reads
 use Rattle.tokens.proofs.put.Reads as put-reads
@@ -45,9 +45,6 @@ decimal-of-requires c κs = search needs
 enum-told : tie.Need-enum-told
 enum-told c = search needs
 
-of-requires : tie.Need-of-requires
-of-requires c κs = search needs
-
 enum-known-number : tie.Need-enum-known-number
 enum-known-number c = search needs
 
@@ -60,11 +57,11 @@ word-record-requires-2 c κs = (simp length-take (omega arith), search needs)
 put-requires-2 : tie.Need-put-requires-2
 put-requires-2 c κs = search needs
 
-add-t30 : tie.Need-add-t30
-add-t30 c = search needs
+add-t29 : tie.Need-add-t29
+add-t29 c = search needs
 
 returns-2 : tie.Need-returns-2
-returns-2 c = wrote-stop shownLayout (named-bad _ _ _ (c .before .before .before .before .before .before .before .before .pre .1 .0) (c .before .before .before .before .before .if1 .left) _ (c .before .before .before .decimal-of .ensures) (c .before .enum-told .given .1)) (c .of .ensures)
+returns-2 c = wrote-stop shownLayout (named-bad _ _ _ (c .before .before .before .before .before .before .before .pre .1 .0) (c .before .before .before .before .if1 .left) _ (c .before .before .decimal-of .ensures) (c .enum-told .given .1)) refl
 
 same-length-2 : tie.Need-same-length-2
 same-length-2 c = search needs
@@ -86,12 +83,11 @@ numbered-spec =
     part-decimal-of-end
     decimal-of-requires
     enum-told
-    of-requires
     enum-known-number
     slice-aggregate-word-record
     word-record-requires-2
     put-requires-2
-    add-t30
+    add-t29
     returns-2
     same-length-2
     returns-3)

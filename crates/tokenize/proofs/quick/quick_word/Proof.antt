@@ -16,6 +16,7 @@ use Rattle.tokenize.proofs.quick.ends_at.Reads as ends-at-reads
 use Rattle.tokenize.proofs.quick.letters_of.Reads as letters-of-reads
 use Rattle.tokenize.proofs.quick.numbered.Reads as numbered-reads
 use Rattle.tokenize.proofs.word.Reads as word-reads
+use Rattle.rooms.proofs.Streams.{name-apart}
 
 letters-of-requires : tie.Need-letters-of-requires
 letters-of-requires c κs = search needs
@@ -73,7 +74,7 @@ same-length-2 c = search needs
 returns-2 : tie.Need-returns-2
 returns-2 c =
     let h = simp (length-take, length-drop) at (c .before .before .before .before .before .before .before .before .before .before .lead-of .ensures .1) in
-    wrote-stops shownLayout _ (word-shape _ _ _ (c .before .before .before .before .before .before .before .before .before .before .before .before .letters-of .ensures .0) (c .before .before .before .before .before .before .before .before .before .before .lead-of .ensures .0) _ (c .before .before .before .before .before .before .before .before .before .ends-at .ensures) (c .before .before .before .before .before .before .before .before .if1 .left) _ (omega (arith, h, c .before .before .before .before .before .before .before .before .before .before .before .before .letters-of .ensures))) (c .before .before .before .before .before .numbered .ensures) (c .before .first .given .1)
+    wrote-stops shownLayout name-apart _ (word-shape _ _ _ (c .before .before .before .before .before .before .before .before .before .before .before .before .letters-of .ensures .0) (c .before .before .before .before .before .before .before .before .before .before .lead-of .ensures .0) _ (c .before .before .before .before .before .before .before .before .before .ends-at .ensures) (c .before .before .before .before .before .before .before .before .if1 .left) _ (omega (arith, h, c .before .before .before .before .before .before .before .before .before .before .before .before .letters-of .ensures))) (c .before .before .before .before .before .numbered .ensures) (c .before .first .given .1)
 
 same-length-3 : tie.Need-same-length-3
 same-length-3 c = search needs
@@ -81,7 +82,7 @@ same-length-3 c = search needs
 returns-3 : tie.Need-returns-3
 returns-3 c =
     let h = simp (length-take, length-drop) at (c .before .before .before .before .before .before .before .before .before .before .before .before .before .before .lead-of .ensures .1) in
-    wrote-then shownLayout _ (word-shape _ _ _ (c .before .before .before .before .before .before .before .before .before .before .before .before .before .before .before .before .letters-of .ensures .0) (c .before .before .before .before .before .before .before .before .before .before .before .before .before .before .lead-of .ensures .0) _ (c .before .before .before .before .before .before .before .before .before .before .before .before .before .ends-at .ensures) (c .before .before .before .before .before .before .before .before .before .before .before .before .if1 .left) _ (omega (arith, h, c .before .before .before .before .before .before .before .before .before .before .before .before .before .before .before .before .letters-of .ensures))) (c .before .before .before .before .before .before .before .before .before .numbered .ensures) (c .before .before .before .before .before .first2 .given .1) (c .before .before .behind .ensures)
+    wrote-then shownLayout name-apart _ (word-shape _ _ _ (c .before .before .before .before .before .before .before .before .before .before .before .before .before .before .before .before .letters-of .ensures .0) (c .before .before .before .before .before .before .before .before .before .before .before .before .before .before .lead-of .ensures .0) _ (c .before .before .before .before .before .before .before .before .before .before .before .before .before .ends-at .ensures) (c .before .before .before .before .before .before .before .before .before .before .before .before .if1 .left) _ (omega (arith, h, c .before .before .before .before .before .before .before .before .before .before .before .before .before .before .before .before .letters-of .ensures))) (c .before .before .before .before .before .before .before .before .before .numbered .ensures) (c .before .before .before .before .before .first2 .given .1) (c .before .before .behind .ensures)
 
 pub quick-word-spec : {M : Type 1} → statement M
 quick-word-spec =
