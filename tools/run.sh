@@ -74,7 +74,7 @@ build() {
     [ ! -x "$here/target/bin/$1" ] || [ ! -f "$here/target/stamp/$1" ] || return 0
     need_rt 'prove and build'
     log=target/$1.log
-    say "proving and building the program once, crate by crate; this takes some minutes, and $log has the details"
+    say "proving and building the program once, crate by crate, in some minutes; $log has the details"
     mkdir -p "$here/target"
     rm -f "$here/target/stamp/$1"
     {
@@ -102,5 +102,6 @@ run() (
 
 # The number's row in the catalogue.
 explain() {
-    say "$(awk -F ' *[|] *' -v n="$1" '$2 == n { print "refused by " n ", " $3 ": " $4 " (docs/REFUSALS.md)" }' "$here/docs/REFUSALS.md")"
+    row=$(awk -F ' *[|] *' -v n="$1" '$2 == n { print n ", " $3 ": " $4 }' "$here/docs/REFUSALS.md")
+    say "refused by $row (docs/REFUSALS.md)"
 }

@@ -4,8 +4,8 @@
 //! allocated, and an answer is what stands in them. A refusal is an error, and leaves every room
 //! zero. Behind what an answer counts, rooms are zero too. What was in a room is never read.
 //!
-//! Link the archive that `rt staticlib host` writes, `target/staticlib/libhost.a`. It is proved; this
-//! file is not. See `host/README.md`.
+//! Link the archive that `rt staticlib host` writes, `target/staticlib/libhost.a`. The archive is
+//! proved, this file is not. See `host/README.md`.
 
 #![warn(missing_docs)]
 
@@ -57,7 +57,7 @@ macro_rules! refusals {
             /// Every refusal, in the order of numbers.
             pub const ALL: &'static [Refusal] = &[$(Refusal::$name,)*];
 
-            /// The refusal of that number; none for 0, which is success, and for a number not given.
+            /// The refusal of that number; none for 0, which is success, and for other numbers.
             pub const fn from_number(number: u32) -> Option<Refusal> {
                 match number {
                     $($number => Some(Refusal::$name),)*
@@ -153,8 +153,8 @@ impl fmt::Display for Refusal {
 
 impl Error for Refusal {}
 
-/// What the archive exports, as `host/elduvarn.h` declares it. Each slice is a pointer, not null and
-/// aligned, and a length; a room overlaps no other slice. Lengths and contents are free.
+/// What the archive exports, as `host/elduvarn.h` declares it. Each slice is a pointer, not null
+/// and aligned, and a length; a room overlaps no other slice. Lengths and contents are free.
 mod exported {
     #[repr(C)]
     pub struct CutAnswer {
@@ -214,8 +214,8 @@ mod exported {
 
 /// Cuts a letter into tokens. Refusals 1 to 7. A letter of n bytes has at most n tokens.
 pub fn cut<'a>(source: &[u8], tokens: &'a mut [Token]) -> Result<&'a [Token], Refusal> {
-    // SAFETY: both are slices, so not null, aligned, and of that many elements; the room is borrowed
-    // for writing, so it overlaps nothing.
+    // SAFETY: both are slices, so not null, aligned, and of that many elements; the room is
+    // borrowed for writing, so it overlaps nothing.
     let answer = unsafe {
         exported::elduvarn_cut(
             source.as_ptr(),
@@ -237,7 +237,7 @@ pub enum Reading {
     Paragraphs,
 }
 
-/// What is lent to [`read`]. A letter of n bytes has at most n tokens, n blocks and n bytes of text.
+/// What is lent to [`read`]. A letter of n bytes has at most n tokens, n blocks, n bytes of text.
 pub struct Rooms<'a> {
     /// For tokens.
     pub tokens: &'a mut [Token],
@@ -267,7 +267,7 @@ pub struct Letter<'a> {
 }
 
 impl<'a> Letter<'a> {
-    /// The text as a string. That it is UTF-8 is proved of the reader, and looked at again here.
+    /// The text as a string. That it is UTF-8 is proved, and looked at again here.
     pub fn text_str(&self) -> Result<&'a str, Utf8Error> {
         from_utf8(self.text)
     }
@@ -283,8 +283,8 @@ pub fn read<'a>(
         Reading::Plain => exported::elduvarn_read_plain,
         Reading::Paragraphs => exported::elduvarn_read_paragraphs,
     };
-    // SAFETY: all are slices, so not null, aligned, and of that many elements; the rooms are borrowed
-    // for writing, so each overlaps nothing.
+    // SAFETY: all are slices, so not null, aligned, and of that many elements; the rooms are
+    // borrowed for writing, so each overlaps nothing.
     let answer = unsafe {
         by(
             source.as_ptr(),
@@ -316,7 +316,7 @@ pub mod stored {
     use super::{exported, from_utf8, Block, Refusal, Utf8Error, BLOCK_WORDS};
 
     /// Bytes that hold the list of so many blocks and bytes of text, whatever they are: a block
-    /// count of five groups; per block at most 42 groups (3 times 3, 1, 1, 2 times 5, 1, 4 times 5).
+    /// count of five groups; per block at most 42 (3 times 3, 1, 1, 2 times 5, 1, 4 times 5).
     pub const fn most(blocks: usize, text: usize) -> usize {
         5 + 42 * blocks + text
     }
@@ -338,7 +338,7 @@ pub mod stored {
     }
 
     impl<'a> Page<'a> {
-        /// The text as a string. That it is UTF-8 is proved of the reader, and looked at again here.
+        /// The text as a string. That it is UTF-8 is proved, and looked at again here.
         pub fn text_str(&self) -> Result<&'a str, Utf8Error> {
             from_utf8(self.text)
         }

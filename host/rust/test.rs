@@ -3,8 +3,8 @@
 //!     test          makes all calls; the last line counts them
 //!     test names    lists the refusals by number and name
 //!
-//! Exit status: 0 all passed, 1 not. Expected answers are read off document 01 and docs/REFUSALS.md.
-//! What happens at the borders of a room is tested by ../test.c.
+//! Exit status: 0 all passed, 1 not. Expected answers are read off document 01 and
+//! docs/REFUSALS.md. What happens at the borders of a room is tested by ../test.c.
 
 use elduvarn::{
     cut, read, stored, Block, Colour, Font, Letter, Reading, Refusal, Rooms, Token, BLOCK_WORDS,
