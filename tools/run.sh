@@ -82,7 +82,7 @@ build() {
         (cd "$here" && RT_CUT=${RT_CUT:-200} rt check "$1") </dev/null 2>&1 || status=$?
         echo "rt ended with status $status"
     } | follow "$here/$log" "$(count_crates "$1")" && return
-    say "FAILED: the program could not be proved and built. The last lines of $log, where all is told:"
+    say "FAILED: the program could not be proved and built; the last lines of $log:"
     grep -v -e '^library ' -e 'NOT PROVED: its dependency' "$here/$log" | tail -n 15 >&2
     exit 3
 }
