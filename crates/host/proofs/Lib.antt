@@ -1,2 +1,3 @@
--- Told: answers as a host gets them, case by case.
-mod Told
+-- Answers: by their parts. Tight: one result is permitted of each exported function.
+mod Answers
+pub mod Tight

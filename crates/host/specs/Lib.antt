@@ -1,2 +1,2 @@
--- Told: answers as a host gets them.
-pub mod Told
+-- Exports: what the exported functions answer and promise.
+pub mod Exports

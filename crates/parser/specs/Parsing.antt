@@ -1,5 +1,5 @@
 -- 01, Answer numbers 8 to 20: tokens become tables, blocks and text. Assumes nothing: these are definitions.
-use Prim.Native.Nat.{ℕ}
+use Prim.Native.Nat.{ℕ, _≤_}
 use mathlib.Core.List.{List, [], _∷_}
 use lib.ListN.{length}
 use Rattle.answers.specs.declared.Why.the-variants.{NoTokens, FirstToken}
@@ -14,7 +14,7 @@ use Rattle.walk.specs.Walk.{walk}
 use Rattle.header.specs.Entering.{Tables}
 use Rattle.header.specs.Header.{tables}
 use Rattle.readings.specs.declared.Reading.{Reading}
-use Rattle.blocks.specs.Pages.{Piece, blockWords, textCapacity, none, roomy}
+use Rattle.blocks.specs.Pages.{Piece, blockWords, textCapacity, none, roomy, blocks, textOf}
 use Rattle.body.specs.Body.{body}
 use Rattle.parser.specs.declared.Counts.{Counts}
 use Rattle.parser.specs.declared.Answer.{Answer}
@@ -84,3 +84,14 @@ noCounts = record { tokens = 0; fonts = 0; colours = 0; blocks = 0; text = 0 }
 abbrev pub answerCounts : Answer → Counts
 answerCounts (Read n) = n
 answerCounts (Refuses r) = noCounts
+
+-- how much a letter of n tokens has, if it was read: what hosts rely on, who count in 32 bits
+pub record Few (n : ℕ) (l : Letter) : Type 0 where
+  pub fonts : length (l .tables .fonts) ≤ 256
+  pub colours : length (l .tables .colours) ≤ 256
+  pub blocks : length (blocks (l .pieces)) ≤ n
+  pub text : length (textOf (l .pieces)) ≤ 2147483647
+
+abbrev pub FewIn : ℕ → Found Letter → Type 0
+FewIn n (found l) = Few n l
+FewIn n (refused r) = Unit {0}

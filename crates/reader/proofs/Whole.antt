@@ -3,26 +3,28 @@
 --     read-refused, read-done      the answer and the five rooms
 -- Assumes nothing.
 use mathlib.Core.Path.{_≡_, refl, sym, ap, _∙_}
-use mathlib.Core.List.{List}
-use Prim.Native.Nat.{ℕ}
+use mathlib.Core.List.{List, [], _∷_}
+use Prim.Native.Nat.{ℕ, suc, _≤_}
 use native.Mathlib.Omega.{arith}
-use lib.ListN.{replicate}
+use lib.ListN.{length, replicate}
 use Rattle.answers.specs.declared.Refusal.{Refusal}
 use Rattle.answers.specs.declared.Outcome.{Outcome}
 use Rattle.answers.specs.declared.Outcome.the-variants.{Done, Refused}
 use Rattle.answers.specs.Answers.{Found, found, refused}
 use Rattle.rooms.specs.Streams.{items}
 use Rattle.rooms.specs.Rooms.{encode, filled, content}
-use Rattle.tokens.specs.Tokens.{Shown, tokenLayout, shownBy}
+use Rattle.tokens.specs.Tokens.{Shown, Token, tokenLayout, shownBy}
 use Rattle.cutter.specs.Cutting.{tokenStream, cutAnswer, cutRoom}
 use Rattle.tokens.specs.Items.{shownAll}
 use Rattle.readings.specs.declared.Reading.{Reading}
 use Rattle.parser.specs.declared.Counts.{Counts}
 use Rattle.parser.specs.declared.Answer.{Answer}
 use Rattle.parser.specs.declared.Answer.the-variants.{Read, Refuses}
-use Rattle.parser.specs.Parsing.{begun, Sizes, Letter, walked}
+use Rattle.blocks.specs.Pages.{blocks}
+use Rattle.parser.specs.Parsing.{begun, Sizes, Letter, walked, Few, FewIn}
+use Rattle.parser.proofs.Few.{letter-few}
 use Rattle.parser.specs.Parts.{LetterInto}
-use Rattle.reader.specs.Reading.{cut, letterOf, tokenCount, readAnswer, tokenRoom, fontRoom, colourRoom, blockRoom, textRoom, Reads}
+use Rattle.reader.specs.Reading.{cut, letterOf, tokenCount, countsOf, readAnswer, tokenRoom, fontRoom, colourRoom, blockRoom, textRoom, Reads}
 
 zeros : {l : List ℕ} {n m : ℕ} → l ≡ replicate n 0 → n ≡ m → l ≡ replicate m 0
 zeros e q = e ∙ rw q
@@ -31,6 +33,20 @@ zeros e q = e ∙ rw q
 cut-room : (src : List ℕ) (total : ℕ) {n : ℕ} → Done n ≡ cutAnswer src total → cutRoom src total ≡ filled total (encode tokenLayout (tokenStream src))
 unfolding cutRoom content
 cut-room src total e = ap (λ (a : Outcome). content tokenLayout total a (tokenStream src)) (sym e)
+
+length-shown : (ts : List Token) → length (shownBy ts) ≡ length ts
+unfolding shownBy
+length-shown [] = refl
+length-shown (t ∷ ts) = ap suc (length-shown ts)
+
+-- a letter has at most as many blocks as its source has tokens
+letter-counted : (rd : Reading) (src : List ℕ) (z : Sizes) → FewIn (tokenCount src) (letterOf rd src z)
+unfolding letterOf
+letter-counted rd src z = go (cutAnswer src (z .tokens))
+  where
+    go : (o : Outcome) → FewIn (tokenCount src) (cut rd z (items (tokenStream src)) o)
+    go (Done n) = rw length-shown at (letter-few rd z (shownBy (items (tokenStream src))))
+    go (Refused r) = tt
 
 module _ (rd : Reading) (src : List ℕ) (z : Sizes) where
   pub read-refused : {k : Refusal} → letterOf rd src z ≡ refused k → {r : Answer} {tk fs cs bs tx : List ℕ} → r ≡ Refuses k → {n₁ n₂ n₃ n₄ n₅ : ℕ} → tk ≡ replicate n₁ 0 → n₁ ≡ z .tokens
@@ -44,6 +60,7 @@ module _ (rd : Reading) (src : List ℕ) (z : Sizes) where
     colours = rw e (zeros d d′);
     blocks = rw e (zeros f f′);
     text = rw e (zeros g g′);
+    counted = λ c q. absurd (let w : Refuses k ≡ Read c = sym a ∙ q in let v : _≡_ {A = ℕ} 0 1 = cc in omega arith);
   }
 
   -- refused by the cutter
@@ -80,20 +97,24 @@ module _ (rd : Reading) (src : List ℕ) (z : Sizes) where
         go (Refused r) e = absurd (let w : refused r ≡ found l = ap (cut rd z (items (tokenStream src))) e ∙ v in let u : _≡_ {A = ℕ} 0 1 = cc in omega arith)
 
     into-done : (l : Letter) → letterOf rd src z ≡ found l → LetterInto (found l) (tokenCount src) a fs cs bs tx (z .fonts) (z .colours) (z .blocks) (z .text)
-        → {tk : List ℕ} → tk ≡ filled (z .tokens) (encode tokenLayout (tokenStream src)) → Reads rd src z a tk fs cs bs tx
+        → {tk : List ℕ} → tk ≡ filled (z .tokens) (encode tokenLayout (tokenStream src)) → tokenCount src ≤ 65536 → Reads rd src z a tk fs cs bs tx
     unfolding readAnswer tokenRoom fontRoom colourRoom blockRoom textRoom
-    into-done l v y q = record {
+    into-done l v y q few = record {
       answer = rw v (y .0);
       tokens = rw v q;
       fonts = rw v (y .1);
       colours = rw v (y .2);
       blocks = rw v (y .3);
       text = rw v (y .4);
+      counted = λ c i.
+          let w : Few (tokenCount src) l = rw v at (letter-counted rd src z) in
+          let e : countsOf src l ≡ c = (let j : Read (countsOf src l) ≡ Read c = sym (y .0) ∙ i in cc) in
+          rw (← e) (record { tokens = few; fonts = w .fonts; colours = w .colours; blocks = (let b : length (blocks (l .pieces)) ≤ tokenCount src = w .blocks in omega arith); text = w .text });
     }
 
-    pub read-done : {c : Counts} → a ≡ Read c → {tk : List ℕ} → tk ≡ cutRoom src (z .tokens) → Reads rd src z a tk fs cs bs tx
-    read-done {c} i {tk} q = go (letterOf rd src z) refl g
+    pub read-done : {c : Counts} → a ≡ Read c → tokenCount src ≤ 65536 → {tk : List ℕ} → tk ≡ cutRoom src (z .tokens) → Reads rd src z a tk fs cs bs tx
+    read-done {c} i few {tk} q = go (letterOf rd src z) refl g
       where
         go : (x : Found Letter) → letterOf rd src z ≡ x → LetterInto x (tokenCount src) a fs cs bs tx (z .fonts) (z .colours) (z .blocks) (z .text) → Reads rd src z a tk fs cs bs tx
         go (refused r) v y = absurd (let w : Read c ≡ Refuses r = sym i ∙ y in let u : _≡_ {A = ℕ} 0 1 = cc in omega arith)
-        go (found l) v y = into-done l v y (q ∙ was-cut l v)
+        go (found l) v y = into-done l v y (q ∙ was-cut l v) few

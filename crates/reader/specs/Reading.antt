@@ -1,6 +1,6 @@
 -- 01, Answer numbers: a letter read whole: the one answer, and the one content of the five lent rooms. Assumes nothing: these
 -- are definitions.
-use Prim.Native.Nat.{ℕ}
+use Prim.Native.Nat.{ℕ, _≤_}
 use mathlib.Core.Path.{_≡_}
 use mathlib.Core.List.{List, [], _∷_}
 use lib.ListN.{length, replicate}
@@ -70,7 +70,15 @@ blockRoom rd src z = holding (z .blocks) (λ (l : Letter). records 0 (blocks (l 
 unfoldable pub textRoom : Reading → List ℕ → Sizes → List ℕ
 textRoom rd src z = holding (z .text) (λ (l : Letter). textOf (l .pieces)) (letterOf rd src z)
 
--- What `read` promises: the one answer, and the one content of each room.
+-- counts of a letter that was read: each fits 32 bits, as hosts count
+pub record Counted (c : Counts) : Type 0 where
+  pub tokens : c .tokens ≤ 65536
+  pub fonts : c .fonts ≤ 256
+  pub colours : c .colours ≤ 256
+  pub blocks : c .blocks ≤ 65536
+  pub text : c .text ≤ 2147483647
+
+-- What `read` promises: the one answer, and the one content of each room. That the counts are small follows, and is said with them.
 pub record Reads (rd : Reading) (src : List ℕ) (z : Sizes) (r : Answer) (tk fs cs bs tx : List ℕ) : Type 0 where
   pub answer : r ≡ readAnswer rd src z
   pub tokens : tk ≡ tokenRoom rd src z
@@ -78,3 +86,4 @@ pub record Reads (rd : Reading) (src : List ℕ) (z : Sizes) (r : Answer) (tk fs
   pub colours : cs ≡ colourRoom rd src z
   pub blocks : bs ≡ blockRoom rd src z
   pub text : tx ≡ textRoom rd src z
+  pub counted : (c : Counts) → r ≡ Read c → Counted c

@@ -12,8 +12,10 @@ use readings::Reading;
 use rooms::clear_bytes_from;
 use rooms::clear_from;
 ghost use mathlib.Core.Path.{_≡_};
+ghost use Prim.Native.Nat.{_≤_};
 ghost use lib.ListN.{length, replicate};
 ghost use Rattle.cutter.specs.Cutting.{cutRoom};
+ghost use Rattle.parser.specs.declared.Counts.{Counts};
 ghost use Rattle.parser.specs.Parsing.{sizes};
 ghost use Rattle.parser.specs.Parts.{LetterInto};
 ghost use Rattle.reader.specs.Reading.{letterOf, tokenCount, Reads};
@@ -29,6 +31,7 @@ fn attempt(
     text: &mut [u8],
 ) -> Answer
     ensures token_room { λ _. ⌜ now (tokens .exit) ≡ cutRoom (now (source .entry)) (length (now (tokens .entry))) ⌝ }
+    ensures few { λ r. ⌜ ((k : Counts) → r ≡ Answer.Read k → tokenCount (now (source .entry)) ≤ 65536) ⌝ }
     ensures letter { λ r. ⌜ LetterInto (letterOf reading (now (source .entry)) (sizes (now (tokens .entry)) (now (fonts .entry)) (now (colours .entry)) (now (blocks .entry)) (now (text .entry)))) (tokenCount (now (source .entry))) r (now (fonts .exit)) (now (colours .exit)) (now (blocks .exit)) (now (text .exit)) (length (now (fonts .entry))) (length (now (colours .entry))) (length (now (blocks .entry))) (length (now (text .entry))) ⌝ }
 {
     let outcome = cut(source, tokens);

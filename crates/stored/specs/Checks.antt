@@ -1,5 +1,6 @@
 -- 01, Stored form: a stored list, checked. Assumes nothing: this is a definition.
 use Prim.Native.Nat.{ℕ}
+use mathlib.Core.Path.{_≡_}
 use mathlib.Core.List.{List}
 use lib.ListN.{length}
 use Rattle.answers.specs.declared.Outcome.{Outcome}
@@ -11,3 +12,7 @@ use Rattle.stored.specs.Stored.{stored}
 -- list, and the largest text room that counts
 unfoldable pub checked : List ℕ → Outcome
 checked s = answer 0 (roomy (length s) 2147483647 none (stored s))
+
+-- What `check` promises: the one answer.
+abbrev pub Checks : List ℕ → Outcome → Type 0
+Checks list r = r ≡ checked list

@@ -1,6 +1,7 @@
 -- 01, Stored form: a stored list, and the one answer and the one content of two lent rooms.
 -- Assumes nothing: these are definitions.
 use Prim.Native.Nat.{ℕ, zero, suc, _+_}
+use mathlib.Core.Path.{_≡_}
 use mathlib.Core.List.{List, [], _∷_}
 use lib.ListN.{length, take, drop, replicate}
 use Rattle.answers.specs.declared.Outcome.{Outcome}
@@ -79,3 +80,9 @@ answerNumber (Refuses r) = whyNumber (r .why)
 abbrev pub answerCounts : Answer → Counts
 answerCounts (Read n) = n
 answerCounts (Refuses r) = record { blocks = 0; text = 0 }
+
+-- What `read_list` promises of a list and two rooms: the one answer, and the one content of each room.
+pub record ReadsList (list bs ts : List ℕ) (r : Answer) (bs′ ts′ : List ℕ) : Type 0 where
+  pub answer : r ≡ storedAnswer (length bs) (length ts) list
+  pub blocks : bs′ ≡ storedBlocks (length bs) (length ts) list
+  pub text : ts′ ≡ storedText (length bs) (length ts) list

@@ -19,7 +19,7 @@ ghost use lib.ListN.{length};
 ghost use Rattle.rooms.specs.Streams.{answer};
 ghost use Rattle.blocks.specs.Pages.{none, roomy};
 ghost use Rattle.stored.specs.Stored.{blocksFrom};
-ghost use Rattle.stored.specs.Checks.{checked};
+ghost use Rattle.stored.specs.Checks.{Checks};
 
 // Checks k blocks: how many there are, or the refusal.
 fn check_blocks(list: &[u8], k: usize) -> Outcome
@@ -58,7 +58,7 @@ fn check_blocks(list: &[u8], k: usize) -> Outcome
 
 // The answer that `read_list` would give with ample rooms, in one pass over the list.
 pub fn check(list: &[u8]) -> Outcome
-    ensures { λ r. ⌜ r ≡ checked (now (list .entry)) ⌝ }
+    ensures { λ r. ⌜ Checks (now (list .entry)) r ⌝ }
 {
     let n = number_at(list);
     match n {

@@ -25,7 +25,7 @@ ghost use mathlib.Core.Path.{_≡_};
 ghost use lib.ListN.{length, replicate};
 ghost use Rattle.blocks.specs.Pages.{none};
 ghost use Rattle.blocks.specs.Laying.{told, on, layAll, blank as blankPage, Still};
-ghost use Rattle.stored.specs.Stored.{blocksFrom, stored, storedAnswer, storedBlocks, storedText};
+ghost use Rattle.stored.specs.Stored.{blocksFrom, stored, ReadsList};
 ghost use Rattle.stored.specs.Stored.{answerNumber, answerCounts};
 
 // How many blocks, and how many bytes of text.
@@ -107,11 +107,7 @@ fn refuse(refusal: Refusal, blocks: &mut [u32], text: &mut [u8]) -> Answer
 
 // Reads a stored list.
 pub fn read_list(list: &[u8], blocks: &mut [u32], text: &mut [u8]) -> Answer
-    ensures answer { λ r. ⌜ r ≡ storedAnswer (length (now (blocks .entry))) (length (now (text .entry))) (now (list .entry)) ⌝ }
-    ensures block_room { λ _. ⌜ now (blocks .exit)
-        ≡ storedBlocks (length (now (blocks .entry))) (length (now (text .entry))) (now (list .entry)) ⌝ }
-    ensures text_room { λ _. ⌜ now (text .exit)
-        ≡ storedText (length (now (blocks .entry))) (length (now (text .entry))) (now (list .entry)) ⌝ }
+    ensures { λ r. ⌜ ReadsList (now (list .entry)) (now (blocks .entry)) (now (text .entry)) r (now (blocks .exit)) (now (text .exit)) ⌝ }
 {
     let laid = lay_list(list, blocks, text);
     match laid {

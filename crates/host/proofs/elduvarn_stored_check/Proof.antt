@@ -1,7 +1,7 @@
--- `elduvarn_stored_check` says by number what `check` says.
-use borrow.Author.Needs.{needs}
+-- `elduvarn_stored_check` meets its contract: it says what `check` says.
 use mathlib.Core.Path.{ap, _∙_}
 use Rattle.answers.specs.Answers.{outcomeNumber}
+use borrow.Author.Needs.{needs}
 use Rattle.host.proofs.elduvarn_stored_check.Statement.{statement}
 use Rattle.host.proofs.elduvarn_stored_check.Tie as tie
 use Rattle.host.proofs.elduvarn_stored_check.Reads as reads

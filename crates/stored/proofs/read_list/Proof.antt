@@ -65,11 +65,10 @@ returns c =
     let at-laid = at-refuse .before .before .before .before in
     let at-lay-list = at-laid .before .before .before .before .before .before in
     let start = at-lay-list .before .before .before .before .before .before in
-    let w = list-full (start .args .list .now) (start .args .blocks .now) (start .args .text .now)
+    list-full (start .args .list .now) (start .args .blocks .now) (start .args .text .now)
     (at-lay-list .lay-list .result) _ _ (at-lay-list .lay-list .ensures .0) (at-laid .laid .given .1)
     (at-refuse .refuse .ensures .0) (at-refuse .refuse .ensures .1 .0) (at-refuse .refuse .ensures .1 .1)
-    (at-lay-list .lay-list .kept .1 .0) (at-lay-list .lay-list .kept .1 .1 .0) in
-    (w .answer, (w .blocks, w .text))
+    (at-lay-list .lay-list .kept .1 .0) (at-lay-list .lay-list .kept .1 .1 .0)
 
 same-length-3 : tie.Need-same-length-3
 same-length-3 c = search needs
@@ -86,11 +85,10 @@ returns-2 c =
     let at-laid2 = at-finish .before .before .before in
     let at-lay-list = at-laid2 .before .before .before .before .before .before in
     let start = at-lay-list .before .before .before .before .before .before in
-    let w = list-laid (start .args .list .now) (start .args .blocks .now) (start .args .text .now)
+    list-laid (start .args .list .now) (start .args .blocks .now) (start .args .text .now)
     (at-lay-list .lay-list .result) _ _ (at-lay-list .lay-list .ensures .0) (at-laid2 .laid2 .given .1)
     (at-finish .finish .ensures) (at-count .count .ensures) (at-clear-from .clear-from .ensures)
-    (at-clear-bytes-from .clear-bytes-from .ensures) in
-    (w .answer, (w .blocks, w .text))
+    (at-clear-bytes-from .clear-bytes-from .ensures)
 
 pub read-list-spec : {M : Type 1} → statement M
 read-list-spec =
