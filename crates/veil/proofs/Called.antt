@@ -25,7 +25,7 @@ use Rattle.parser.specs.Parsing.{Sizes, Letter}
 use Rattle.reader.specs.Reading.{cut, letterOf, answered, readAnswer, holding, fontRoom, colourRoom, blockRoom}
 use Rattle.parser.specs.Parsing.{answerNumber, answerCounts}
 use Rattle.reader.specs.Reading.{textRoom}
-use Rattle.reader.proofs.Whole.{Reads}
+use Rattle.reader.specs.Reading.{Reads}
 use Rattle.veil.specs.Veil.{veil, Alike}
 use Rattle.veil.specs.Said.{Named, nameIn, namesIn, Content, Said, refuses, says, saidBy, said, SameRooms, fontsAt}
 use Rattle.veil.specs.Said.{unplaced}
@@ -192,7 +192,7 @@ module _ (rd : Reading) (a b : List ℕ) (z y : Sizes) (same : SameRooms z y) {n
   same-calls e p q =
       let f : saidBy a (letterOf rd a z) ≡ saidBy b (letterOf rd b y) = hidden-stays-hidden rd a b z y same u v e in
       let o : sayOf (letterOf rd a z) ≡ sayOf (letterOf rd b y) = sym (said-own rd a z u) ∙ f ∙ said-own rd b y v in
-      rw (p .answer, p .font-room, p .colour-room, p .block-room, p .text-room, q .answer, q .font-room, q .colour-room, q .block-room, q .text-room)
+      rw (p .answer, p .fonts, p .colours, p .blocks, p .text, q .answer, q .fonts, q .colours, q .blocks, q .text)
       (same-letters a b z y same (letterOf rd a z) (letterOf rd b y) f o)
 
   pub alike-calls : Alike a b → {r q : Answer} {tk fs cs bs tx uk gs ds es ux : List ℕ}

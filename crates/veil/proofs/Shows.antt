@@ -39,7 +39,7 @@ use Rattle.answers.specs.declared.Why.{Why}
 -- two streams that show the same but for places, stop alike, and show no bracket
 pub data Calm : Stream Why Shown → Stream Why Shown → Type 0 where
   ends : Calm end end
-  stops : (r : Refusal) → Calm (stop r) (stop r)
+  stops : (r : Why) → Calm (stop r) (stop r)
   more : {t u : Shown} {a b : Stream Why Shown} → bare t ≡ bare u → side t ≡ flat → Calm a b → Calm (t ▸ a) (u ▸ b)
 
 calm-cond : {a b c d : Stream Why Shown} (x : Bool) → Calm a c → Calm b d → Calm (cond x a b) (cond x c d)
@@ -77,7 +77,7 @@ module _ (p q : ℕ) where
   calm-numbered : (name : List ℕ) (n : Number) → Calm (numbered p name n) (numbered q name n)
   unfolding numbered
   calm-numbered name (Is v) = calm-word name (Value v)
-  calm-numbered name Bad = stops (refusal NumberBad)
+  calm-numbered name Bad = stops NumberBad
 
   calm-named : (w : List ℕ) → Calm (named p w) (named q w)
   unfolding named
@@ -94,12 +94,12 @@ calm-worded p q s =
 calm-value : (p q : ℕ) (s : List ℕ) (n : Number) → Calm (hexValue n (plain (p + 4) s)) (hexValue n (plain (q + 4) s))
 unfolding hexValue
 calm-value p q s (Is v) = more refl refl (calm-plain (p + 4) (q + 4) s)
-calm-value p q s Bad = stops (refusal HexBad)
+calm-value p q s Bad = stops HexBad
 
 calm-hex : (p q : ℕ) (s : List ℕ) → Calm (hexEscape p s) (hexEscape q s)
 unfolding hexEscape
-calm-hex p q [] = stops (refusal HexShort)
-calm-hex p q (a ∷ []) = stops (refusal HexShort)
+calm-hex p q [] = stops HexShort
+calm-hex p q (a ∷ []) = stops HexShort
 calm-hex p q (a ∷ b ∷ s) = calm-value p q s (hexPair a b)
 
 calm-other : (p q : ℕ) (s : List ℕ) → Calm (other p s) (other q s)
@@ -136,18 +136,18 @@ calm-flat (more e l h) = some l (calm-flat h)
 -- ---- streams that end
 
 -- without a refusal
-unfoldable pub whole : {A : Type 0} → Stream E A → Bool
+unfoldable pub whole : {E A : Type 0} → Stream E A → Bool
 whole end = true
 whole (stop r) = false
 whole (x ▸ s) = whole s
 
-pub answer-whole : {A : Type 0} (s : Stream E A) (n m : ℕ) → answer n s ≡ Done m → whole s ≡ true
+pub answer-whole : {A : Type 0} (s : Stream Refusal A) (n m : ℕ) → answer n s ≡ Done m → whole s ≡ true
 unfolding ended whole
 answer-whole end n m e = refl
 answer-whole (stop r) n m e = absurd (done-refused (sym e))
 answer-whole (x ▸ s) n m e = answer-whole s (n + 1) m e
 
-module _ {A : Type 0} where
+module _ {E A : Type 0} where
   items-then : (a b : Stream E A) → whole a ≡ true → items (andThen a b) ≡ items a ++ items b
   unfolding items andThen whole
   items-then end b h = refl
@@ -166,7 +166,7 @@ whole-mark : (b : ℕ) → whole (mark b) ≡ true
 unfolding mark whole
 whole-mark b = go (eqb b 123) (eqb b 125)
   where
-    go : (x y : Bool) → whole (cond x (Shown.opening ▸ end) (cond y (Shown.closing ▸ end) end)) ≡ true
+    go : (x y : Bool) → whole {E = Why} (cond x (Shown.opening ▸ end) (cond y (Shown.closing ▸ end) end)) ≡ true
     go true y = refl
     go false true = refl
     go false false = refl
@@ -205,7 +205,7 @@ shown-append (p ∷ a) b = rw (shown-append a b, append-assoc)
 abbrev sight : Stream Refusal Token → List Shown
 sight s = bareAll (shownBy (items s))
 
-shown-each : (p n : ℕ) (s : Stream Why Shown) → shownBy (items (each (locate p n) s)) ≡ items s
+shown-each : (p n : ℕ) (s : Stream Why Shown) → shownBy (items (each refusal (locate p n) s)) ≡ items s
 unfolding shownBy items each
 shown-each p n end = refl
 shown-each p n (stop r) = refl
