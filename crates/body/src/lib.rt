@@ -1,5 +1,5 @@
 // The body (01, Body; `Parser::parse` in the crate): the tokens that the header walk leaves become blocks and text in two lent
-// rooms, over a stack of 64 states. What a token asks for is said in `acts`.
+// rooms, over a stack of 64 states. What a token asks for is said in `act`.
 //
 // Each token is read once. The top state stands by itself: what is below it is kept in an array and copied at brackets alone.
 mod act;

@@ -33,7 +33,7 @@ pub struct Painter {
     pub flags: Flags,
 }
 
-// Alignment: 0 left, 1 right, 2 centre, 3 justified. The space between lines: kind 0 automatic, 1 the value `line`.
+// The space between lines: kind 0 automatic, 1 the value `line`.
 pub struct Paragraph {
     pub alignment: u32,
     pub before: u32,
@@ -104,11 +104,19 @@ impl Painter {
 }
 
 impl Paragraph {
+    pub const LEFT: u32 = 0;
+
+    pub const RIGHT: u32 = 1;
+
+    pub const CENTRE: u32 = 2;
+
+    pub const JUSTIFIED: u32 = 3;
+
     pub fn fresh() -> Paragraph
         ensures { λ r. ⌜ r ≡ freshParagraph ⌝ }
     {
         Paragraph {
-            alignment: 0,
+            alignment: Paragraph::LEFT,
             before: 0,
             after: 0,
             kind: 0,
@@ -237,15 +245,15 @@ fn alignment(w: u32) -> u32
     ensures { λ r. ⌜ r ≡ alignmentOf w ⌝ }
 {
     if w == words::LEFT_ALIGNED {
-        return 0;
+        return Paragraph::LEFT;
     }
     if w == words::RIGHT_ALIGNED {
-        return 1;
+        return Paragraph::RIGHT;
     }
     if w == words::JUSTIFY {
-        return 3;
+        return Paragraph::JUSTIFIED;
     }
-    2
+    Paragraph::CENTRE
 }
 
 fn align(s: State, w: u32) -> State

@@ -1,9 +1,9 @@
 -- `word` meets its contract: four bytes below 256 make a word that fits.
 use borrow.Author.Needs.{needs}
 use native.Mathlib.Omega.{arith}
-use Rattle.listed.specs.Listed.{wordAt}
-use Rattle.listed.proofs.list.word.Statement.{statement}
-use Rattle.listed.proofs.list.word.Tie as tie
+use Rattle.replay.specs.Listed.{wordAt}
+use Rattle.replay.proofs.list.word.Statement.{statement}
+use Rattle.replay.proofs.list.word.Tie as tie
 
 byte-requires : tie.Need-byte-requires
 byte-requires c κs = search needs

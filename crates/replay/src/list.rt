@@ -1,10 +1,11 @@
 // The list of answers, as its bytes: words of four bytes, little endian, with nothing before the first answer.
 // An answer: the letter's length in bytes, the room's in words, the refusal or 0, the count of tokens; then the
-// letter; then six words for each token.
+// letter; then a record for each token.
+use tokens::TOKEN_WORDS;
 ghost use mathlib.Core.Path.{_≡_};
 ghost use Prim.Native.Nat.{_<_, _^_};
 ghost use lib.ListN.{length, getD};
-ghost use Rattle.listed.specs.Listed.{wordAt, FrontWhole};
+ghost use Rattle.replay.specs.Listed.{wordAt, FrontWhole};
 
 // The words before the letter.
 pub const HEAD_BYTES: usize = 16;
@@ -14,10 +15,8 @@ const LETTER_MOST: usize = 400;
 
 pub const ROOM_MOST: usize = 600;
 
-// A token's record.
-const RECORD_WORDS: usize = 6;
-
-const RECORD_BYTES: usize = 24;
+// Four bytes for each word of a token's record.
+const RECORD_BYTES: usize = 4 * TOKEN_WORDS;
 
 // An answer at the front of a list. Its letter stands from HEAD_BYTES to `records`, its records from there to `end`.
 pub struct Answer {
@@ -73,7 +72,7 @@ pub fn next(list: &[u8]) -> Front
     if ROOM_MOST < room {
         return Front::Malformed;
     }
-    if room / RECORD_WORDS < tokens {
+    if room / TOKEN_WORDS < tokens {
         return Front::Malformed;
     }
     let records = HEAD_BYTES + letter;

@@ -5,11 +5,11 @@ use mathlib.Core.List.{List}
 use lib.ListN.{length, getD}
 use Rattle.answers.specs.Answers.{outcomeNumber, outcomeCount}
 use Rattle.answers.specs.declared.Outcome.{Outcome}
-use Rattle.listed.specs.declared.list.Answer.{Answer}
-use Rattle.listed.specs.declared.list.Front.{Front}
-use Rattle.listed.specs.declared.list.Front.the-variants.{Answer as Found, CutShort, Malformed}
-use Rattle.listed.specs.declared.judge.Verdict.{Verdict}
-use Rattle.listed.specs.declared.judge.Verdict.the-variants.{Same}
+use Rattle.replay.specs.declared.list.Answer.{Answer}
+use Rattle.replay.specs.declared.list.Front.{Front}
+use Rattle.replay.specs.declared.list.Front.the-variants.{Answer as Found, CutShort, Malformed}
+use Rattle.replay.specs.declared.judge.Verdict.{Verdict}
+use Rattle.replay.specs.declared.judge.Verdict.the-variants.{Same}
 
 -- four bytes, little endian, with zeros behind the end
 unfoldable pub wordAt : List ℕ → ℕ → ℕ

@@ -4,9 +4,9 @@ use mathlib.Core.Path.{_≡_}
 use borrow.Author.Count.{below-more}
 use borrow.Author.Needs.{needs}
 use lib.ListN.{length, getD}
-use Rattle.listed.specs.Listed.{wordAt}
-use Rattle.listed.proofs.judge.first_unlike.Statement.{statement}
-use Rattle.listed.proofs.judge.first_unlike.Tie as tie
+use Rattle.replay.specs.Listed.{wordAt}
+use Rattle.replay.proofs.judge.first_unlike.Statement.{statement}
+use Rattle.replay.proofs.judge.first_unlike.Tie as tie
 
 abbrev Inv-loop : tie.InvT-loop
 Inv-loop room records k₀ k = (k ≤ length room) × ((j : ℕ) → j < k → getD room j 0 ≡ wordAt records (4 * j))

@@ -2,9 +2,9 @@
 use borrow.Author.Needs.{needs}
 use mathlib.Core.Path.{refl, sym, _∙_}
 use native.Mathlib.Omega.{arith}
-use Rattle.listed.proofs.Judging.{differs}
-use Rattle.listed.proofs.judge.compare.Statement.{statement}
-use Rattle.listed.proofs.judge.compare.Tie as tie
+use Rattle.replay.proofs.Judging.{differs}
+use Rattle.replay.proofs.judge.compare.Statement.{statement}
+use Rattle.replay.proofs.judge.compare.Tie as tie
 
 number-requires : tie.Need-number-requires
 number-requires c κs = search needs

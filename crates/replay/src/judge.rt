@@ -5,7 +5,7 @@ use answers::Outcome;
 ghost use mathlib.Core.Path.{_≡_};
 ghost use Prim.Native.Nat.{ℕ, _*_, _<_, _≤_};
 ghost use lib.ListN.{length, getD};
-ghost use Rattle.listed.specs.Listed.{wordAt, Judged};
+ghost use Rattle.replay.specs.Listed.{wordAt, Judged};
 
 // What differs first.
 pub enum Part {

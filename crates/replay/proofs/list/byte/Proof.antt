@@ -3,8 +3,8 @@ use borrow.Author.Needs.{needs}
 use mathlib.Core.Path.{sym}
 use native.Mathlib.Omega.{arith}
 use lib.ListN.{List·getD-eq-default}
-use Rattle.listed.proofs.list.byte.Statement.{statement}
-use Rattle.listed.proofs.list.byte.Tie as tie
+use Rattle.replay.proofs.list.byte.Statement.{statement}
+use Rattle.replay.proofs.list.byte.Tie as tie
 
 shared-slice-read-result : tie.Need-shared-slice-read-result
 shared-slice-read-result c = search needs

@@ -4,10 +4,10 @@ use mathlib.Core.Path.{_≡_}
 use mathlib.Core.List.{List}
 use native.Mathlib.Omega.{arith}
 use Rattle.answers.specs.declared.Outcome.{Outcome}
-use Rattle.listed.specs.declared.list.Answer.{Answer}
-use Rattle.listed.specs.declared.judge.Difference.{Difference}
-use Rattle.listed.specs.declared.judge.Verdict.the-variants.{Same, Differs}
-use Rattle.listed.specs.Listed.{Agrees, Judged}
+use Rattle.replay.specs.declared.list.Answer.{Answer}
+use Rattle.replay.specs.declared.judge.Difference.{Difference}
+use Rattle.replay.specs.declared.judge.Verdict.the-variants.{Same, Differs}
+use Rattle.replay.specs.Listed.{Agrees, Judged}
 
 never : {d : Difference} → Differs d ≡ Same → ⊥
 never e = let z : _≡_ {A = ℕ} 0 1 = cc in omega arith
