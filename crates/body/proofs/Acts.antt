@@ -13,6 +13,7 @@ use native.Mathlib.Omega.{arith}
 use lib.ListN.{length, take, drop}
 use lib.Dec.{eqb}
 use Rattle.answers.specs.declared.Refusal.{Refusal}
+use Rattle.answers.specs.declared.Why.{Why}
 use Rattle.answers.specs.declared.Why.the-variants.{IgnorableInBody, TooDeep}
 use Rattle.answers.specs.Answers.{refusal}
 use Rattle.tokens.specs.declared.Property.{Property}
@@ -112,8 +113,9 @@ module _ (rd : Reading) {top : State} {p : Page} {b t : List ℕ} (w : ℕ) (num
   pub word-keep : {s : State} → c ≡ To s → Onward rd (Keep s) top p b t b t (λ (rest : List State). changed top rest (change rd top w num))
   word-keep e = record { goes = λ rest x ts. ap (behind rd top p b t rest ts) (sym q ∙ e); keeps = omega arith }
 
-  pub word-refuse : {r : Refusal} → c ≡ Refuses r → Onward rd (Bad r) top p b t b t (λ (rest : List State). changed top rest (change rd top w num))
-  word-refuse {r} e = record { goes = λ rest x ts. ap (behind rd top p b t rest ts) (sym q ∙ e) ∙ lay-stop p b t r; keeps = omega arith }
+  pub word-refuse : {why : Why} {r : Refusal} → c ≡ Refuses why → r ≡ refusal why → Onward rd (Bad r) top p b t b t (λ (rest : List State). changed top rest (change rd top w num))
+  word-refuse {why} {r} e f =
+      record { goes = λ rest x ts. ap (behind rd top p b t rest ts) (sym q ∙ e) ∙ lay-stop p b t (refusal why) ∙ ap off (sym f); keeps = omega arith }
 
   pub word-says : {v : ℕ} → c ≡ Says v → {e : Encoded} → e ≡ encodedOf v → {b′ t′ : List ℕ} (l : Laid) {style : Style} → style ≡ styleOf top
       → told l b′ t′ ≡ addOf p style (take (e .length) (e .bytes)) b t → Still l (length b) (length t) → {a : Act} → a ≡ saidBy l 1

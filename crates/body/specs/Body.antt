@@ -71,7 +71,7 @@ stackLimit = 64
 abbrev pub changed : State → List State → Change → Asked
 changed top rest (To s) = goes (s ∷ rest)
 changed top rest (Says c) = says (top ∷ rest) (written c)
-changed top rest (Refuses r) = stops r
+changed top rest (Refuses why) = stops (refusal why)
 
 -- a token where there is a state: "Opening copies the top .. closing drops one."; "a line break adds U+000A"; 13: "`\*` met in
 -- the body"

@@ -130,7 +130,7 @@ fn word_act(
     let change = apply_word(reading, top, w, number);
     match change {
         Change::To(s) => Act::Keep(s),
-        Change::Refuses(refusal) => Act::Bad(refusal),
+        Change::Refuses(why) => Act::Bad(Refusal::of(why)),
         Change::Says(value) => {
             let e = encode(value);
             let bytes = e.bytes;

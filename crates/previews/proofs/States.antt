@@ -95,7 +95,7 @@ fitting-sound : (s : State) (w v : ℕ) → Sound s → SoundChange (fitting s w
 fitting-sound s w v h = go (leb v 65535) refl
   where
     go : (t : Bool) → leb v 65535 ≡ t
-        → SoundChange (cond t (To (painted s (fitted (s .painter) w v))) (Refuses (refusal NumberField)))
+        → SoundChange (cond t (To (painted s (fitted (s .painter) w v))) (Refuses NumberField))
     go true e = record { painter = fitted-sound (s .painter) w v (h .painter) (leb-true v 65535 e); paragraph = h .paragraph }
     go false e = tt
 
@@ -136,7 +136,7 @@ spacing-sound s v h =
     }
 
     go : (t u : Bool) → eqb v 2147483648 ≡ t → ltb v 2147483648 ≡ u
-        → SoundChange (cond t (Refuses (refusal LineSpacing)) (cond u (To (lined s 1 v)) (To (lined s 1 (4294967296 - v)))))
+        → SoundChange (cond t (Refuses LineSpacing) (cond u (To (lined s 1 v)) (To (lined s 1 (4294967296 - v)))))
     go true u e f = tt
     go false true e f = lined-sound s v h (omega (arith, ltb-true v 2147483648 f))
     go false false e f = lined-sound s (4294967296 - v) h (omega (arith, ltb-false v 2147483648 f, eqb-false v 2147483648 e))

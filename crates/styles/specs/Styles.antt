@@ -6,7 +6,6 @@ use mathlib.Core.Bool.{Bool, true, false, cond, _&&_}
 use lib.ListN.{getD}
 use lib.Dec.{leb, ltb, eqb}
 use Rattle.answers.specs.declared.Why.the-variants.{NumberField, LineSpacing}
-use Rattle.answers.specs.Answers.{refusal}
 use Rattle.tokens.specs.declared.Property.{Property}
 use Rattle.tokens.specs.declared.Property.the-variants.{None, Value}
 use Rattle.tokens.specs.Tokens.{valueOf}
@@ -95,7 +94,7 @@ fitted p w v = record {
 
 -- 12: "a number does not fit its field"
 abbrev pub fitting : State → ℕ → ℕ → Change
-fitting s w v = cond (leb v 65535) (To (painted s (fitted (s .painter) w v))) (Refuses (refusal NumberField))
+fitting s w v = cond (leb v 65535) (To (painted s (fitted (s .painter) w v))) (Refuses NumberField)
 
 -- "`ql qr qc qj` align.": "alignment (0 left, 1 right, 2 centre, 3 justified)"; ql qr qj qc are numbers 26 to 29
 abbrev pub isAligned : ℕ → Bool
@@ -134,7 +133,7 @@ lined s k v =
 unfoldable pub spacing : State → ℕ → Change
 spacing s v =
     cond (eqb v 1000) (To (lined s 0 0))
-    (cond (eqb v 2147483648) (Refuses (refusal LineSpacing))
+    (cond (eqb v 2147483648) (Refuses LineSpacing)
     (cond (ltb v 2147483648) (To (lined s 1 v))
     (To (lined s 1 (4294967296 - v)))))
 

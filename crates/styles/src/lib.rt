@@ -6,7 +6,6 @@
 //   apply_word                  a word's effect: another state, a character to write, or a refusal
 //
 // Signed numbers stand in two's complement. Every function is total.
-use answers::Refusal;
 use answers::Why;
 use readings::Reading;
 use tokens::Property;
@@ -68,7 +67,7 @@ pub struct Style {
 pub enum Change {
     To(State),
     Says(u32),
-    Refuses(Refusal),
+    Refuses(Why),
 }
 
 impl Flags {
@@ -237,7 +236,7 @@ fn fit_word(s: State, w: u32, v: u32) -> Change
         r.painter = changed;
         return Change::To(r);
     }
-    Change::Refuses(Refusal::of(Why::NumberField))
+    Change::Refuses(Why::NumberField)
 }
 
 // One of ql qr qj qc, 26 to 29.
@@ -282,7 +281,7 @@ fn space(s: State, v: u32) -> Change
         return Change::To(line(s, 0, 0));
     }
     if v == 2147483648 {
-        return Change::Refuses(Refusal::of(Why::LineSpacing));
+        return Change::Refuses(Why::LineSpacing);
     }
     if v < 2147483648 {
         return Change::To(line(s, 1, v));

@@ -6,8 +6,9 @@ use Rattle.body.proofs.act.word_act.Statement.{statement}
 use Rattle.body.proofs.act.word_act.Tie as tie
 use Rattle.body.proofs.act.word_act.Reads as reads
 use Rattle.body.proofs.act.word_act.Lts as lts
-use Rattle.body.proofs.act.said.Reads as said-reads
+use Rattle.answers.proofs.Refusal.of.Reads as of-reads
 use Rattle.blocks.proofs.add.Reads as add-reads
+use Rattle.body.proofs.act.said.Reads as said-reads
 use Rattle.styles.proofs.State.style.Reads as style-reads
 use Rattle.styles.proofs.apply_word.Reads as apply-word-reads
 use Rattle.utf8.proofs.encode.Reads as encode-reads
@@ -20,6 +21,9 @@ enum-known-change c = search needs
 
 enum-known-change-2 : tie.Need-enum-known-change-2
 enum-known-change-2 c = search needs
+
+of-requires : tie.Need-of-requires
+of-requires c κs = search needs
 
 enum-known-change-3 : tie.Need-enum-known-change-3
 enum-known-change-3 c = search needs
@@ -46,7 +50,7 @@ returns : tie.Need-returns
 returns c = word-keep _ _ _ (c .before .before .before .apply-word .ensures) (c .before .change .given .1)
 
 returns-2 : tie.Need-returns-2
-returns-2 c = word-refuse _ _ _ (c .before .before .before .apply-word .ensures) (c .before .change2 .given .1)
+returns-2 c = word-refuse _ _ _ (c .before .before .before .before .apply-word .ensures) (c .before .before .change2 .given .1) (c .of .ensures)
 
 same-length : tie.Need-same-length
 same-length c = search needs
@@ -64,6 +68,7 @@ word-act-spec =
     apply-word-requires
     enum-known-change
     enum-known-change-2
+    of-requires
     enum-known-change-3
     encode-requires
     style-requires
