@@ -24,6 +24,9 @@ ghost use Rattle.colours.specs.Colours.{colours as coloursOf, colourWord
 ghost use Rattle.colours.specs.Effects.{fitted as fittedOf, wordEffect, effectOf, Small};
 ghost use Rattle.tokens.specs.Tokens.{tokenWords};
 
+// How many words a colour's record has.
+pub const COLOUR_WORDS: usize = 1;
+
 pub struct Colour {
     pub red: u32,
     pub green: u32,
