@@ -9,7 +9,7 @@ ghost use lib.ListN.{length, getD, drop};
 ghost use Rattle.slices.specs.Slices.{startsSlice, upTo, sliceLength};
 
 // Whether b starts a new slice behind the byte `before`.
-pub fn starts_slice(before: u8, b: u8) -> bool
+fn starts_slice(before: u8, b: u8) -> bool
     ensures { λ r. ⌜ r ≡ startsSlice before b ⌝ }
 {
     bytes::is_special(b) & (before != b'\\')

@@ -5,7 +5,7 @@
 //
 // `read_list` is total. It reads blocks by `crate::entry::block_at`.
 pub mod check;
-pub mod entry;
+mod entry;
 
 use crate::entry::Entry;
 use crate::entry::block_at;

@@ -35,7 +35,7 @@ ghost use Rattle.tokenize.specs.Tokenize.{isMark, isEscape, plain as pla
 ghost use Rattle.rooms.specs.Streams.{byName};
 
 // `{`, `}` or a line feed.
-pub fn is_mark(b: u8) -> bool
+fn is_mark(b: u8) -> bool
     ensures { λ r. ⌜ r ≡ isMark b ⌝ }
 {
     (b == b'{') | (b == b'}') | (b == b'\n')
@@ -56,7 +56,7 @@ fn text(place: usize, length: usize) -> Record
 }
 
 // A plain tail: one text token, unless it is all white space.
-pub fn plain(s: &[u8], place: usize, room: &mut [u32], n: usize) -> Written
+fn plain(s: &[u8], place: usize, room: &mut [u32], n: usize) -> Written
     requires { ⌜ (place + length (now s) ≤ 65536) × (n ≤ place) ⌝ }
     ensures { λ r. ⌜ Wrote shownLayout byName n (now (room .entry)) (plainOf place (now (s .entry))) r (now (room .exit)) ⌝ }
 {
@@ -70,7 +70,7 @@ pub fn plain(s: &[u8], place: usize, room: &mut [u32], n: usize) -> Written
 
 // What follows a word and the white space that ends it: text even if it is all such white space. A tail of other white
 // space, that is with a byte 11 in it, is lost, as in the crate.
-pub fn word_tail(s: &[u8], place: usize, room: &mut [u32], n: usize) -> Written
+fn word_tail(s: &[u8], place: usize, room: &mut [u32], n: usize) -> Written
     requires { ⌜ (place + length (now s) ≤ 65536) × (n ≤ place) ⌝ }
     ensures { λ r. ⌜ Wrote shownLayout byName n (now (room .entry)) (wordTail place (now (s .entry))) r (now (room .exit)) ⌝ }
 {
@@ -102,7 +102,7 @@ fn bare_length(w: &[u8]) -> usize
 }
 
 // The record of a word whose backslash stands at `place`.
-pub fn word_record(name: &[u8], property: Property, place: usize, names: &Table) -> Record
+fn word_record(name: &[u8], property: Property, place: usize, names: &Table) -> Record
     requires { ⌜ (place + (1 + length (now name)) ≤ 65536) × (now names ≡ rows) ⌝ }
     ensures { λ r. ⌜ r ≡ recordOf (shownWord place (now (name .entry)) property) ⌝ }
 {
@@ -139,7 +139,7 @@ fn named(w: &[u8], place: usize, names: &Table, room: &mut [u32], n: usize) -> W
 }
 
 // A word and the text behind it; s follows the backslash at `place`.
-pub fn word(s: &[u8], place: usize, names: &Table, room: &mut [u32], n: usize) -> Written
+fn word(s: &[u8], place: usize, names: &Table, room: &mut [u32], n: usize) -> Written
     requires { ⌜ (place + (1 + length (now s)) ≤ 65536) × (n ≤ place) × (now names ≡ rows) ⌝ }
     ensures { λ r. ⌜ Wrote shownLayout byName n (now (room .entry)) (wordOf place (now (s .entry))) r (now (room .exit)) ⌝ }
 {
@@ -228,7 +228,7 @@ fn escaped(s: &[u8], place: usize, names: &Table, room: &mut [u32], n: usize) ->
 }
 
 // An opening or a closing bracket has a token, a line feed none. The next place in the room.
-pub fn mark(b: u8, room: &mut [u32], n: usize) -> usize
+fn mark(b: u8, room: &mut [u32], n: usize) -> usize
     requires { ⌜ n < 65536 ⌝ }
     ensures { λ r. ⌜ Wrote shownLayout byName n (now (room .entry)) (markOf b) (Written.Done r) (now (room .exit)) ⌝ }
 {
@@ -244,7 +244,7 @@ pub fn mark(b: u8, room: &mut [u32], n: usize) -> usize
 }
 
 // The tokens of a slice that stands at `place`.
-pub fn tokenize(s: &[u8], place: usize, names: &Table, room: &mut [u32], n: usize) -> Written
+fn tokenize(s: &[u8], place: usize, names: &Table, room: &mut [u32], n: usize) -> Written
     requires { ⌜ (place + length (now s) ≤ 65536) × (n ≤ place) × (now names ≡ rows) ⌝ }
     ensures { λ r. ⌜ Wrote shownLayout byName n (now (room .entry)) (tokensOf place (now (s .entry))) r (now (room .exit)) ⌝ }
 {
