@@ -1,4 +1,6 @@
 // Letters and token lists, computed through the definitions. This crate holds theorems and no code.
 //
-//   proofs/Letters   01's fourteen sample letters
-//   proofs/Fonts     the font tables of telling token lists
+//   specs/Letters   01's fourteen sample letters, its sample listing, and letters that tell its easy errors: what each must give
+//   specs/Fonts     telling token lists, and the fonts that each must give
+//
+// proofs/ computes each through the definitions.
