@@ -1,8 +1,6 @@
--- Laws. For the crates above: Lists, of the whole list. For this crate alone: Rows, of the loop over the records.
--- Laws. Putting: what the loops over numbers and bytes have written, and a block.
--- Laws. Fitting: the tests of a record, one by one and all at once.
--- Settling: what was written, and the room at the end. Cases: small lists, computed. Cited above: Writing, what is written,
--- and of which blocks; Tight, any two permitted results coincide.
+-- Laws that the crates above cite: Fitting, of a record's tests; Putting, of a block's bytes; Lists, of the whole list; Writing, what is
+-- written, and of which blocks; Tight, that one result is permitted. For this crate alone: Rows, of the loop over the records; Settling, of
+-- the room at the end; Cases, small lists, computed.
 pub mod Lists
 mod Rows
 pub mod Putting

@@ -1,4 +1,3 @@
--- Laws: Items, of a record read back; Rooms, of a token room that the cutter filled.
--- Laws that the crates above cite: Records, of a token's words and of writing them.
+-- Laws that the crates above cite: Records, of a token's words and of writing them; Items, of a record read back.
 pub mod Items
 pub mod Records
