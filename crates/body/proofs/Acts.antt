@@ -17,7 +17,7 @@ use Rattle.answers.specs.declared.Why.{Why}
 use Rattle.answers.specs.declared.Why.the-variants.{IgnorableInBody, TooDeep}
 use Rattle.answers.specs.Answers.{refusal}
 use Rattle.tokens.specs.declared.Property.{Property}
-use Rattle.tokens.specs.Tokens.{Shown}
+use Rattle.tokens.specs.Tokens.{Shown, tokenWords}
 use Rattle.tokens.specs.Tokens
 use Rattle.utf8.specs.declared.Encoded.{Encoded}
 use Rattle.utf8.specs.Utf8.{written, encodedOf}
@@ -165,7 +165,7 @@ abbrev first : List ℕ → List ℕ → Shown
 first src ws = shownOf src (itemAt ws)
 
 abbrev others : List ℕ → ℕ → List ℕ → List Shown
-others src n ws = shownAll src (n - 1) (restWords ws 6)
+others src n ws = shownAll src (n - 1) (restWords ws tokenWords)
 
 -- a run, or none
 run-first : (x : Shown) (ts : List Shown) → 0 < runLength (x ∷ ts) → isUnit x ≡ true

@@ -81,7 +81,7 @@ module _ (src : List ℕ) (total : ℕ) {o : Outcome} {n : ℕ} (e : o ≡ cutAn
           let x : n ≡ m = cc in
           let y : m ≡ 0 + count (tokenStream src) = answer-count (tokenStream src) 0 m a in
           let k : m ≤ capacity tokenWords total = leb-true m (capacity tokenWords total) b in
-          (omega arith, rw x (le-trans (mul-le-mul-right 6 k) (div-mul-le-self total 6)))
+          (omega arith, rw x (le-trans (mul-le-mul-right tokenWords k) (div-mul-le-self total tokenWords)))
       pick m a false b q = absurd (done-refused q)
 
       go : (a : Outcome) → answer 0 (tokenStream src) ≡ a → Done n ≡ settled tokenLayout (refusal TokenRoom) total a → (n ≡ count (tokenStream src)) × (n * tokenWords ≤ total)

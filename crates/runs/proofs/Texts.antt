@@ -123,15 +123,15 @@ module _ {skip : ℕ} {s : List ℕ} {count : ℕ} {page : Page} {text₀ t : Li
   module _ (z : 0 < n) {num : Property} (e : num ≡ numberAt t) (small : valueOf num < 4294967296) {g : Gave} (q : g ≡ step skip run num)
       {r : Laid} {text′ : List ℕ} (h : Appends p (saidOf (g .lost) 65533 ++ saidOf (g .some) (g .value)) text r text′) where
     -- the text of the token, and the text behind it
-    told-one : (b : List ℕ) → appendTo (told r b text′) (utf8All (rest skip (g .run) (numbersOf (n - 1) (restWords t 6)))) ≡ appendOf page (runText skip (numbersOf count s)) b text₀
+    told-one : (b : List ℕ) → appendTo (told r b text′) (utf8All (rest skip (g .run) (numbersOf (n - 1) (restWords t tokenWords)))) ≡ appendOf page (runText skip (numbersOf count s)) b text₀
     told-one b =
-        let more : List ℕ = utf8All (rest skip (g .run) (numbersOf (n - 1) (restWords t 6))) in
+        let more : List ℕ = utf8All (rest skip (g .run) (numbersOf (n - 1) (restWords t tokenWords))) in
         let v : List ℕ = saidOf (g .lost) 65533 ++ saidOf (g .some) (g .value) in
         let a : utf8All (rest skip run (numbersOf n t)) ≡ v ++ more =
         ap (λ (ns : List Property). utf8All (rest skip run ns)) (numbers-some n t z)
-        ∙ ap (λ (m : Property). utf8All (rest skip run (m ∷ numbersOf (n - 1) (restWords t 6)))) (sym e)
-        ∙ text-step skip num (numbersOf (n - 1) (restWords t 6)) (l .fit)
-        ∙ ap (λ (m : Gave). utf8All (values m) ++ utf8All (rest skip (m .run) (numbersOf (n - 1) (restWords t 6)))) (sym q)
+        ∙ ap (λ (m : Property). utf8All (rest skip run (m ∷ numbersOf (n - 1) (restWords t tokenWords)))) (sym e)
+        ∙ text-step skip num (numbersOf (n - 1) (restWords t tokenWords)) (l .fit)
+        ∙ ap (λ (m : Gave). utf8All (values m) ++ utf8All (rest skip (m .run) (numbersOf (n - 1) (restWords t tokenWords)))) (sym q)
         ∙ ap (λ (bs : List ℕ). bs ++ more) (text-values skip run num small g q) in
         ap (λ (m : Laying). appendTo m more) (h .lays b)
         ∙ append-append p v more b text (l .room)
@@ -141,7 +141,7 @@ module _ {skip : ℕ} {s : List ℕ} {count : ℕ} {page : Page} {text₀ t : Li
     pub tell-full : {k : Refusal} → r ≡ Full k → Appends page (runText skip (numbersOf count s)) text₀ (Full k) text′
     tell-full {k} f = record { lays = λ b. rw f at (told-one b); stays = λ w y. omega arith }
 
-    pub tell-more : {p′ : Page} → r ≡ On p′ → length text′ ≡ length text → Telling skip s count page text₀ (restWords t 6) (n - 1) (g .run) p′ text′
+    pub tell-more : {p′ : Page} → r ≡ On p′ → length text′ ≡ length text → Telling skip s count page text₀ (restWords t tokenWords) (n - 1) (g .run) p′ text′
     tell-more {p′} f m = record {
       words = words-less n t (l .words);
       fit = rw q (fit-step skip num (l .fit));
