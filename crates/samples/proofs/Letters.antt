@@ -30,7 +30,7 @@ use Rattle.body.specs.Body.{gather, asks, bodyFrom}
 use Rattle.parser.specs.declared.Answer.the-variants.{Read}
 use Rattle.parser.specs.Parsing.{Sizes, Letter, placed, bodied, answerNumber}
 use Rattle.reader.specs.Reading.{letterOf, answered, readAnswer, blockRoom, textRoom}
-use Rattle.samples.specs.Letters.{Sample, samples, telling, listed, listedCounts, listedBlocks, listedText}
+use Rattle.samples.specs.Letters.{Sample, samples, telling, crowded, cramped, listed, listedCounts, listedBlocks, listedText}
 
 -- rooms enough for each
 room : Sizes
@@ -42,17 +42,32 @@ says s (found l) =
     eqb 0 (s .number) && (sameBytes (textOf (l .pieces)) (s .text) && (sameBytes (tableWords (l .tables .fonts)) (s .fonts) && eqb (length (blocks (l .pieces))) (s .blocks)))
 says s (refused r) = eqb (answerNumber (answered [] (refused r))) (s .number)
 
-holds : List Sample → Bool
-holds [] = true
-holds (s ∷ ss) = says s (letterOf Plain (bytesOf (s .letter)) room) && holds ss
+holds : Sizes → List Sample → Bool
+holds z [] = true
+holds z (s ∷ ss) = says s (letterOf Plain (bytesOf (s .letter)) z) && holds z ss
 
-sample-letters : holds samples ≡ true
+sample-letters : holds room samples ≡ true
 unfolding holds says samples room letterOf shownBy bodied placed roomy bodyFrom asks gather blocks blocksFrom textOf records tableWords fontRecord walkFrom extent aimFrom tablesFrom fonts fontsFrom fontToken fontWord stored inserted hasKey fontNamed colours coloursFrom colourToken colourWordOf tableLimit runText utf8All decode kept later units unitOf utf8 written change styleOf flagsNumber flagged fitted alignment spacing measured character cutAnswer tokenStream trimmed allSlices last located settled ended items each andThen split slices lead body any tokens escaped other word wordTail bareLength named numbered shownWord lineBreakAnd hexEscape hexValue plain mark wordNumber placeIn sameBytes hexDigit hexPair digitsFrom digits decimal recordOf
 sample-letters = refl
 
-telling-letters : holds telling ≡ true
+telling-letters : holds room telling ≡ true
 unfolding holds says telling room letterOf shownBy bodied placed roomy bodyFrom asks gather blocks blocksFrom textOf records tableWords fontRecord walkFrom extent aimFrom tablesFrom fonts fontsFrom fontToken fontWord stored inserted hasKey fontNamed colours coloursFrom colourToken colourWordOf tableLimit runText utf8All decode kept later units unitOf utf8 written change styleOf flagsNumber flagged fitted alignment spacing measured character cutAnswer tokenStream trimmed allSlices last located settled ended items each andThen split slices lead body any tokens escaped other word wordTail bareLength named numbered shownWord lineBreakAnd hexEscape hexValue plain mark wordNumber placeIn sameBytes hexDigit hexPair digitsFrom digits decimal recordOf
 telling-letters = refl
+
+-- no room, and room for tokens alone
+nowhere : Sizes
+nowhere = record { tokens = 0; fonts = 0; colours = 0; blocks = 0; text = 0 }
+
+tokens-alone : Sizes
+tokens-alone = record { tokens = 96; fonts = 0; colours = 0; blocks = 0; text = 0 }
+
+crowded-letters : holds nowhere crowded ≡ true
+unfolding holds says crowded nowhere letterOf shownBy bodied placed roomy bodyFrom asks gather blocks blocksFrom textOf records tableWords fontRecord walkFrom extent aimFrom tablesFrom fonts fontsFrom fontToken fontWord stored inserted hasKey fontNamed colours coloursFrom colourToken colourWordOf tableLimit runText utf8All decode kept later units unitOf utf8 written change styleOf flagsNumber flagged fitted alignment spacing measured character cutAnswer tokenStream trimmed allSlices last located settled ended items each andThen split slices lead body any tokens escaped other word wordTail bareLength named numbered shownWord lineBreakAnd hexEscape hexValue plain mark wordNumber placeIn sameBytes hexDigit hexPair digitsFrom digits decimal recordOf
+crowded-letters = refl
+
+cramped-letters : holds tokens-alone cramped ≡ true
+unfolding holds says cramped tokens-alone letterOf shownBy bodied placed roomy bodyFrom asks gather blocks blocksFrom textOf records tableWords fontRecord walkFrom extent aimFrom tablesFrom fonts fontsFrom fontToken fontWord stored inserted hasKey fontNamed colours coloursFrom colourToken colourWordOf tableLimit runText utf8All decode kept later units unitOf utf8 written change styleOf flagsNumber flagged fitted alignment spacing measured character cutAnswer tokenStream trimmed allSlices last located settled ended items each andThen split slices lead body any tokens escaped other word wordTail bareLength named numbered shownWord lineBreakAnd hexEscape hexValue plain mark wordNumber placeIn sameBytes hexDigit hexPair digitsFrom digits decimal recordOf
+cramped-letters = refl
 
 -- the sample listing, in rooms that its records fill
 just : Sizes

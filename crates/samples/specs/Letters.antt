@@ -44,6 +44,28 @@ telling =
     ∷ record { letter = "{\\u8212\\u70000 \\'97}"; number = 0; text = 226 ∷ 128 ∷ 148 ∷ []; fonts = []; blocks = 1 }
     ∷ []
 
+-- 01, Answer numbers, the order: "cutting left to right, all slices but the last, gives the first of 3 to 5; then 6, 7, 8, 9": in rooms
+-- that hold nothing
+unfoldable pub crowded : List Sample
+crowded =
+    record { letter = "{\\b2147483648}"; number = 5; text = []; fonts = []; blocks = 0 }
+    ∷ record { letter = "{a"; number = 6; text = []; fonts = []; blocks = 0 }
+    ∷ record { letter = "a}"; number = 7; text = []; fonts = []; blocks = 0 }
+    ∷ record { letter = ""; number = 8; text = []; fonts = []; blocks = 0 }
+    ∷ []
+
+-- and behind cutting: in rooms for tokens alone. A number that does not fit is 12 before there is no room for its colour, 18; a font is
+-- stored, 17, before `\f` lacks a number, 11; 19 comes before 20, and the header before the body
+unfoldable pub cramped : List Sample
+cramped =
+    record { letter = "a}"; number = 9; text = []; fonts = []; blocks = 0 }
+    ∷ record { letter = "{{\\colortbl\\blue256}}"; number = 12; text = []; fonts = []; blocks = 0 }
+    ∷ record { letter = "{{\\colortbl\\blue255}}"; number = 18; text = []; fonts = []; blocks = 0 }
+    ∷ record { letter = "{{\\fonttbl\\f}}"; number = 17; text = []; fonts = []; blocks = 0 }
+    ∷ record { letter = "{a{\\colortbl\\blue255}}"; number = 18; text = []; fonts = []; blocks = 0 }
+    ∷ record { letter = "{a}"; number = 19; text = []; fonts = []; blocks = 0 }
+    ∷ []
+
 -- "For `{\rtf1 a\b b}`": "0 6 0 0 2 2", the answer and five counts; two blocks, of thirteen words each; the text "ab"
 unfoldable pub listed : String
 listed = "{\\rtf1 a\\b b}"
