@@ -9,6 +9,7 @@ use Rattle.tokens.specs.declared.Property.the-variants.{None, Value}
 use Rattle.tokens.specs.Tokens.{Shown}
 use Rattle.tokens.specs.Tokens
 use Rattle.fonts.specs.Rows.{Font}
+use Rattle.tokens.specs.WordNumbers as words
 
 -- how many fonts find room; the tokens; what they give
 pub record Told : Type 0 where
@@ -18,10 +19,10 @@ pub record Told : Type 0 where
 
 -- `\f` and a number, and `\f` alone
 unfoldable pub f : ℕ → Shown
-f v = Shown.word 9 (Value v)
+f v = Shown.word words.fontNumber (Value v)
 
 unfoldable pub bare : Shown
-bare = Shown.word 9 None
+bare = Shown.word words.fontNumber None
 
 unfoldable pub font : ℕ → ℕ → List ℕ → Font
 font k p name = record { key = k; place = p; name = name }
@@ -31,7 +32,7 @@ told =
     -- `{\fonttbl{\f1 Arial;}}`: at `\f1` the first font, which has key 0 and no name, is stored; the brackets store font 1
     record {
       limit = 256;
-      tokens = Shown.word 4 None ∷ Shown.opening ∷ f 1 ∷ Shown.text 14 (bytesOf "Arial;") ∷ Shown.closing ∷ Shown.closing ∷ [];
+      tokens = Shown.word words.fontTable None ∷ Shown.opening ∷ f 1 ∷ Shown.text 14 (bytesOf "Arial;") ∷ Shown.closing ∷ Shown.closing ∷ [];
       gives = found (font 0 0 [] ∷ font 1 14 (bytesOf "Arial") ∷ []);
     }
     -- `\f5 A;\f7}`: `A` is stored under 5, the key before `\f7`, and, as nothing is reset, under 7 at the bracket
