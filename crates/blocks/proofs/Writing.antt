@@ -1,37 +1,108 @@
--- Words stored one by one.
---     put-thirteen   a record's words
+-- The code's steps, one law for each way through it: what its tests say, what its callees promise.
+--     last-put, last-none   the open block's record
+--     count-.., cap-le      how much is counted
+--     copy-more, copy-end   a copy, byte by byte
+--     start-.., append-.., add-..   what the code answers is what laying says
+--     still-..              and what it asks holds again
 -- Assumes nothing.
-use mathlib.Core.Path.{_≡_, refl, ap, _∙_}
+use mathlib.Core.Path.{_≡_, refl, sym, _∙_}
 use mathlib.Core.List.{List, [], _∷_, _++_}
-use Prim.Native.Nat.{ℕ, suc, _+_, _*_, _<_}
-use native.Mathlib.Nat.{add-suc}
+use mathlib.Core.Bool.{Bool, true, false, cond, _&&_}
+use Prim.Native.Nat.{ℕ, _+_, _-_, _<_, _≤_}
 use native.Mathlib.Numerals.{add-one}
-use lib.ListN.{length, set}
-use lib.Seq.{sets}
+use native.Mathlib.Omega.{arith}
+use borrow.Author.Tests.{lt-ltb, le-ltb, ltb-true, ltb-false}
+use lib.ListN.{length, set, getD}
+use lib.Seq.{sets, sets-eq, paste, paste-suc, take-length}
+use lib.Dec.{ltb}
+use Rattle.answers.specs.declared.Refusal.{Refusal}
+use Rattle.answers.specs.declared.Why.the-variants.{BlockRoom, TextRoom}
+use Rattle.answers.specs.Answers.{refusal}
 use Rattle.rooms.specs.Rooms.{capacity, put}
-use Rattle.rooms.proofs.Rooms.{put-in}
 use Rattle.styles.specs.declared.Style.{Style}
-use Rattle.styles.specs.Styles.{styleWords}
+use Rattle.styles.specs.Styles.{styleWords, sameStyle}
+use Rattle.blocks.specs.declared.Page.{Page}
+use Rattle.blocks.specs.Pages.{blockWords, blockRecord, textCapacity}
+use Rattle.blocks.specs.Laying.{Laying, on, off, lastPut, blockCount, startOf, appendOf, addOf, ReadyBlocks, Ready}
 
--- stores at places that are counted from one place on
-abbrev stores : List ℕ → ℕ → ℕ → List ℕ → List ℕ
-stores l at i [] = l
-stores l at i (a ∷ vs) = stores (set l (at + i) a) at (suc i) vs
+module _ (p : Page) where
+  pub last-put : (b : List ℕ) {b′ : List ℕ} → p .begun ≡ true
+      → b′ ≡ put blockWords b (p .blocks) (styleWords (p .style) ++ (p .from ∷ (p .text - p .from) ∷ [])) → b′ ≡ lastPut p b
+  unfolding blockRecord
+  last-put b e h = rw e h
 
-as-sets : (vs l : List ℕ) (at i : ℕ) → stores l at i vs ≡ sets l (at + i) vs
-as-sets [] l at i = refl
-as-sets (a ∷ vs) l at i = as-sets vs (set l (at + i) a) at (suc i) ∙ ap (λ (k : ℕ). sets (set l (at + i) a) k vs) (add-suc at i)
+  pub last-none : (b : List ℕ) → p .begun ≡ false → b ≡ lastPut p b
+  last-none b e = rw e
 
-stored : (a : ℕ) (vs l : List ℕ) (at : ℕ) → stores (set l at a) at 1 vs ≡ sets l at (a ∷ vs)
-stored a vs l at = as-sets vs (set l at a) at 1 ∙ ap (λ (k : ℕ). sets (set l at a) k vs) (add-one at)
+  pub count-le : p .blocks ≤ blockCount p
+  count-le = go (p .begun)
+    where
+      go : (t : Bool) → p .blocks ≤ cond t (p .blocks + 1) (p .blocks)
+      go true = omega arith
+      go false = omega arith
 
-module _ (room : List ℕ) (n : ℕ) (s : Style) (place count : ℕ) where
-  pub put-thirteen : n < capacity 13 (length room)
-      → set (set (set (set (set (set (set (set (set (set (set (set (set room (n * 13) (s .colour)) (n * 13 + 1) (s .font)) (n * 13 + 2) (s .size))
-      (n * 13 + 3) (s .flags)) (n * 13 + 4) (s .alignment)) (n * 13 + 5) (s .before)) (n * 13 + 6) (s .after)) (n * 13 + 7) (s .kind))
-      (n * 13 + 8) (s .line)) (n * 13 + 9) (s .multiplier)) (n * 13 + 10) (s .tab)) (n * 13 + 11) place) (n * 13 + 12) count
-      ≡ put 13 room n (styleWords s ++ (place ∷ count ∷ []))
-  put-thirteen h =
-      stored (s .colour) (s .font ∷ s .size ∷ s .flags ∷ s .alignment ∷ s .before ∷ s .after ∷ s .kind ∷ s .line ∷ s .multiplier ∷ s .tab ∷ place ∷ count ∷ [])
-      room (n * 13)
-      ∙ put-in 13 room n (styleWords s ++ (place ∷ count ∷ [])) h
+pub cap-in : (n : ℕ) → n < 2147483647 → n ≡ textCapacity n
+cap-in n h = rw (lt-ltb n 2147483647 h)
+
+pub cap-out : (n : ℕ) → 2147483647 ≤ n → 2147483647 ≡ textCapacity n
+cap-out n h = rw (le-ltb n 2147483647 h)
+
+pub cap-le : (n : ℕ) → (textCapacity n ≤ n) × (textCapacity n ≤ 2147483647)
+cap-le n = go (ltb n 2147483647) refl
+  where
+    go : (b : Bool) → ltb n 2147483647 ≡ b → (cond b n 2147483647 ≤ n) × (cond b n 2147483647 ≤ 2147483647)
+    go true e = let h : n < 2147483647 = ltb-true n 2147483647 e in (omega arith, omega arith)
+    go false e = let h : 2147483647 ≤ n = ltb-false n 2147483647 e in (omega arith, omega arith)
+
+module _ (d : List ℕ) (at : ℕ) (s l : List ℕ) (i : ℕ) where
+  pub copy-more : at + i < length d → i < length s → l ≡ paste d at s i → set l (at + i) (getD s i 0) ≡ paste d at s (i + 1)
+  copy-more h g e = rw (add-one, e) (paste-suc d at s i 0 h g)
+
+  pub copy-end : at + length s ≤ length d → i ≤ length s → length s ≤ i → l ≡ paste d at s i → l ≡ sets d at s
+  copy-end k h g e =
+      let q : i ≡ length s = omega arith in
+      e ∙ rw (q, take-length) (sym (sets-eq s d at k))
+
+module _ (p : Page) (s : Style) (b t : List ℕ) {x : Bool} (same : x ≡ sameStyle (p .style) s) where
+  pub start-same : (p .begun && x) ≡ true → on p b t ≡ startOf p s b t
+  unfolding startOf
+  start-same e = rw (← same, e)
+
+  module _ (e : (p .begun && x) ≡ false) {n : ℕ} (c : n ≡ blockCount p) where
+    pub start-new : {b′ : List ℕ} → n < capacity blockWords (length b) → b′ ≡ lastPut p b
+        → on (record { blocks = n; text = p .text; begun = true; style = s; from = p .text }) b′ t ≡ startOf p s b t
+    unfolding startOf
+    start-new h q = rw (← same, e, ← c, lt-ltb n (capacity blockWords (length b)) h, q)
+
+    pub start-full : {r : Refusal} → capacity blockWords (length b) ≤ n → r ≡ refusal BlockRoom → off r ≡ startOf p s b t
+    unfolding startOf
+    start-full h q = rw (← same, e, ← c, le-ltb n (capacity blockWords (length b)) h, q)
+
+module _ (p : Page) (bytes b t : List ℕ) where
+  pub append-full : {r : Refusal} {k : ℕ} → k ≡ textCapacity (length t) → k - p .text < length bytes → r ≡ refusal TextRoom → off r ≡ appendOf p bytes b t
+  unfolding appendOf
+  append-full {k = k} c h q = rw (← c, lt-ltb (k - p .text) (length bytes) h, q)
+
+  pub append-more : {t′ : List ℕ} {k : ℕ} → k ≡ textCapacity (length t) → length bytes ≤ k - p .text → t′ ≡ sets t (p .text) bytes
+      → on (record { blocks = p .blocks; text = p .text + length bytes; begun = p .begun; style = p .style; from = p .from }) b t′ ≡ appendOf p bytes b t
+  unfolding appendOf
+  append-more {k = k} c h q = rw (← c, le-ltb (k - p .text) (length bytes) h, q)
+
+pub still-new : (p : Page) (s : Style) (w v n : ℕ) → ReadyBlocks p w → n < capacity blockWords w → p .text ≤ textCapacity v
+    → Ready (record { blocks = n; text = p .text; begun = true; style = s; from = p .text }) w v
+still-new p s w v n h l k = record { page = record { blocks = omega arith; small = h .small; from = omega arith }; text = k }
+
+pub still-more : (p : Page) (w v m n : ℕ) → ReadyBlocks p w → m ≡ textCapacity v → p .text ≤ m → n ≤ m - p .text
+    → Ready (record { blocks = p .blocks; text = p .text + n; begun = p .begun; style = p .style; from = p .from }) w v
+still-more p w v m n h e k l =
+    let c : m ≤ 2147483647 = rw e (cap-le v .1) in
+    record { page = record { blocks = h .blocks; small = omega arith; from = omega (arith, h .from) }; text = rw (← e) (omega arith) }
+
+module _ (p : Page) (s : Style) (bytes b t : List ℕ) where
+  pub add-full : (r : Refusal) → off r ≡ startOf p s b t → off r ≡ addOf p s bytes b t
+  unfolding addOf
+  add-full r e = rw (← e)
+
+  pub add-on : (q : Page) (b′ : List ℕ) {l : Laying} → on q b′ t ≡ startOf p s b t → l ≡ appendOf q bytes b′ t → l ≡ addOf p s bytes b t
+  unfolding addOf
+  add-on q b′ e f = f ∙ rw (← e)

@@ -17,27 +17,27 @@ use lib.Seq.{getD-set-same, getD-set-other}
 use Rattle.answers.specs.declared.Refusal.{Refusal}
 use Rattle.answers.specs.declared.Why.the-variants.{TooDeep}
 use Rattle.answers.specs.Answers.{refusal}
-use Rattle.tokens.specs.Tokens.{Shown}
+use Rattle.tokens.specs.Tokens.{Shown, tokenWords}
 use Rattle.tokens.specs.Tokens
-use Rattle.items.specs.declared.Item.{Item}
-use Rattle.items.specs.Items.{itemAt, shownOf, shownAll}
-use Rattle.items.proofs.Items.{rest, words-less, shown-none, shown-some, shown-drop}
+use Rattle.tokens.specs.declared.item.Item.{Item}
+use Rattle.tokens.specs.Items.{itemAt, shownOf, shownAll}
+use Rattle.tokens.proofs.Items.{rest, words-less, shown-none, shown-some, shown-drop}
 use Rattle.styles.specs.declared.State.{State}
-use Rattle.styles.specs.declared.Reading.{Reading}
+use Rattle.readings.specs.declared.Reading.{Reading}
 use Rattle.styles.specs.Styles.{freshFlags, freshParagraph, fresh}
-use Rattle.pages.specs.declared.Page.{Page}
-use Rattle.pages.specs.declared.Laid.{Laid}
-use Rattle.pages.specs.declared.Laid.the-variants.{Full}
-use Rattle.pages.specs.Laying.{Laying, on, off, blank, layAll, Ready, Still}
-use Rattle.pages.proofs.Laying.{lay-end, lay-stop, ready-blank}
+use Rattle.blocks.specs.declared.Page.{Page}
+use Rattle.blocks.specs.declared.Laid.{Laid}
+use Rattle.blocks.specs.declared.Laid.the-variants.{Full}
+use Rattle.blocks.specs.Laying.{Laying, on, off, blank, layAll, Ready, Still}
+use Rattle.blocks.proofs.Laying.{lay-end, lay-stop, ready-blank}
 use Rattle.walk.specs.Walk.{passedBy}
-use Rattle.acts.specs.declared.Act.{Act}
-use Rattle.acts.specs.declared.Act.the-variants.{Push, Pop, Keep, Said, Bad}
-use Rattle.acts.specs.declared.Bare.{Bare}
-use Rattle.acts.specs.declared.Bare.the-variants.{Opens, Refuses}
-use Rattle.acts.specs.Body.{Asked, token, statesOf, uttered, bareAsks}
-use Rattle.acts.specs.Acting.{from, onward, OnwardFrom, bareOf}
-use Rattle.acts.proofs.Items.{from-end, from-group, from-bare}
+use Rattle.body.specs.declared.act.Act.{Act}
+use Rattle.body.specs.declared.act.Act.the-variants.{Push, Pop, Keep, Said, Bad}
+use Rattle.body.specs.declared.act.Bare.{Bare}
+use Rattle.body.specs.declared.act.Bare.the-variants.{Opens, Refuses}
+use Rattle.body.specs.Body.{Asked, token, statesOf, uttered, bareAsks}
+use Rattle.body.specs.Acting.{from, onward, OnwardFrom, bareOf}
+use Rattle.body.proofs.Items.{from-end, from-group, from-bare}
 
 -- what an array's place that is not there would give
 abbrev pub zeroed : State
@@ -130,7 +130,7 @@ whole rd src b₀ t₀ tokens count = layAll (on blank b₀ t₀) (from rd (fres
 pub record Loop (rd : Reading) (src b₀ t₀ tokens : List ℕ) (count : ℕ) (b t : List ℕ) (states : List State) (depth : ℕ) (top : State) (p : Page) (ws : List ℕ) (n : ℕ) : Type 0 where
   pub deep : depth ≤ 64
   pub all : length states ≡ 64
-  pub words : n * 6 ≤ length ws
+  pub words : n * tokenWords ≤ length ws
   pub few : n ≤ 65536
   pub long-b : length b ≡ length b₀
   pub long-t : length t ≡ length t₀
@@ -138,7 +138,7 @@ pub record Loop (rd : Reading) (src b₀ t₀ tokens : List ℕ) (count : ℕ) (
   pub left : leads rd src b t states depth top p ws n ≡ whole rd src b₀ t₀ tokens count
 
 pub loop-start : (rd : Reading) (src b t tokens : List ℕ) (count : ℕ) (states : List State) {p : Page} → p ≡ blank → length states ≡ 64 → {top : State} → top ≡ fresh
-    → (count * 6 ≤ length tokens) × (count ≤ 65536) → Loop rd src b t tokens count b t states 1 top p tokens count
+    → (count * tokenWords ≤ length tokens) × (count ≤ 65536) → Loop rd src b t tokens count b t states 1 top p tokens count
 unfolding held stack
 loop-start rd src b t tokens count states q l e h = record {
   deep = omega arith;
@@ -152,7 +152,7 @@ loop-start rd src b t tokens count states q l e h = record {
 }
 
 -- the words of the tokens behind the first k
-words-behind : (k n : ℕ) (ws : List ℕ) → n * 6 ≤ length ws → (n - k) * 6 ≤ length (rest ws (k * 6))
+words-behind : (k n : ℕ) (ws : List ℕ) → n * tokenWords ≤ length ws → (n - k) * tokenWords ≤ length (rest ws (k * tokenWords))
 words-behind k n ws h = simp (length-take, length-drop) (omega arith)
 
 module _ {rd : Reading} {src b₀ t₀ tokens : List ℕ} {count : ℕ} {b t : List ℕ} {states : List State} {depth : ℕ} {top : State} {p : Page} {ws : List ℕ} {n : ℕ}
@@ -170,23 +170,23 @@ module _ {rd : Reading} {src b₀ t₀ tokens : List ℕ} {count : ℕ} {b t : L
 
   module _ (z : 0 < n) where
     abbrev front : List Shown
-    front = shownOf src (itemAt ws) ∷ shownAll src (n - 1) (rest ws 6)
+    front = shownOf src (itemAt ws) ∷ shownAll src (n - 1) (rest ws tokenWords)
 
     left-front : layAll (on p b t) (from rd (stack states top depth) front) ≡ whole rd src b₀ t₀ tokens count
     left-front = rw (shown-some src n ws z) at (l .left)
 
-    module _ {i : Item} (e : i ≡ itemAt ws) {h : ℕ} (q : (s : List ℕ) → h ≡ passedBy (shownOf s i) (shownAll s (n - 1) (rest ws 6))) where
-      passes : h ≡ passedBy (shownOf src (itemAt ws)) (shownAll src (n - 1) (rest ws 6))
+    module _ {i : Item} (e : i ≡ itemAt ws) {h : ℕ} (q : (s : List ℕ) → h ≡ passedBy (shownOf s i) (shownAll s (n - 1) (rest ws tokenWords))) where
+      passes : h ≡ passedBy (shownOf src (itemAt ws)) (shownAll src (n - 1) (rest ws tokenWords))
       passes = rw e at (q src)
 
       -- a group
-      pub turn-group : 0 < h → h ≤ n - 1 → Loop rd src b₀ t₀ tokens count b t states depth top p (rest ws ((h + 1) * 6)) (n - (h + 1))
+      pub turn-group : 0 < h → h ≤ n - 1 → Loop rd src b₀ t₀ tokens count b t states depth top p (rest ws ((h + 1) * tokenWords)) (n - (h + 1))
       turn-group y m =
           let k : h + 1 ≤ n = omega arith in
-          let d : drop (h + 1) (shownAll src n ws) ≡ drop h (shownAll src (n - 1) (rest ws 6)) = rw (add-one h, shown-some src n ws z) in
-          let g : from rd (stack states top depth) (shownAll src (n - (h + 1)) (rest ws ((h + 1) * 6))) ≡ from rd (stack states top depth) front =
-          ap (from rd (stack states top depth)) (sym (shown-drop src (h + 1) n ws k) ∙ d ∙ ap (λ (j : ℕ). drop j (shownAll src (n - 1) (rest ws 6))) passes)
-          ∙ sym (from-group rd (stack states top depth) (shownOf src (itemAt ws)) (shownAll src (n - 1) (rest ws 6)) (rw passes at y)) in
+          let d : drop (h + 1) (shownAll src n ws) ≡ drop h (shownAll src (n - 1) (rest ws tokenWords)) = rw (add-one h, shown-some src n ws z) in
+          let g : from rd (stack states top depth) (shownAll src (n - (h + 1)) (rest ws ((h + 1) * tokenWords))) ≡ from rd (stack states top depth) front =
+          ap (from rd (stack states top depth)) (sym (shown-drop src (h + 1) n ws k) ∙ d ∙ ap (λ (j : ℕ). drop j (shownAll src (n - 1) (rest ws tokenWords))) passes)
+          ∙ sym (from-group rd (stack states top depth) (shownOf src (itemAt ws)) (shownAll src (n - 1) (rest ws tokenWords)) (rw passes at y)) in
           record {
             deep = l .deep;
             all = l .all;
@@ -203,21 +203,21 @@ module _ {rd : Reading} {src b₀ t₀ tokens : List ℕ} {count : ℕ} {b t : L
 
       -- a token where no state is left
       module _ (y : h ≤ 0) (d : depth ≡ 0) {r : Bare} (f : (s : List ℕ) → r ≡ bareOf (shownOf s i)) where
-        bare-front : layAll (on p b t) (uttered (bareAsks (shownOf src (itemAt ws))) (from rd (statesOf (bareAsks (shownOf src (itemAt ws)))) (shownAll src (n - 1) (rest ws 6)))) ≡ whole rd src b₀ t₀ tokens count
+        bare-front : layAll (on p b t) (uttered (bareAsks (shownOf src (itemAt ws))) (from rd (statesOf (bareAsks (shownOf src (itemAt ws)))) (shownAll src (n - 1) (rest ws tokenWords)))) ≡ whole rd src b₀ t₀ tokens count
         unfolding held stack
         bare-front =
-            let v : passedBy (shownOf src (itemAt ws)) (shownAll src (n - 1) (rest ws 6)) ≡ 0 = let u : h ≡ 0 = omega arith in sym passes ∙ u in
+            let v : passedBy (shownOf src (itemAt ws)) (shownAll src (n - 1) (rest ws tokenWords)) ≡ 0 = let u : h ≡ 0 = omega arith in sym passes ∙ u in
             let g : layAll (on p b t) (from rd [] front) ≡ whole rd src b₀ t₀ tokens count = rw d at left-front in
-            ap (layAll (on p b t)) (sym (from-bare rd (shownOf src (itemAt ws)) (shownAll src (n - 1) (rest ws 6)) v)) ∙ g
+            ap (layAll (on p b t)) (sym (from-bare rd (shownOf src (itemAt ws)) (shownAll src (n - 1) (rest ws tokenWords)) v)) ∙ g
 
         said : r ≡ bareOf (shownOf src (itemAt ws))
         said = rw e at (f src)
 
         pub turn-refused : {k : Refusal} → r ≡ Refuses k → (off k ≡ whole rd src b₀ t₀ tokens count) × Still (Full k) (length b₀) (length t₀)
         turn-refused {k} g =
-            (sym (bare-refuses rd p b t (shownOf src (itemAt ws)) (shownAll src (n - 1) (rest ws 6)) k (sym said ∙ g)) ∙ bare-front, still-full k)
+            (sym (bare-refuses rd p b t (shownOf src (itemAt ws)) (shownAll src (n - 1) (rest ws tokenWords)) k (sym said ∙ g)) ∙ bare-front, still-full k)
 
-        pub turn-opened : r ≡ Opens → (s : State) → s ≡ fresh → Loop rd src b₀ t₀ tokens count b t states 1 s p (rest ws 6) (n - 1)
+        pub turn-opened : r ≡ Opens → (s : State) → s ≡ fresh → Loop rd src b₀ t₀ tokens count b t states 1 s p (rest ws tokenWords) (n - 1)
         unfolding held stack
         turn-opened g s m = record {
           deep = omega arith;
@@ -227,7 +227,7 @@ module _ {rd : Reading} {src b₀ t₀ tokens : List ℕ} {count : ℕ} {b t : L
           long-b = l .long-b;
           long-t = l .long-t;
           ready = l .ready;
-          left = rw m (sym (bare-opens rd p b t (shownOf src (itemAt ws)) (shownAll src (n - 1) (rest ws 6)) (sym said ∙ g)) ∙ bare-front);
+          left = rw m (sym (bare-opens rd p b t (shownOf src (itemAt ws)) (shownAll src (n - 1) (rest ws tokenWords)) (sym said ∙ g)) ∙ bare-front);
         }
 
     -- a token where there is a state
@@ -240,7 +240,7 @@ module _ {rd : Reading} {src b₀ t₀ tokens : List ℕ} {count : ℕ} {b t : L
           ∙ l .left
 
       -- the tokens behind the first
-      behind-one : drop 1 (shownAll src n ws) ≡ shownAll src (n - 1) (rest ws 6)
+      behind-one : drop 1 (shownAll src n ws) ≡ shownAll src (n - 1) (rest ws tokenWords)
       behind-one = shown-drop src 1 n ws z
 
       ready′ : Ready p (length b′) (length t′)
@@ -250,7 +250,7 @@ module _ {rd : Reading} {src b₀ t₀ tokens : List ℕ} {count : ℕ} {b t : L
       turn-bad {k} e = (rw e at acted, still-full k)
 
       module _ (e : a ≡ Push) where
-        pushed : cond (eqb (suc (length (held states (depth - 1)))) 64) (off (refusal TooDeep)) (layAll (on p b′ t′) (from rd (top ∷ top ∷ held states (depth - 1)) (shownAll src (n - 1) (rest ws 6))))
+        pushed : cond (eqb (suc (length (held states (depth - 1)))) 64) (off (refusal TooDeep)) (layAll (on p b′ t′) (from rd (top ∷ top ∷ held states (depth - 1)) (shownAll src (n - 1) (rest ws tokenWords))))
             ≡ whole rd src b₀ t₀ tokens count
         pushed = rw behind-one at (rw e at acted)
 
@@ -260,7 +260,7 @@ module _ {rd : Reading} {src b₀ t₀ tokens : List ℕ} {count : ℕ} {b t : L
         pub turn-deep : {k : Refusal} → depth ≡ 64 → k ≡ refusal TooDeep → (off k ≡ whole rd src b₀ t₀ tokens count) × Still (Full k) (length b₀) (length t₀)
         turn-deep {k} g m = (rw m (rw (eq-eqb _ 64 (size ∙ g)) at pushed), still-full k)
 
-        pub turn-push : (depth ≡ 64 → ⊥) → Loop rd src b₀ t₀ tokens count b′ t′ (set states depth top) (depth + 1) top p (rest ws 6) (n - 1)
+        pub turn-push : (depth ≡ 64 → ⊥) → Loop rd src b₀ t₀ tokens count b′ t′ (set states depth top) (depth + 1) top p (rest ws tokenWords) (n - 1)
         turn-push g =
             let v : depth ≤ 64 = l .deep in
             let u : length states ≡ 64 = l .all in
@@ -276,7 +276,7 @@ module _ {rd : Reading} {src b₀ t₀ tokens : List ℕ} {count : ℕ} {b t : L
               left = rw w (rw (ne-eqb _ 64 (λ q. g (sym size ∙ q))) at pushed);
             }
 
-      pub turn-pop : a ≡ Pop → Loop rd src b₀ t₀ tokens count b′ t′ states (depth - 1) (getD states (depth - 1) zeroed) p (rest ws 6) (n - 1)
+      pub turn-pop : a ≡ Pop → Loop rd src b₀ t₀ tokens count b′ t′ states (depth - 1) (getD states (depth - 1) zeroed) p (rest ws tokenWords) (n - 1)
       turn-pop e = record {
         deep = let v : depth ≤ 64 = l .deep in omega arith;
         all = l .all;
@@ -288,7 +288,7 @@ module _ {rd : Reading} {src b₀ t₀ tokens : List ℕ} {count : ℕ} {b t : L
         left = rw (stack-pop states (depth - 1)) (rw behind-one at (rw e at acted));
       }
 
-      pub turn-keep : {s : State} → a ≡ Keep s → Loop rd src b₀ t₀ tokens count b′ t′ states depth s p (rest ws 6) (n - 1)
+      pub turn-keep : {s : State} → a ≡ Keep s → Loop rd src b₀ t₀ tokens count b′ t′ states depth s p (rest ws tokenWords) (n - 1)
       turn-keep {s} e = record {
         deep = l .deep;
         all = l .all;
@@ -307,7 +307,7 @@ module _ {rd : Reading} {src b₀ t₀ tokens : List ℕ} {count : ℕ} {b t : L
       pub said-fits : {q : Page} {k : ℕ} → a ≡ Said q k → (0 < k) × (k ≤ n)
       said-fits e = (kept-page e .1, kept-page e .2)
 
-      pub turn-said : {q : Page} {k : ℕ} → a ≡ Said q k → Loop rd src b₀ t₀ tokens count b′ t′ states depth top q (rest ws (k * 6)) (n - k)
+      pub turn-said : {q : Page} {k : ℕ} → a ≡ Said q k → Loop rd src b₀ t₀ tokens count b′ t′ states depth top q (rest ws (k * tokenWords)) (n - k)
       turn-said {q} {k} e = record {
         deep = l .deep;
         all = l .all;
@@ -317,7 +317,7 @@ module _ {rd : Reading} {src b₀ t₀ tokens : List ℕ} {count : ℕ} {b t : L
         long-t = lt ∙ l .long-t;
         ready = rw (lb, lt) (kept-page e .0);
         left =
-            ap (λ (st : List State). layAll (on q b′ t′) (from rd st (shownAll src (n - k) (rest ws (k * 6))))) (stack-top states top depth d)
+            ap (λ (st : List State). layAll (on q b′ t′) (from rd st (shownAll src (n - k) (rest ws (k * tokenWords))))) (stack-top states top depth d)
             ∙ ap (λ (ts : List Shown). layAll (on q b′ t′) (from rd (top ∷ held states (depth - 1)) ts)) (sym (shown-drop src k n ws (kept-page e .2)))
             ∙ (rw e at acted);
       }

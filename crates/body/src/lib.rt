@@ -1,29 +1,33 @@
 // The body (01, Body; `Parser::parse` in the crate): the tokens that the header walk leaves become blocks and text in two lent
-// rooms, over a stack of 64 states. What a token asks for is said in `acts`.
+// rooms, over a stack of 64 states. What a token asks for is said in `act`.
 //
 // Each token is read once. The top state stands by itself: what is below it is kept in an array and copied at brackets alone.
-use acts::Act;
-use acts::Bare;
-use acts::bare_token;
-use acts::passed;
-use acts::take_token;
+mod act;
+
+use crate::act::Act;
+use crate::act::Bare;
+use crate::act::bare_token;
+use crate::act::passed;
+use crate::act::take_token;
 use answers::Refusal;
 use answers::Why;
-use items::item_at;
-use pages::Laid;
-use pages::Page;
-use styles::Reading;
+use blocks::Laid;
+use blocks::Page;
+use readings::Reading;
 use styles::State;
+use tokens::TOKEN_WORDS;
+use tokens::item::item_at;
 ghost use mathlib.Core.Path.{_≡_};
 ghost use mathlib.Core.List.{[], _∷_};
 ghost use Prim.Native.Nat.{_*_, _≤_};
 ghost use lib.ListN.{length};
-ghost use Rattle.items.specs.Items.{shownAll};
+ghost use Rattle.tokens.specs.Items.{shownAll};
 ghost use Rattle.styles.specs.Styles.{fresh as freshState};
-ghost use Rattle.pages.specs.Laying.{told, on, layAll, blank as blankPage, Still};
-ghost use Rattle.acts.specs.Acting.{from};
+ghost use Rattle.blocks.specs.Laying.{told, on, layAll, blank as blankPage, Still};
+ghost use Rattle.body.specs.Acting.{from};
+ghost use Rattle.tokens.specs.Tokens.{tokenWords};
 
-// Lays the body of the first `count` tokens. The last block's record is left to `pages::finish`.
+// Lays the body of the first `count` tokens. The last block's record is left to `blocks::finish`.
 pub fn lay_body(
     source: &[u8],
     reading: Reading,
@@ -32,7 +36,7 @@ pub fn lay_body(
     blocks: &mut [u32],
     text: &mut [u8],
 ) -> Laid
-    requires { ⌜ (count * 6 ≤ length (now tokens)) × (count ≤ 65536) ⌝ }
+    requires { ⌜ (count * tokenWords ≤ length (now tokens)) × (count ≤ 65536) ⌝ }
     ensures { λ r. ⌜ told r (now (blocks .exit)) (now (text .exit)) ≡ layAll (on blankPage (now (blocks .entry)) (now (text .entry))) (from reading (freshState ∷ []) (shownAll (now (source .entry)) count (now (tokens .entry)))) ⌝ }
     ensures { λ r. ⌜ Still r (length (now (blocks .entry))) (length (now (text .entry))) ⌝ }
 {
@@ -45,13 +49,13 @@ pub fn lay_body(
     let mut n = count;
     while 0 < n {
         let i = item_at(t);
-        let h = passed(i, &t[6..], n - 1);
+        let h = passed(i, &t[TOKEN_WORDS..], n - 1);
         if 0 < h {
-            let at = (h + 1) * 6;
+            let at = (h + 1) * TOKEN_WORDS;
             t = &t[at..];
             n -= h + 1;
         } else if depth == 0 {
-            t = &t[6..];
+            t = &t[TOKEN_WORDS..];
             n -= 1;
             let b = bare_token(i);
             match b {
@@ -72,23 +76,23 @@ pub fn lay_body(
                     }
                     states[depth] = top;
                     depth += 1;
-                    t = &t[6..];
+                    t = &t[TOKEN_WORDS..];
                     n -= 1;
                 }
                 Act::Pop => {
                     depth -= 1;
                     top = states[depth];
-                    t = &t[6..];
+                    t = &t[TOKEN_WORDS..];
                     n -= 1;
                 }
                 Act::Keep(s) => {
                     top = s;
-                    t = &t[6..];
+                    t = &t[TOKEN_WORDS..];
                     n -= 1;
                 }
                 Act::Said(p, k) => {
                     page = p;
-                    let at = k * 6;
+                    let at = k * TOKEN_WORDS;
                     t = &t[at..];
                     n -= k;
                 }

@@ -27,7 +27,7 @@ pub enum Class {
 }
 
 // White space, as the crate's `str::trim` takes it.
-pub fn is_white(b: u8) -> bool
+fn is_white(b: u8) -> bool
     ensures { λ r. ⌜ r ≡ isWhite b ⌝ }
 {
     ((9 <= b) & (b <= 13)) | (b == 32)
@@ -40,7 +40,7 @@ pub fn ends_word(b: u8) -> bool
     (((9 <= b) & (b <= 13)) | (b == 32)) & (b != 11)
 }
 
-pub fn is_numeral(b: u8) -> bool
+fn is_numeral(b: u8) -> bool
     ensures { λ r. ⌜ r ≡ isNumeral b ⌝ }
 {
     ((b'0' <= b) & (b <= b'9')) | (b == b'-')
@@ -58,7 +58,7 @@ pub fn is_letter(b: u8) -> bool
     (b'a' <= b) & (b <= b'z')
 }
 
-pub fn is_in(b: u8, class: Class) -> bool
+fn is_in(b: u8, class: Class) -> bool
     ensures { λ r. ⌜ r ≡ inClass class b ⌝ }
 {
     match class {
@@ -117,4 +117,11 @@ pub fn has_high(s: &[u8]) -> bool
         i += 1;
     }
     found
+}
+
+// A byte as a number that an index or a length is.
+pub fn wide(b: u8) -> usize
+    ensures { λ r. ⌜ r ≡ b ⌝ }
+{
+    b as usize
 }

@@ -12,37 +12,37 @@ use native.Mathlib.Nat.{div-one}
 use native.Mathlib.Numerals.{add-one}
 use native.Mathlib.Omega.{arith}
 use borrow.Author.Tests.{ltb-true, ltb-false, lt-ltb, le-ltb, ne-eqb}
-use lib.ListN.{length, take, set, length-set}
+use lib.ListN.{length, take, set, length-set, drop, take-append-drop}
 use lib.Dec.{eqb, ltb}
-use lib.Seq.{length-take-le, take-suc-set}
+use lib.Seq.{length-take-le, take-suc-set, drop-set-lt, drop-drop}
 use Rattle.answers.specs.declared.Why.the-variants.{NumberField, ColourRoom}
 use Rattle.answers.specs.declared.Refusal.{Refusal}
 use Rattle.answers.specs.declared.Outcome.the-variants.{Done, Refused}
 use Rattle.answers.specs.Answers.{refusal, Found, found, refused}
 use Rattle.rooms.specs.Rooms.{tableLimit}
 use Rattle.tokens.specs.declared.Property.{Property}
-use Rattle.tokens.specs.Tokens.{Shown, valueOf}
-use Rattle.items.specs.declared.Item.{Item}
-use Rattle.items.specs.declared.Item.the-variants.{Text, Opening, Closing, LineBreak, Ignorable, Word, Unknown}
-use Rattle.items.specs.Items.{itemAt, shownOf, shownAll}
-use Rattle.items.proofs.Items.{rest, words-less, shown-none, shown-some}
+use Rattle.tokens.specs.Tokens.{Shown, valueOf, tokenWords}
+use Rattle.tokens.specs.declared.item.Item.{Item}
+use Rattle.tokens.specs.declared.item.Item.the-variants.{Text, Opening, Closing, LineBreak, Ignorable, Word, Unknown}
+use Rattle.tokens.specs.Items.{itemAt, shownOf, shownAll}
+use Rattle.tokens.proofs.Items.{rest, words-less, shown-none, shown-some}
 use Rattle.colours.specs.declared.Colour.{Colour}
 use Rattle.colours.specs.declared.Effect.{Effect}
 use Rattle.colours.specs.declared.Effect.the-variants.{Set, Store, Unfit}
-use Rattle.colours.specs.Colours.{Colours, black, noColours, colourWord, kept}
+use Rattle.colours.specs.Colours.{Colours, black, noColours, colourWord, kept, colourWords}
 use Rattle.colours.specs.Colours.{colourWordOf, colourToken, coloursFrom, tableOf, colours, ReadColours}
 use Rattle.colours.specs.Effects.{fitted, wordEffect, effectOf, Small}
 use Rattle.colours.proofs.Tables.{colours-refused}
 
-pub limit-small : (n : ℕ) → n < 256 → n ≡ tableLimit 1 n
+pub limit-small : (n : ℕ) → n < 256 → n ≡ tableLimit colourWords n
 unfolding tableLimit
 limit-small n h = rw (div-one n, lt-ltb n 256 h)
 
-pub limit-large : (n : ℕ) → 256 ≤ n → 256 ≡ tableLimit 1 n
+pub limit-large : (n : ℕ) → 256 ≤ n → 256 ≡ tableLimit colourWords n
 unfolding tableLimit
 limit-large n h = rw (div-one n, le-ltb n 256 h)
 
-limit-within : (n : ℕ) → tableLimit 1 n ≤ n
+limit-within : (n : ℕ) → tableLimit colourWords n ≤ n
 unfolding tableLimit
 limit-within n = rw (div-one n) (go (ltb n 256) refl)
   where
@@ -137,16 +137,17 @@ state room k c = found (record { table = take k room; colour = c })
 
 -- the loop: what is left, from the present colours, leads where the whole leads
 pub record Loop (tokens : List ℕ) (count : ℕ) (room₀ : List ℕ) (limit : ℕ) (room ws : List ℕ) (n : ℕ) (c : Colour) (k : ℕ) : Type 0 where
-  pub words : n * 6 ≤ length ws
+  pub words : n * tokenWords ≤ length ws
   pub few : n ≤ 65536
   pub long : length room ≡ length room₀
-  pub limited : limit ≡ tableLimit 1 (length room₀)
+  pub limited : limit ≡ tableLimit colourWords (length room₀)
   pub held : limit ≤ length room
+  pub behind : drop k room ≡ drop k room₀
   pub within : k ≤ limit
   pub small : Small c
   pub left : (src : List ℕ) → coloursFrom limit (state room k c) (shownAll src n ws) ≡ coloursFrom limit (found noColours) (shownAll src count tokens)
 
-pub loop-start : (tokens : List ℕ) (count : ℕ) (room : List ℕ) (limit : ℕ) → (count * 6 ≤ length tokens) × (count ≤ 65536) → limit ≡ tableLimit 1 (length room)
+pub loop-start : (tokens : List ℕ) (count : ℕ) (room : List ℕ) (limit : ℕ) → (count * tokenWords ≤ length tokens) × (count ≤ 65536) → limit ≡ tableLimit colourWords (length room)
     → Loop tokens count room limit room tokens count black 0
 loop-start tokens count room limit h e =
     record {
@@ -155,6 +156,7 @@ loop-start tokens count room limit h e =
       long = refl;
       limited = e;
       held = rw e (limit-within (length room));
+      behind = refl;
       within = omega arith;
       small = record { red = omega arith; green = omega arith; blue = omega arith };
       left = λ src. refl;
@@ -166,26 +168,27 @@ module _ {tokens : List ℕ} {count : ℕ} {room₀ : List ℕ} {limit : ℕ} {r
   filled = let h : limit ≤ length room = l .held in let w : k ≤ limit = l .within in length-take-le k room (omega arith)
 
   ended : (src : List ℕ) (x : Found Colours) → x ≡ coloursFrom limit (found noColours) (shownAll src count tokens)
-      → tableOf x ≡ colours (tableLimit 1 (length room₀)) (shownAll src count tokens)
+      → tableOf x ≡ colours (tableLimit colourWords (length room₀)) (shownAll src count tokens)
   unfolding colours
   ended src x e = rw (← (l .limited)) (ap tableOf e)
 
   stopped : (src : List ℕ) (q : Refusal) (ts : List Shown) → coloursFrom limit (refused q) ts ≡ coloursFrom limit (found noColours) (shownAll src count tokens)
-      → ReadColours (colours (tableLimit 1 (length room₀)) (shownAll src count tokens)) (Refused q) room
+      → ReadColours (colours (tableLimit colourWords (length room₀)) (shownAll src count tokens)) room₀ (Refused q) room
   stopped src q ts e =
-      let z : refused q ≡ colours (tableLimit 1 (length room₀)) (shownAll src count tokens) = ended src (refused q) (sym (colours-refused limit q ts) ∙ e) in
+      let z : refused q ≡ colours (tableLimit colourWords (length room₀)) (shownAll src count tokens) = ended src (refused q) (sym (colours-refused limit q ts) ∙ e) in
       rw (← z) refl
 
   -- no token is left
-  pub loop-end : n ≤ 0 → (src : List ℕ) → ReadColours (colours (tableLimit 1 (length room₀)) (shownAll src count tokens)) (Done k) room
+  pub loop-end : n ≤ 0 → (src : List ℕ) → ReadColours (colours (tableLimit colourWords (length room₀)) (shownAll src count tokens)) room₀ (Done k) room
   unfolding coloursFrom
   loop-end h src =
       let e : state room k c ≡ coloursFrom limit (found noColours) (shownAll src count tokens) = rw (shown-none src n ws h) at (l .left src) in
-      let z : found (take k room) ≡ colours (tableLimit 1 (length room₀)) (shownAll src count tokens) = ended src (state room k c) e in
-      rw (← z, filled) (refl, refl)
+      let z : found (take k room) ≡ colours (tableLimit colourWords (length room₀)) (shownAll src count tokens) = ended src (state room k c) e in
+      let b : room ≡ take k room ++ drop k room₀ = sym (take-append-drop k room) ∙ ap (λ (x : List ℕ). take k room ++ x) (l .behind) in
+      rw (← z, filled) (refl, b)
 
   module _ (h : 0 < n) {i : Item} (a : i ≡ itemAt ws) {e : Effect} (b : e ≡ effectOf i c) where
-    turned : (src : List ℕ) → coloursFrom limit (applied limit (take k room) e) (shownAll src (n - 1) (rest ws 6))
+    turned : (src : List ℕ) → coloursFrom limit (applied limit (take k room) e) (shownAll src (n - 1) (rest ws tokenWords))
         ≡ coloursFrom limit (found noColours) (shownAll src count tokens)
     unfolding coloursFrom
     turned src =
@@ -196,7 +199,7 @@ module _ {tokens : List ℕ} {count : ℕ} {room₀ : List ℕ} {limit : ℕ} {r
     still = rw b (effect-small i c (l .small))
 
     -- a new current colour
-    pub loop-set : (d : Colour) → e ≡ Set d → Loop tokens count room₀ limit room (rest ws 6) (n - 1) d k
+    pub loop-set : (d : Colour) → e ≡ Set d → Loop tokens count room₀ limit room (rest ws tokenWords) (n - 1) d k
     loop-set d x =
         record {
           words = words-less n ws (l .words);
@@ -204,6 +207,7 @@ module _ {tokens : List ℕ} {count : ℕ} {room₀ : List ℕ} {limit : ℕ} {r
           long = l .long;
           limited = l .limited;
           held = l .held;
+          behind = l .behind;
           within = l .within;
           small = rw x at still;
           left = λ src. rw x at (turned src);
@@ -211,26 +215,26 @@ module _ {tokens : List ℕ} {count : ℕ} {room₀ : List ℕ} {limit : ℕ} {r
 
     -- 12, a number that does not fit
     pub loop-unfit : (q : Refusal) → q ≡ refusal NumberField → e ≡ Unfit → (src : List ℕ)
-        → ReadColours (colours (tableLimit 1 (length room₀)) (shownAll src count tokens)) (Refused q) room
-    loop-unfit q y x src = rw y (stopped src (refusal NumberField) (shownAll src (n - 1) (rest ws 6)) (rw x at (turned src)))
+        → ReadColours (colours (tableLimit colourWords (length room₀)) (shownAll src count tokens)) room₀ (Refused q) room
+    loop-unfit q y x src = rw y (stopped src (refusal NumberField) (shownAll src (n - 1) (rest ws tokenWords)) (rw x at (turned src)))
 
     module _ (d : Colour) (x : e ≡ Store d) where
       pub stored-small : Small d
       stored-small = rw x at still
 
-      stored-turned : (src : List ℕ) → coloursFrom limit (kept limit (record { table = take k room; colour = d })) (shownAll src (n - 1) (rest ws 6))
+      stored-turned : (src : List ℕ) → coloursFrom limit (kept limit (record { table = take k room; colour = d })) (shownAll src (n - 1) (rest ws tokenWords))
           ≡ coloursFrom limit (found noColours) (shownAll src count tokens)
       stored-turned src = rw x at (turned src)
 
       -- 18, a colour too many
       pub loop-full : limit ≤ k → (q : Refusal) → q ≡ refusal ColourRoom → (src : List ℕ)
-          → ReadColours (colours (tableLimit 1 (length room₀)) (shownAll src count tokens)) (Refused q) room
+          → ReadColours (colours (tableLimit colourWords (length room₀)) (shownAll src count tokens)) room₀ (Refused q) room
       loop-full g q y src =
           let t : ltb (length (take k room)) limit ≡ false = le-ltb (length (take k room)) limit (rw filled g) in
-          rw y (stopped src (refusal ColourRoom) (shownAll src (n - 1) (rest ws 6)) (rw t at (stored-turned src)))
+          rw y (stopped src (refusal ColourRoom) (shownAll src (n - 1) (rest ws tokenWords)) (rw t at (stored-turned src)))
 
       -- one colour more
-      pub loop-store : k < limit → (w : ℕ) → w ≡ colourWord d → Loop tokens count room₀ limit (set room k w) (rest ws 6) (n - 1) d (k + 1)
+      pub loop-store : k < limit → (w : ℕ) → w ≡ colourWord d → Loop tokens count room₀ limit (set room k w) (rest ws tokenWords) (n - 1) d (k + 1)
       loop-store g w y =
           let u : limit ≤ length room = l .held in
           let t : ltb (length (take k room)) limit ≡ true = lt-ltb (length (take k room)) limit (rw filled g) in
@@ -241,6 +245,7 @@ module _ {tokens : List ℕ} {count : ℕ} {room₀ : List ℕ} {limit : ℕ} {r
             long = simp length-set (l .long);
             limited = l .limited;
             held = simp length-set u;
+            behind = drop-set-lt (k + 1) room k w (omega arith) ∙ sym (drop-drop 1 k room) ∙ ap (drop 1) (l .behind) ∙ drop-drop 1 k room₀;
             within = omega arith;
             small = stored-small;
             left = λ src. rw s (rw t at (stored-turned src));

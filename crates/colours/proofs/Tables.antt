@@ -23,7 +23,7 @@ use Rattle.tokens.specs.declared.Property.{Property}
 use Rattle.tokens.specs.Tokens.{Shown, valueOf}
 use Rattle.tokens.specs.Tokens
 use Rattle.colours.specs.declared.Colour.{Colour}
-use Rattle.colours.specs.Colours.{Colours, black, noColours, colourWord, fitting, blued, kept}
+use Rattle.colours.specs.Colours.{Colours, black, noColours, colourWord, fitting, blued, kept, colourWords}
 use Rattle.colours.specs.Colours.{colourWordOf, colourToken, nextColour, coloursFrom, tableOf, colours}
 use Rattle.colours.specs.Effects.{Small}
 
@@ -136,5 +136,5 @@ module _ (limit : ℕ) (ts : List Shown) (cs : List ℕ) where
   pub colours-words : colours limit ts ≡ found cs → Words cs
   colours-words e = sound-colours e .1
 
-pub colours-few-256 : (total : ℕ) (ts : List Shown) (cs : List ℕ) → colours (tableLimit 1 total) ts ≡ found cs → length cs ≤ 256
-colours-few-256 total ts cs e = let h : length cs ≤ tableLimit 1 total = colours-few (tableLimit 1 total) ts cs e in omega (arith, limit-256 1 total)
+pub colours-few-256 : (total : ℕ) (ts : List Shown) (cs : List ℕ) → colours (tableLimit colourWords total) ts ≡ found cs → length cs ≤ 256
+colours-few-256 total ts cs e = let h : length cs ≤ tableLimit colourWords total = colours-few (tableLimit colourWords total) ts cs e in omega (arith, limit-256 colourWords total)

@@ -3,16 +3,22 @@ use Prim.Native.Nat.{ℕ, _+_, _*_}
 use mathlib.Core.Path.{_≡_}
 use mathlib.Core.List.{List, [], _∷_, _++_}
 use mathlib.Core.Bool.{cond}
-use lib.ListN.{length, take}
+use lib.ListN.{length}
 use lib.Dec.{eqb, ltb}
 use Rattle.answers.specs.declared.Why.the-variants.{NumberField, ColourRoom}
 use Rattle.answers.specs.declared.Outcome.{Outcome}
 use Rattle.answers.specs.declared.Outcome.the-variants.{Done, Refused}
 use Rattle.answers.specs.Answers.{refusal, Found, found, refused}
+use Rattle.rooms.specs.Rooms.{overlaid}
 use Rattle.tokens.specs.declared.Property.{Property}
 use Rattle.tokens.specs.Tokens.{Shown, valueOf}
 use Rattle.tokens.specs.Tokens
 use Rattle.colours.specs.declared.Colour.{Colour}
+use Rattle.tokens.specs.WordNumbers as words
+
+-- a record is one word
+abbrev pub colourWords : ℕ
+colourWords = 1
 
 -- "Record: red·65,536 + green·256 + blue."
 abbrev pub colourWord : Colour → ℕ
@@ -52,9 +58,9 @@ kept limit s =
 -- as in the crate
 unfoldable pub colourWordOf : ℕ → ℕ → Property → Colours → Found Colours
 colourWordOf limit w num s =
-    cond (eqb w 37) (fitting num (found (reddened (valueOf num) s)))
-    (cond (eqb w 38) (fitting num (found (greened (valueOf num) s)))
-    (cond (eqb w 39) (fitting num (kept limit (blued (valueOf num) s)))
+    cond (eqb w words.colourRed) (fitting num (found (reddened (valueOf num) s)))
+    (cond (eqb w words.colourGreen) (fitting num (found (greened (valueOf num) s)))
+    (cond (eqb w words.colourBlue) (fitting num (kept limit (blued (valueOf num) s)))
     (found s)))
 
 -- a token of the group
@@ -84,7 +90,8 @@ tableOf (refused r) = refused r
 unfoldable pub colours : ℕ → List Shown → Found (List ℕ)
 colours limit ts = tableOf (coloursFrom limit (found noColours) ts)
 
--- what a function that reads a colour table answers, and what it leaves in the room: a record is one word
-abbrev pub ReadColours : Found (List ℕ) → Outcome → List ℕ → Type 0
-ReadColours (found cs) r room = (r ≡ Done (length cs)) × (take (length cs) room ≡ cs)
-ReadColours (refused q) r room = r ≡ Refused q
+-- what a function that reads a colour table into a room answers, and the room that it leaves: the records, a word each, over what stood
+-- there. After a refusal `reader::read` clears the room
+abbrev pub ReadColours : Found (List ℕ) → List ℕ → Outcome → List ℕ → Type 0
+ReadColours (found cs) room r room′ = (r ≡ Done (length cs)) × (room′ ≡ overlaid cs room)
+ReadColours (refused q) room r room′ = r ≡ Refused q

@@ -4,11 +4,12 @@ use Prim.Native.Nat.{ℕ, _≤_}
 use mathlib.Core.Bool.{cond}
 use lib.Dec.{eqb, ltb}
 use Rattle.tokens.specs.Tokens.{valueOf}
-use Rattle.items.specs.declared.Item.{Item}
-use Rattle.items.specs.declared.Item.the-variants.{Text, Opening, Closing, LineBreak, Ignorable, Word, Unknown}
+use Rattle.tokens.specs.declared.item.Item.{Item}
+use Rattle.tokens.specs.declared.item.Item.the-variants.{Text, Opening, Closing, LineBreak, Ignorable, Word, Unknown}
 use Rattle.colours.specs.declared.Colour.{Colour}
 use Rattle.colours.specs.declared.Effect.{Effect}
 use Rattle.colours.specs.declared.Effect.the-variants.{Set, Store, Unfit}
+use Rattle.tokens.specs.WordNumbers as words
 
 -- "0 to 255"
 abbrev pub fitted : ℕ → Effect → Effect
@@ -17,9 +18,9 @@ fitted v e = cond (ltb v 256) e Unfit
 -- `red`, `green` and `blue` are numbers 37 to 39
 unfoldable pub wordEffect : ℕ → ℕ → Colour → Effect
 wordEffect w v c =
-    cond (eqb w 37) (fitted v (Set (record { red = v; green = c .green; blue = c .blue })))
-    (cond (eqb w 38) (fitted v (Set (record { red = c .red; green = v; blue = c .blue })))
-    (cond (eqb w 39) (fitted v (Store (record { red = c .red; green = c .green; blue = v })))
+    cond (eqb w words.colourRed) (fitted v (Set (record { red = v; green = c .green; blue = c .blue })))
+    (cond (eqb w words.colourGreen) (fitted v (Set (record { red = c .red; green = v; blue = c .blue })))
+    (cond (eqb w words.colourBlue) (fitted v (Store (record { red = c .red; green = c .green; blue = v })))
     (Set c)))
 
 -- a token

@@ -9,17 +9,23 @@
 use answers::Outcome;
 use answers::Refusal;
 use answers::Why;
-use items::Item;
-use items::item_at;
 use tokens::Property;
+use tokens::TOKEN_WORDS;
+use tokens::item::Item;
+use tokens::item::item_at;
+use tokens::words;
 ghost use mathlib.Core.Path.{_≡_};
 ghost use mathlib.Core.List.{List};
 ghost use Prim.Native.Nat.{ℕ, _*_, _≤_};
 ghost use lib.ListN.{length};
-ghost use Rattle.items.specs.Items.{shownAll};
+ghost use Rattle.tokens.specs.Items.{shownAll};
 ghost use Rattle.rooms.specs.Rooms.{tableLimit};
-ghost use Rattle.colours.specs.Colours.{colours as coloursOf, colourWord, ReadColours};
+ghost use Rattle.colours.specs.Colours.{colours as coloursOf, colourWord, ReadColours, colourWords};
 ghost use Rattle.colours.specs.Effects.{fitted as fittedOf, wordEffect, effectOf, Small};
+ghost use Rattle.tokens.specs.Tokens.{tokenWords};
+
+// How many words a colour's record has.
+pub const COLOUR_WORDS: usize = 1;
 
 pub struct Colour {
     pub red: u32,
@@ -35,7 +41,7 @@ pub enum Effect {
 
 // How many colours a room of n words holds, a word each, and at most 256.
 fn limit_of(n: usize) -> usize
-    ensures { λ r. ⌜ r ≡ tableLimit 1 n ⌝ }
+    ensures { λ r. ⌜ r ≡ tableLimit colourWords n ⌝ }
 {
     if n < 256 {
         return n;
@@ -57,7 +63,7 @@ fn fitted(v: u32, e: Effect) -> Effect
 fn word_effect(w: u32, v: u32, c: Colour) -> Effect
     ensures { λ r. ⌜ r ≡ wordEffect w v c ⌝ }
 {
-    if w == 37 {
+    if w == words::COLOUR_RED {
         let red = Colour {
             red: v,
             green: c.green,
@@ -66,7 +72,7 @@ fn word_effect(w: u32, v: u32, c: Colour) -> Effect
         let e = Effect::Set(red);
         return fitted(v, e);
     }
-    if w == 38 {
+    if w == words::COLOUR_GREEN {
         let green = Colour {
             red: c.red,
             green: v,
@@ -75,7 +81,7 @@ fn word_effect(w: u32, v: u32, c: Colour) -> Effect
         let e = Effect::Set(green);
         return fitted(v, e);
     }
-    if w == 39 {
+    if w == words::COLOUR_BLUE {
         let blue = Colour {
             red: c.red,
             green: c.green,
@@ -116,8 +122,8 @@ fn colour_word(c: Colour) -> u32
 
 // Reads the table of a group's tokens, which starts anew.
 pub fn read_colours(tokens: &[u32], count: usize, room: &mut [u32]) -> Outcome
-    requires { ⌜ (count * 6 ≤ length (now tokens)) × (count ≤ 65536) ⌝ }
-    ensures { λ r. ⌜ ((src : List ℕ) → ReadColours (coloursOf (tableLimit 1 (length (now (room .entry)))) (shownAll src count (now (tokens .entry)))) r (now (room .exit))) ⌝ }
+    requires { ⌜ (count * tokenWords ≤ length (now tokens)) × (count ≤ 65536) ⌝ }
+    ensures { λ r. ⌜ ((src : List ℕ) → ReadColours (coloursOf (tableLimit colourWords (length (now (room .entry)))) (shownAll src count (now (tokens .entry)))) (now (room .entry)) r (now (room .exit))) ⌝ }
 {
     let limit = limit_of(room.len());
     let mut t = tokens;
@@ -131,7 +137,7 @@ pub fn read_colours(tokens: &[u32], count: usize, room: &mut [u32]) -> Outcome
     while 0 < n {
         let i = item_at(t);
         let e = step(i, colour);
-        t = &t[6..];
+        t = &t[TOKEN_WORDS..];
         n -= 1;
         match e {
             Effect::Set(c) => {

@@ -10,7 +10,7 @@ use Rattle.bytes.specs.Bytes.{lead, body, any}
 use Rattle.bytes.specs.Texts.{bytesOf}
 use Rattle.names.specs.Names.{sameBytes, placeIn, wordNumber}
 use Rattle.numbers.specs.Numbers.{hexDigit, hexPair, digitsFrom, digits, decimal}
-use Rattle.rooms.specs.Streams.{andThen, each, answer}
+use Rattle.rooms.specs.Streams.{andThen, each, answer, ended}
 use Rattle.rooms.specs.Rooms.{encode, settled, content}
 use Rattle.slices.specs.Slices.{split, slices}
 use Rattle.tokens.specs.Tokens.{recordOf}
@@ -70,5 +70,5 @@ every [] = true
 every (c ∷ cs) = right c && every cs
 
 cases-right : every cases ≡ true
-unfolding cases right every sameRoom lead body any sameBytes placeIn wordNumber hexDigit hexPair digitsFrom digits decimal andThen each answer encode settled content split slices recordOf mark plain hexValue hexEscape lineBreakAnd shownWord numbered named bareLength wordTail word other escaped tokens located last allSlices trimmed tokenStream cutAnswer cutRoom
+unfolding cases right every sameRoom lead body any sameBytes placeIn wordNumber hexDigit hexPair digitsFrom digits decimal andThen each ended encode settled content split slices recordOf mark plain hexValue hexEscape lineBreakAnd shownWord numbered named bareLength wordTail word other escaped tokens located last allSlices trimmed tokenStream cutAnswer cutRoom
 cases-right = refl

@@ -17,14 +17,14 @@ use Rattle.rooms.specs.Rooms.{capacity, settled}
 use Rattle.rooms.proofs.Streams.{count-then, count-each, answer-count}
 use Rattle.slices.specs.Slices.{slices}
 use Rattle.slices.proofs.Slices.{joined, joined-slices}
-use Rattle.tokens.specs.Tokens.{tokenLayout}
+use Rattle.tokens.specs.Tokens.{tokenLayout, tokenWords}
 use Rattle.tokenize.specs.Tokenize.{tokens}
 use Rattle.tokenize.proofs.Sizes.{count-tokens}
 use Rattle.cutter.specs.Cutting.{locate, located, last, allSlices, trimStart, trimmed, tokenStream, cutAnswer}
 
 count-located : (p : ℕ) (s : List ℕ) → count (located p s) ≤ length s
 unfolding located
-count-located p s = rw (count-each (locate p (length s)) (tokens p s)) (count-tokens p s)
+count-located p s = rw (count-each refusal (locate p (length s)) (tokens p s)) (count-tokens p s)
 
 count-last : (p : ℕ) (s : List ℕ) → count (last p s) ≤ length s
 unfolding last count
@@ -69,7 +69,7 @@ count-answer src total = go (answer 0 (tokenStream src)) refl
     pick n h false = omega arith
 
     go : (o : Outcome) → answer 0 (tokenStream src) ≡ o → outcomeCount (settled tokenLayout (refusal TokenRoom) total o) ≤ 65536
-    go (Done n) e = pick n (omega (arith, answer-count (tokenStream src) 0 n e, count-stream src)) (leb n (capacity 6 total))
+    go (Done n) e = pick n (omega (arith, answer-count (tokenStream src) 0 n e, count-stream src)) (leb n (capacity tokenWords total))
     go (Refused r) e = omega arith
 
 -- the same, in a caller's terms

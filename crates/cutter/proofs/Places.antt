@@ -42,7 +42,7 @@ placed-before y s p t h = (stands-before y s p (t .shows) (h .0), rw length-appe
 pub located-places : (p : ℕ) (s : List ℕ) → Each (PlacedIn s p) (located p s)
 unfolding located
 located-places p s =
-    Each-each (PlacedIn s p) (locate p (length s)) (tokens p s)
+    Each-each (PlacedIn s p) refusal (locate p (length s)) (tokens p s)
     (Each-weaken (Stands s p) (λ (t : Shown). PlacedIn s p (locate p (length s) t)) (λ t h. (h, omega arith)) (tokens p s) (tokens-stand p s))
 
 pub last-places : (p : ℕ) (s : List ℕ) → Each (PlacedIn s p) (last p s)

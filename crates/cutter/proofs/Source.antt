@@ -14,7 +14,7 @@ use Rattle.answers.specs.declared.Outcome.the-variants.{Done, Refused}
 use Rattle.answers.specs.Answers.{refusal}
 use Rattle.bytes.specs.declared.Class.the-variants.{White}
 use Rattle.bytes.specs.Bytes.{isHigh, inClass, lead, body, any}
-use Rattle.rooms.specs.Streams.{Stream, end, stop, _▸_, count}
+use Rattle.rooms.specs.Streams.{Stream, end, stop, _▸_, count, byRefusal}
 use Rattle.rooms.specs.Rooms.{capacity, put, Wrote, encode, settled, content}
 use Rattle.rooms.proofs.Streams.{answer-count}
 use Rattle.rooms.proofs.Rooms.{wrote-one, length-putAll, length-encode, putAll-front, settled-fits, settled-over}
@@ -44,8 +44,8 @@ module _ (p : ℕ) where
   last-close (b ∷ []) h e = rw e
   last-close (b ∷ c ∷ s) h e = absurd (omega arith)
 
-pub last-wrote : {x : Stream Token} {p n : ℕ} {room room′ : List ℕ} {r : Record} → x ≡ locate p 1 Shown.closing ▸ end → r ≡ bareRecord 2
-    → room′ ≡ put tokenWords room n (recordWords r) → Wrote tokenLayout n room x (Done (n + 1)) room′
+pub last-wrote : {x : Stream Refusal Token} {p n : ℕ} {room room′ : List ℕ} {r : Record} → x ≡ locate p 1 Shown.closing ▸ end → r ≡ bareRecord 2
+    → room′ ≡ put tokenWords room n (recordWords r) → Wrote tokenLayout byRefusal n room x (Done (n + 1)) room′
 last-wrote {n = n} {room = room} e q h =
     wrote-one tokenLayout e (h ∙ ap (λ (z : Record). put tokenWords room n (recordWords z)) (closing-record q))
 
@@ -68,7 +68,7 @@ module _ (src : List ℕ) where
           rw (le-ltb 65536 (length src) h, ← q, g, y, t, ← x)
 
 -- what `whole` wrote, settled
-module _ (src : List ℕ) {room room′ : List ℕ} {r : Outcome} (w : Wrote tokenLayout 0 room (tokenStream src) r room′) where
+module _ (src : List ℕ) {room room′ : List ℕ} {r : Outcome} (w : Wrote tokenLayout byRefusal 0 room (tokenStream src) r room′) where
   length-wrote : length room′ ≡ length room
   length-wrote = ap length (w .holds) ∙ length-putAll tokenLayout (tokenStream src) room 0
 
@@ -76,13 +76,13 @@ module _ (src : List ℕ) {room room′ : List ℕ} {r : Outcome} (w : Wrote tok
   unfolding cutAnswer settled
   settle-refused e = ap (settled tokenLayout (refusal TokenRoom) (length room)) (sym e ∙ w .says)
 
-  pub settle-fits : {n : ℕ} → r ≡ Done n → n ≤ capacity 6 (length room′) → Done n ≡ cutAnswer src (length room)
+  pub settle-fits : {n : ℕ} → r ≡ Done n → n ≤ capacity tokenWords (length room′) → Done n ≡ cutAnswer src (length room)
   unfolding cutAnswer
   settle-fits {n} e h =
       sym (settled-fits tokenLayout (refusal TokenRoom) (length room) n (rw length-wrote at h))
       ∙ ap (settled tokenLayout (refusal TokenRoom) (length room)) (sym e ∙ w .says)
 
-  pub settle-over : {n : ℕ} {q : Refusal} → r ≡ Done n → capacity 6 (length room′) < n → q ≡ refusal TokenRoom → Refused q ≡ cutAnswer src (length room)
+  pub settle-over : {n : ℕ} {q : Refusal} → r ≡ Done n → capacity tokenWords (length room′) < n → q ≡ refusal TokenRoom → Refused q ≡ cutAnswer src (length room)
   unfolding cutAnswer
   settle-over {n} e h f =
       ap Refused f
@@ -95,11 +95,11 @@ module _ (src : List ℕ) {room room′ : List ℕ} {r : Outcome} (w : Wrote tok
   room-refused e z = z ∙ rw (← e, length-wrote)
 
   -- the room after success: the records, and zeros behind them
-  pub room-fits : {n : ℕ} → r ≡ Done n → n ≤ capacity 6 (length room′) → {room″ : List ℕ} → room″ ≡ take (n * 6) room′ ++ replicate (length room′ - n * 6) 0 → room″ ≡ cutRoom src (length room)
+  pub room-fits : {n : ℕ} → r ≡ Done n → n ≤ capacity tokenWords (length room′) → {room″ : List ℕ} → room″ ≡ take (n * tokenWords) room′ ++ replicate (length room′ - n * tokenWords) 0 → room″ ≡ cutRoom src (length room)
   unfolding cutRoom content
   room-fits {n} e h z =
       let c : n ≡ count (tokenStream src) = answer-count (tokenStream src) 0 n (sym (w .says) ∙ e) ∙ omega arith in
-      let f : take (n * 6) room′ ≡ encode tokenLayout (tokenStream src) =
+      let f : take (n * tokenWords) room′ ≡ encode tokenLayout (tokenStream src) =
       rw (w .holds, c) (putAll-front tokenLayout token-sized (tokenStream src) room (rw (c, length-wrote) at h)) in
-      let l : length (encode tokenLayout (tokenStream src)) ≡ n * 6 = length-encode tokenLayout token-sized (tokenStream src) ∙ rw c in
+      let l : length (encode tokenLayout (tokenStream src)) ≡ n * tokenWords = length-encode tokenLayout token-sized (tokenStream src) ∙ rw c in
       z ∙ rw (← settle-fits e h, f, length-wrote, l)

@@ -15,9 +15,10 @@ use Rattle.slices.specs.Slices.{startsSlice, slices, sliceLength}
 use Rattle.slices.proofs.Slices.{slices-first, slices-append, lastByte, joined, joined-slices}
 use Rattle.tokens.specs.Tokens.{Token}
 use Rattle.cutter.specs.Cutting.{located, allSlices}
+use Rattle.answers.specs.declared.Refusal.{Refusal}
 
 -- the tokens of slices none of which is the last
-unfoldable pub before : ℕ → List (List ℕ) → Stream Token
+unfoldable pub before : ℕ → List (List ℕ) → Stream Refusal Token
 before p [] = end
 before p (s ∷ ss) = andThen (located p s) (before (p + length s) ss)
 

@@ -1,37 +1,41 @@
 -- 01, Cutting and Answer numbers: a source's tokens, the one answer and the one content of the token room.
 -- Assumes nothing: these are definitions.
-use Prim.Native.Nat.{ℕ, _+_}
+use Prim.Native.Nat.{ℕ, _+_, _*_, _≤_}
+use mathlib.Core.Path.{_≡_}
 use mathlib.Core.List.{List, [], _∷_}
 use mathlib.Core.Bool.{cond}
 use lib.ListN.{length, take, drop}
 use lib.Dec.{ltb, eqb}
 use Rattle.answers.specs.declared.Why.the-variants.{SourceTooLong, NotAscii, LastSlice, TokenRoom}
 use Rattle.answers.specs.declared.Outcome.{Outcome}
-use Rattle.answers.specs.Answers.{refusal}
+use Rattle.answers.specs.declared.Outcome.the-variants.{Done}
+use Rattle.answers.specs.Answers.{refusal, outcomeCount}
 use Rattle.bytes.specs.declared.Class.the-variants.{White}
 use Rattle.bytes.specs.Bytes.{isHigh, inClass, lead, body, any}
-use Rattle.rooms.specs.Streams.{Stream, end, stop, _▸_, andThen, answer, each}
+use Rattle.rooms.specs.Streams.{Stream, end, stop, _▸_, andThen, items, answer, each}
 use Rattle.rooms.specs.Rooms.{settled, content}
 use Rattle.slices.specs.Slices.{slices}
-use Rattle.tokens.specs.Tokens.{Shown, Token, tokenLayout}
+use Rattle.tokens.specs.Tokens.{Shown, Token, tokenWords, tokenLayout, shownBy}
+use Rattle.tokens.specs.Items.{shownAll}
 use Rattle.tokenize.specs.Tokenize.{tokens}
+use Rattle.answers.specs.declared.Refusal.{Refusal}
 
 -- what a slice of a length at place p shows, as a token
 abbrev pub locate : ℕ → ℕ → Shown → Token
 locate p n shown = record { place = p; length = n; shows = shown }
 
--- the tokens of a slice at place p
-unfoldable pub located : ℕ → List ℕ → Stream Token
-located p s = each (locate p (length s)) (tokens p s)
+-- the tokens of a slice at place p; which refusal it is becomes a refusal here
+unfoldable pub located : ℕ → List ℕ → Stream Refusal Token
+located p s = each refusal (locate p (length s)) (tokens p s)
 
 -- "the last slice is not `}` alone": 6
-unfoldable pub last : ℕ → List ℕ → Stream Token
+unfoldable pub last : ℕ → List ℕ → Stream Refusal Token
 last p [] = stop (refusal LastSlice)
 last p (b ∷ []) = cond (eqb b 125) (locate p 1 Shown.closing ▸ end) (stop (refusal LastSlice))
 last p (b ∷ c ∷ s) = stop (refusal LastSlice)
 
 -- "cutting left to right, all slices but the last, gives the first of 3 to 5; then 6"
-unfoldable pub allSlices : ℕ → List (List ℕ) → Stream Token
+unfoldable pub allSlices : ℕ → List (List ℕ) → Stream Refusal Token
 allSlices p [] = end
 allSlices p (s ∷ []) = last p s
 allSlices p (s ∷ t ∷ ss) = andThen (located p s) (allSlices (p + length s) (t ∷ ss))
@@ -46,7 +50,7 @@ trimmed src =
     take (body (inClass White) t) t
 
 -- a source's tokens, or its refusal of 1 to 6. "Source places count from 0, before trimming."
-unfoldable pub tokenStream : List ℕ → Stream Token
+unfoldable pub tokenStream : List ℕ → Stream Refusal Token
 tokenStream src =
     cond (ltb 65536 (length src)) (stop (refusal SourceTooLong))
     (cond (any isHigh src) (stop (refusal NotAscii))
@@ -59,3 +63,14 @@ cutAnswer src total = settled tokenLayout (refusal TokenRoom) total (answer 0 (t
 -- the one content of that room
 unfoldable pub cutRoom : List ℕ → ℕ → List ℕ
 cutRoom src total = content tokenLayout total (cutAnswer src total) (tokenStream src)
+
+-- What `cut` promises: the one answer, and the one content of the room. What who reads the tokens needs follows from these two, and
+-- is said with them: there are at most 65,536 tokens, their records are in the room, there is one for each token, and read back they show
+-- what the source's tokens show.
+pub record Cuts (src room : List ℕ) (r : Outcome) (room′ : List ℕ) : Type 0 where
+  pub answer : r ≡ cutAnswer src (length room)
+  pub content : room′ ≡ cutRoom src (length room)
+  pub few : outcomeCount r ≤ 65536
+  pub fits : outcomeCount r * tokenWords ≤ length room
+  pub counts : (n : ℕ) → r ≡ Done n → n ≡ length (items (tokenStream src))
+  pub shows : (n : ℕ) → r ≡ Done n → shownAll src n room′ ≡ shownBy (items (tokenStream src))

@@ -8,14 +8,15 @@
 use answers::Outcome;
 use answers::Refusal;
 use answers::Why;
+use answers::Written;
 use bytes::Class;
 use bytes::body_of;
 use bytes::has_high;
 use bytes::lead_of;
 use names::Table;
-use quick::slice_tokens;
 use rooms::clear_from;
 use slices::slice_end;
+use tokenize::quick::slice_tokens;
 use tokens::Record;
 use tokens::TOKEN_WORDS;
 use tokens::put;
@@ -26,12 +27,13 @@ ghost use Rattle.names.specs.Names.{rows};
 ghost use Rattle.rooms.specs.Rooms.{Wrote};
 ghost use Rattle.slices.specs.Slices.{slices as slicesOf};
 ghost use Rattle.tokens.specs.Tokens.{tokenLayout};
-ghost use Rattle.cutter.specs.Cutting.{last as lastOf, allSlices, tokenStream, cutAnswer, cutRoom};
+ghost use Rattle.cutter.specs.Cutting.{last as lastOf, allSlices, tokenStream, Cuts};
+ghost use Rattle.rooms.specs.Streams.{byRefusal};
 
 // The last slice: a closing bracket alone.
 fn last(s: &[u8], place: usize, room: &mut [u32], n: usize) -> Outcome
     requires { ⌜ n < 65536 ⌝ }
-    ensures { λ r. ⌜ Wrote tokenLayout n (now (room .entry)) (lastOf place (now (s .entry))) r (now (room .exit)) ⌝ }
+    ensures { λ r. ⌜ Wrote tokenLayout byRefusal n (now (room .entry)) (lastOf place (now (s .entry))) r (now (room .exit)) ⌝ }
 {
     if s.len() != 1 {
         return Outcome::Refused(Refusal::of(Why::LastSlice));
@@ -46,7 +48,7 @@ fn last(s: &[u8], place: usize, room: &mut [u32], n: usize) -> Outcome
 // All slices of a trimmed source that stands at `place`.
 fn all_slices(s: &[u8], place: usize, names: &Table, room: &mut [u32]) -> Outcome
     requires { ⌜ (place + length (now s) ≤ 65536) × (now names ≡ rows) ⌝ }
-    ensures { λ r. ⌜ Wrote tokenLayout 0 (now (room .entry)) (allSlices place (slicesOf (now (s .entry)))) r (now (room .exit)) ⌝ }
+    ensures { λ r. ⌜ Wrote tokenLayout byRefusal 0 (now (room .entry)) (allSlices place (slicesOf (now (s .entry)))) r (now (room .exit)) ⌝ }
 {
     if s.len() == 0 {
         return Outcome::Done(0);
@@ -61,10 +63,10 @@ fn all_slices(s: &[u8], place: usize, names: &Table, room: &mut [u32]) -> Outcom
         }
         let one = slice_tokens(&t[..e], p, names, room, n);
         match one {
-            Outcome::Refused(refusal) => {
-                return Outcome::Refused(refusal);
+            Written::Refused(why) => {
+                return Outcome::Refused(Refusal::of(why));
             }
-            Outcome::Done(m) => {
+            Written::Done(m) => {
                 n = m;
             }
         }
@@ -77,7 +79,7 @@ fn all_slices(s: &[u8], place: usize, names: &Table, room: &mut [u32]) -> Outcom
 // The source, if it is short enough and of bytes below 128, trimmed and cut.
 fn whole(source: &[u8], names: &Table, room: &mut [u32]) -> Outcome
     requires { ⌜ now names ≡ rows ⌝ }
-    ensures { λ r. ⌜ Wrote tokenLayout 0 (now (room .entry)) (tokenStream (now (source .entry))) r (now (room .exit)) ⌝ }
+    ensures { λ r. ⌜ Wrote tokenLayout byRefusal 0 (now (room .entry)) (tokenStream (now (source .entry))) r (now (room .exit)) ⌝ }
 {
     if 65536 < source.len() {
         return Outcome::Refused(Refusal::of(Why::SourceTooLong));
@@ -102,8 +104,7 @@ fn refuse(refusal: Refusal, room: &mut [u32]) -> Outcome
 
 // Cuts a source into tokens. Every word of the room is written once or set to zero once.
 pub fn cut(source: &[u8], room: &mut [u32]) -> Outcome
-    ensures answer { λ r. ⌜ r ≡ cutAnswer (now (source .entry)) (length (now (room .entry))) ⌝ }
-    ensures content { λ _. ⌜ now (room .exit) ≡ cutRoom (now (source .entry)) (length (now (room .entry))) ⌝ }
+    ensures { λ r. ⌜ Cuts (now (source .entry)) (now (room .entry)) r (now (room .exit)) ⌝ }
 {
     let names = names::table();
     let outcome = whole(source, &names, room);

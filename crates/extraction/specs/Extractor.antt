@@ -1,25 +1,55 @@
--- 01, Sample letters: the rooms of the extractor, and what it prints of a letter. Assumes nothing: these are definitions.
-use Prim.Native.Nat.{ℕ}
-use mathlib.Core.Bool.{cond}
-use mathlib.Core.List.{List}
+-- 01, Sample letters: the rooms of the extractor, what it reads of a letter and what it prints of it. Assumes nothing: these are
+-- definitions.
+use Prim.Native.Nat.{ℕ, _*_, _≤_}
+use mathlib.Core.Path.{_≡_}
+use mathlib.Core.Bool.{Bool, cond}
+use mathlib.Core.List.{List, [], _++_}
 use lib.Dec.{ltb}
-use lib.ListN.{length}
+use lib.ListN.{length, drop, replicate}
 use Rattle.answers.specs.declared.Why.the-variants.{SourceTooLong}
-use Rattle.answers.specs.Answers.{refusal}
-use Rattle.styles.specs.declared.Reading.the-variants.{Plain}
-use Rattle.parser.specs.Parsing.{Sizes, answerNumber, answerCounts}
-use Rattle.reader.specs.Reading.{readAnswer, fontRoom, colourRoom, blockRoom, textRoom}
+use Rattle.answers.specs.Answers.{refusal, Found, found, refused}
+use Rattle.tokens.specs.Tokens.{tokenWords}
+use Rattle.fonts.specs.Rows.{fontWords}
+use Rattle.readings.specs.declared.Reading.the-variants.{Plain}
+use Rattle.blocks.specs.Pages.{blockWords, textOf}
+use Rattle.parser.specs.Parsing.{Sizes, Letter, answerNumber, answerCounts}
 use Rattle.parser.specs.declared.Answer.{Answer}
 use Rattle.parser.specs.declared.Answer.the-variants.{Refuses}
-use Rattle.show.specs.Listings.{listing}
+use Rattle.reader.specs.Reading.{letterOf, readAnswer, fontRoom, colourRoom, blockRoom, textRoom}
+use Rattle.extraction.specs.declared.listing.Listed.{Listed}
+use Rattle.extraction.specs.Listings.{listing}
 
--- "8,192 bytes, 1,024 tokens, 128 blocks, 256 fonts and colours, 8,192 text bytes": the rooms' words
+-- "1,024 tokens, 128 blocks, 256 fonts and colours, 8,192 text bytes": the rooms' words; a colour is one
 abbrev pub extractorRooms : Sizes
-extractorRooms = record { tokens = 6144; fonts = 768; colours = 256; blocks = 1664; text = 8192 }
+extractorRooms = record { tokens = 1024 * tokenWords; fonts = 256 * fontWords; colours = 256; blocks = 128 * blockWords; text = 8192 }
 
--- "longer input gets 1"
+-- "8,192 bytes .. longer input gets 1"
+abbrev pub letterMost : ℕ
+letterMost = 8192
+
+abbrev pub longer : List ℕ → Bool
+longer letter = ltb letterMost (length letter)
+
 unfoldable pub extractedAnswer : List ℕ → Answer
-extractedAnswer letter = cond (ltb 8192 (length letter)) (Refuses (refusal SourceTooLong)) (readAnswer Plain letter extractorRooms)
+extractedAnswer letter = cond (longer letter) (Refuses (refusal SourceTooLong)) (readAnswer Plain letter extractorRooms)
+
+-- the text room: the text and zeros, or zeros alone: "Any refusal .. zeroes all lent rooms."
+unfoldable pub extractedText : List ℕ → List ℕ
+extractedText letter = cond (longer letter) (replicate (extractorRooms .text) 0) (textRoom Plain letter extractorRooms)
+
+-- what `text_of` answers, and the text room that it leaves; the answer counts no more bytes than the room has
+pub record TextOf (letter : List ℕ) (r : Answer) (room : List ℕ) : Type 0 where
+  pub answer : r ≡ extractedAnswer letter
+  pub text : room ≡ extractedText letter
+  pub within : (answerCounts r) .text ≤ extractorRooms .text
+
+-- the text itself; a refusal has none
+abbrev pub textIn : Found Letter → List ℕ
+textIn (found l) = textOf (l .pieces)
+textIn (refused r) = []
+
+unfoldable pub letterText : List ℕ → List ℕ
+letterText letter = cond (longer letter) [] (textIn (letterOf Plain letter extractorRooms))
 
 -- what the extractor prints of a letter
 unfoldable pub extracted : List ℕ → List ℕ
@@ -27,3 +57,14 @@ extracted letter =
     let a = extractedAnswer letter in
     let z = extractorRooms in
     listing (answerNumber a) (answerCounts a) (fontRoom Plain letter z) (colourRoom Plain letter z) (blockRoom Plain letter z) (textRoom Plain letter z)
+
+-- what `extract` answers, and the page that it leaves: the listing, whole, and behind it what stood there before
+pub record Extracts (letter page : List ℕ) (r : Listed) (page′ : List ℕ) : Type 0 where
+  pub number : r .number ≡ answerNumber (extractedAnswer letter)
+  pub bytes : r .bytes ≡ length (extracted letter)
+  pub content : page′ ≡ extracted letter ++ drop (length (extracted letter)) page
+
+-- a letter read in the extractor's rooms: the answer, the text room, and what is listed of all rooms
+pub record ReadInRooms (letter : List ℕ) (r : Answer) (fonts colours blocks room : List ℕ) : Type 0 where
+  pub text-of : TextOf letter r room
+  pub listed : listing (answerNumber r) (answerCounts r) fonts colours blocks room ≡ extracted letter

@@ -1,54 +1,111 @@
-// What 01's extractor prints of a letter (01, Sample letters): the letter read plain in the extractor's rooms, and its listing.
-// `extract` is total: what does not fit on a page is left out.
+// What 01's extractor reads of a letter and prints of it (01, Sample letters): the letter read plain in the extractor's rooms.
+//
+//   text_of   the answer, and the text in a lent room
+//   extract   the listing, on a page that holds any
+//
+// Both are total.
+pub mod listing;
+
+use crate::listing::Listed;
+use crate::listing::list;
 use answers::Refusal;
 use answers::Why;
+use blocks::BLOCK_WORDS;
+use colours::COLOUR_WORDS;
+use fonts::FONT_WORDS;
 use parser::Answer;
-use show::Listed;
-use show::list;
-use styles::Reading;
+use readings::Reading;
+use rooms::clear_bytes_from;
+use tokens::TOKEN_WORDS;
 ghost use mathlib.Core.Path.{_≡_};
-ghost use Rattle.parser.specs.Parsing.{answerNumber};
-ghost use Rattle.lines.specs.Pages.{Put};
-ghost use Rattle.extraction.specs.Extractor.{extractedAnswer, extracted};
+ghost use Rattle.lines.specs.Pages.{PutWhole};
+ghost use Rattle.parser.specs.Parsing.{answerNumber, answerCounts};
+ghost use Rattle.extraction.specs.Listings.{listing};
+ghost use Rattle.extraction.specs.Extractor.{TextOf, Extracts, ReadInRooms};
 
 // 8,192 bytes of letter and of text, 1,024 tokens, 256 fonts, 256 colours, 128 blocks.
 pub const LETTER_MOST: usize = 8192;
 
-const TOKEN_WORDS: usize = 6144;
+pub const TEXT_BYTES: usize = 8192;
 
-const FONT_WORDS: usize = 768;
+const TOKEN_ROOM: usize = 1024 * TOKEN_WORDS;
 
-const COLOUR_WORDS: usize = 256;
+const FONT_ROOM: usize = 256 * FONT_WORDS;
 
-const BLOCK_WORDS: usize = 1664;
+const COLOUR_ROOM: usize = 256 * COLOUR_WORDS;
 
-const TEXT_BYTES: usize = 8192;
+const BLOCK_ROOM: usize = 128 * BLOCK_WORDS;
 
-// The longest listing of these rooms has fewer bytes.
+// No listing of these rooms has more bytes.
 pub const PAGE_BYTES: usize = 65536;
 
-// A letter in the extractor's rooms, read plain. A longer letter than it takes gets refusal 1.
-pub fn extract(letter: &[u8], page: &mut [u8]) -> Listed
-    ensures number { λ r. ⌜ r .number ≡ answerNumber (extractedAnswer (now (letter .entry))) ⌝ }
-    ensures content { λ r. ⌜ Put (now (page .entry)) 0 (extracted (now (letter .entry))) (now (page .exit)) (r .bytes) ⌝ }
+// A letter in the extractor's rooms, read plain. A longer letter than it takes gets refusal 1, and no text.
+fn read(
+    letter: &[u8],
+    tokens: &mut [u32; TOKEN_ROOM],
+    fonts: &mut [u32; FONT_ROOM],
+    colours: &mut [u32; COLOUR_ROOM],
+    blocks: &mut [u32; BLOCK_ROOM],
+    text: &mut [u8; TEXT_BYTES],
+) -> Answer
+    ensures { λ r. ⌜ ReadInRooms (now (letter .entry)) r (now (fonts .exit)) (now (colours .exit)) (now (blocks .exit)) (now (text .exit)) ⌝ }
 {
-    let mut tokens = [0u32; TOKEN_WORDS];
-    let mut fonts = [0u32; FONT_WORDS];
-    let mut colours = [0u32; COLOUR_WORDS];
-    let mut blocks = [0u32; BLOCK_WORDS];
-    let mut text = [0u8; TEXT_BYTES];
     if LETTER_MOST < letter.len() {
-        let too_long = Answer::Refuses(Refusal::of(Why::SourceTooLong));
-        return list(too_long, &fonts, &colours, &blocks, &text, page);
+        clear_bytes_from(text, 0);
+        return Answer::Refuses(Refusal::of(Why::SourceTooLong));
     }
-    let answer = reader::read(
+    reader::read(letter, Reading::Plain, tokens, fonts, colours, blocks, text)
+}
+
+// The listing of an answer over the extractor's rooms: the page holds any.
+fn list_whole(
+    answer: Answer,
+    fonts: &[u32; FONT_ROOM],
+    colours: &[u32; COLOUR_ROOM],
+    blocks: &[u32; BLOCK_ROOM],
+    text: &[u8; TEXT_BYTES],
+    page: &mut [u8; PAGE_BYTES],
+) -> Listed
+    ensures number { λ r. ⌜ r .number ≡ answerNumber answer ⌝ }
+    ensures content { λ r. ⌜ PutWhole (now (page .entry)) (listing (answerNumber answer) (answerCounts answer) (now (fonts .entry)) (now (colours .entry)) (now (blocks .entry)) (now (text .entry))) (now (page .exit)) (r .bytes) ⌝ }
+{
+    list(answer, fonts, colours, blocks, text, page)
+}
+
+// A letter's answer, and its text: as many bytes of the room as the answer counts, and zeros behind them.
+pub fn text_of(letter: &[u8], text: &mut [u8; TEXT_BYTES]) -> Answer
+    ensures { λ r. ⌜ TextOf (now (letter .entry)) r (now (text .exit)) ⌝ }
+{
+    let mut tokens = [0u32; TOKEN_ROOM];
+    let mut fonts = [0u32; FONT_ROOM];
+    let mut colours = [0u32; COLOUR_ROOM];
+    let mut blocks = [0u32; BLOCK_ROOM];
+    read(
         letter,
-        Reading::Plain,
+        &mut tokens,
+        &mut fonts,
+        &mut colours,
+        &mut blocks,
+        text,
+    )
+}
+
+// A letter's listing on a page, whole.
+pub fn extract(letter: &[u8], page: &mut [u8; PAGE_BYTES]) -> Listed
+    ensures { λ r. ⌜ Extracts (now (letter .entry)) (now (page .entry)) r (now (page .exit)) ⌝ }
+{
+    let mut tokens = [0u32; TOKEN_ROOM];
+    let mut fonts = [0u32; FONT_ROOM];
+    let mut colours = [0u32; COLOUR_ROOM];
+    let mut blocks = [0u32; BLOCK_ROOM];
+    let mut text = [0u8; TEXT_BYTES];
+    let answer = read(
+        letter,
         &mut tokens,
         &mut fonts,
         &mut colours,
         &mut blocks,
         &mut text,
     );
-    list(answer, &fonts, &colours, &blocks, &text, page)
+    list_whole(answer, &fonts, &colours, &blocks, &text, page)
 }

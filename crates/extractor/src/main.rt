@@ -1,19 +1,32 @@
 // The extractor (01, Sample letters): the letter comes by standard input, its listing goes to standard output. A read that fails
 // counts as the letter's end.
+use extraction::LETTER_MOST;
 use extraction::PAGE_BYTES;
 use extraction::extract;
 use libc::STDIN_FILENO;
 use libc::STDOUT_FILENO;
+ghost use Rattle.lines.specs.Pages.{Front};
+ghost use Rattle.extraction.specs.Extractor.{extracted};
 
 // The longest letter that is taken, and a byte more, so that a longer one is seen to be longer.
-const LETTER_BYTES: usize = 8193;
+const LETTER_BYTES: usize = LETTER_MOST + 1;
 
-// Reads the letter, and writes its listing.
-fn run(letter: &mut [u8], page: &mut [u8]) {
-    let n = io::read_full(STDIN_FILENO, letter);
-    let listed = extract(&letter[..n], page);
-    let bytes = listed.bytes;
+// Writes what is printed of a letter: the first bytes of a page are that, whole. The letter is named for the promise alone.
+fn write(letter: &[u8], page: &[u8], bytes: usize)
+    requires { ⌜ Front (extracted (now letter)) (now page) bytes ⌝ }
+{
     io::write_all(STDOUT_FILENO, &page[..bytes]);
+}
+
+fn print(letter: &[u8], page: &mut [u8; PAGE_BYTES]) {
+    let listed = extract(letter, page);
+    write(letter, page, listed.bytes);
+}
+
+// Reads the letter, and prints its listing.
+fn run(letter: &mut [u8], page: &mut [u8; PAGE_BYTES]) {
+    let n = io::read_full(STDIN_FILENO, letter);
+    print(&letter[..n], page);
 }
 
 fn in_rooms(letter: &mut [u8; LETTER_BYTES], page: &mut [u8; PAGE_BYTES]) {

@@ -13,7 +13,7 @@ use lib.ListN.{length, getD, take, drop}
 use lib.Seq.{drop-cons}
 use Rattle.styles.specs.declared.Style.{Style}
 use Rattle.styles.specs.Styles.{sameStyle, styleWords}
-use Rattle.pages.specs.Pages.{starts}
+use Rattle.blocks.specs.Pages.{starts}
 use Rattle.fields.specs.Fields.{styleNumbers, styleFrom, lastOf}
 use Rattle.fields.proofs.Folds.{unfold-fold, fold-unfold, folded-small, unfolded-small}
 

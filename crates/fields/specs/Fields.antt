@@ -5,7 +5,7 @@ use mathlib.Core.Bool.{Bool, true, false, cond, _&&_, _||_}
 use lib.ListN.{getD}
 use lib.Dec.{leb, ltb, eqb}
 use Rattle.styles.specs.declared.Style.{Style}
-use Rattle.pages.specs.Pages.{Last, none, last}
+use Rattle.blocks.specs.Pages.{Last, none, last}
 
 -- "n≥0 as 2n, n<0 as -2n-1", where n below zero stands as n + 2^32
 unfoldable pub folded : ℕ → ℕ

@@ -6,7 +6,7 @@
 use styles::Style;
 use styles::same_style;
 ghost use mathlib.Core.Path.{_≡_};
-ghost use Rattle.pages.specs.Pages.{starts};
+ghost use Rattle.blocks.specs.Pages.{starts};
 ghost use Rattle.fields.specs.Fields.{folded, unfolded, inRange, lastOf};
 
 // 2n, or -2n-1 for n below zero.

@@ -18,29 +18,31 @@ use Rattle.answers.specs.declared.Refusal.{Refusal}
 use Rattle.answers.specs.declared.Outcome.{Outcome}
 use Rattle.answers.specs.declared.Outcome.the-variants.{Done, Refused}
 use Rattle.answers.specs.Answers.{refusal, Found, found, refused}
-use Rattle.rooms.specs.Rooms.{tableLimit}
+use Rattle.rooms.specs.Rooms.{tableLimit, overlaid}
 use Rattle.rooms.proofs.Streams.{done-refused}
 use Rattle.rooms.proofs.Rooms.{limit-256}
+use Rattle.rooms.proofs.Clearing.{overlaid-front, overlaid-again}
 use Rattle.bytes.specs.declared.Class.the-variants.{Semicolon}
 use Rattle.bytes.specs.Bytes.{inClass, body, grown}
 use Rattle.tokens.specs.declared.Property.{Property}
 use Rattle.tokens.specs.declared.Property.the-variants.{None, Value}
-use Rattle.tokens.specs.Tokens.{Shown}
-use Rattle.items.specs.declared.Item.{Item}
-use Rattle.items.specs.declared.Item.the-variants.{Text, Opening, Closing, LineBreak, Ignorable, Word, Unknown}
-use Rattle.items.specs.Items.{part, itemAt, shownOf, shownAll}
-use Rattle.items.proofs.Items.{rest, words-less, shown-none, shown-some}
-use Rattle.rows.specs.declared.Font.{Font as Row}
+use Rattle.tokens.specs.Tokens.{Shown, tokenWords}
+use Rattle.tokens.specs.declared.item.Item.{Item}
+use Rattle.tokens.specs.declared.item.Item.the-variants.{Text, Opening, Closing, LineBreak, Ignorable, Word, Unknown}
+use Rattle.tokens.specs.Items.{part, itemAt, shownOf, shownAll}
+use Rattle.tokens.proofs.Items.{rest, words-less, shown-none, shown-some}
+use Rattle.fonts.specs.declared.rows.Font.{Font as Row}
 use Rattle.fonts.specs.declared.Effect.{Effect}
 use Rattle.fonts.specs.declared.Effect.the-variants.{Set, Store, Unnumbered}
-use Rattle.rows.specs.Rows.{Font, tableWords, hasKey, inserted, InFront, ReadFonts}
+use Rattle.fonts.specs.Rows.{Font, tableWords, hasKey, inserted, InFront, ReadFonts, fontWords}
 use Rattle.fonts.specs.Fonts.{named, keyed}
-use Rattle.rows.specs.Rows.{Fonts, noFonts, stored, tableOf}
+use Rattle.fonts.specs.Rows.{Fonts, noFonts, stored, tableOf}
 use Rattle.fonts.specs.Fonts.{rekeyed, fontWord, fontToken, fontsFrom, fonts}
-use Rattle.rows.specs.Rows.{row, Ascends, StoredFont}
+use Rattle.fonts.specs.Rows.{row, Ascends, StoredFont}
 use Rattle.fonts.specs.Effects.{namedRow, numbered, wordEffect, effectOf, unnumbered}
 use Rattle.fonts.proofs.Limits.{limit-within}
-use Rattle.rows.proofs.Inserts.{table-ascends}
+use Rattle.fonts.proofs.Inserts.{table-ascends}
+use Rattle.fonts.proofs.RowTables.{stored-longer, length-table}
 use Rattle.fonts.proofs.Tables.{fonts-refused, Sound, SoundIf, sound-start, sound-next}
 
 done-done : (n m : ℕ) → Done n ≡ Done m → n ≡ m
@@ -186,19 +188,19 @@ effect-row src (Unknown p n num) f = refl
 -- the loop: what is left, from the present table and font, leads where the whole leads
 pub record Loop (src tokens : List ℕ) (count : ℕ) (room₀ : List ℕ) (limit : ℕ) (room ws : List ℕ) (n : ℕ) (font : Row) (held : ℕ) : Type 0 where
   pub state : Fonts
-  pub words : n * 6 ≤ length ws
+  pub words : n * tokenWords ≤ length ws
   pub few : n ≤ 65536
   pub long : length room ≡ length room₀
-  pub limited : limit ≡ tableLimit 3 (length room₀)
-  pub fits : limit * 3 ≤ length room
+  pub limited : limit ≡ tableLimit fontWords (length room₀)
+  pub fits : limit * fontWords ≤ length room
   pub sound : Sound limit state
   pub same : font ≡ row (state .font)
   pub size : length (state .table) ≡ held
-  pub front : InFront (tableWords (state .table)) room
+  pub laid : room ≡ overlaid (tableWords (state .table)) room₀
   pub left : fontsFrom limit (found state) (shownAll src n ws) ≡ fontsFrom limit (found noFonts) (shownAll src count tokens)
 
-pub loop-start : (src tokens : List ℕ) (count : ℕ) (room : List ℕ) (limit : ℕ) → (count * 6 ≤ length tokens) × (count ≤ 65536)
-    → limit ≡ tableLimit 3 (length room)
+pub loop-start : (src tokens : List ℕ) (count : ℕ) (room : List ℕ) (limit : ℕ) → (count * tokenWords ≤ length tokens) × (count ≤ 65536)
+    → limit ≡ tableLimit fontWords (length room)
     → Loop src tokens count room limit room tokens count (record { key = 0; place = 0; length = 0 }) 0
 unfolding tableWords
 loop-start src tokens count room limit h e =
@@ -212,56 +214,59 @@ loop-start src tokens count room limit h e =
       sound = sound-start limit;
       same = refl;
       size = refl;
-      front = refl;
+      laid = refl;
       left = refl;
     }
 
 module _ {src tokens : List ℕ} {count : ℕ} {room₀ : List ℕ} {limit : ℕ} {room ws : List ℕ} {n : ℕ} {font : Row} {held : ℕ}
     (l : Loop src tokens count room₀ limit room ws n font held) where
   ended : (x : Found Fonts) → x ≡ fontsFrom limit (found noFonts) (shownAll src count tokens)
-      → tableOf x ≡ fonts (tableLimit 3 (length room₀)) (shownAll src count tokens)
+      → tableOf x ≡ fonts (tableLimit fontWords (length room₀)) (shownAll src count tokens)
   unfolding fonts
   ended x e = rw (← (l .limited)) (ap tableOf e)
 
   stopped : (q : Refusal) (ts : List Shown) (room′ : List ℕ) → fontsFrom limit (refused q) ts ≡ fontsFrom limit (found noFonts) (shownAll src count tokens)
-      → ReadFonts (fonts (tableLimit 3 (length room₀)) (shownAll src count tokens)) (Refused q) room′
+      → ReadFonts (fonts (tableLimit fontWords (length room₀)) (shownAll src count tokens)) room₀ (Refused q) room′
   stopped q ts room′ e =
-      let z : refused q ≡ fonts (tableLimit 3 (length room₀)) (shownAll src count tokens) = ended (refused q) (sym (fonts-refused limit q ts) ∙ e) in
+      let z : refused q ≡ fonts (tableLimit fontWords (length room₀)) (shownAll src count tokens) = ended (refused q) (sym (fonts-refused limit q ts) ∙ e) in
       rw (← z) refl
 
   -- no token is left
-  pub loop-end : n ≤ 0 → ReadFonts (fonts (tableLimit 3 (length room₀)) (shownAll src count tokens)) (Done held) room
+  pub loop-end : n ≤ 0 → ReadFonts (fonts (tableLimit fontWords (length room₀)) (shownAll src count tokens)) room₀ (Done held) room
   unfolding fontsFrom
   loop-end h =
       let e : found (l .state) ≡ fontsFrom limit (found noFonts) (shownAll src count tokens) = rw (shown-none src n ws h) at (l .left) in
-      let z : found (l .state .table) ≡ fonts (tableLimit 3 (length room₀)) (shownAll src count tokens) = ended (found (l .state)) e in
-      rw (← z) (ap Done (sym (l .size)), l .front)
+      let z : found (l .state .table) ≡ fonts (tableLimit fontWords (length room₀)) (shownAll src count tokens) = ended (found (l .state)) e in
+      rw (← z) (ap Done (sym (l .size)), l .laid)
+
+  front : InFront (tableWords (l .state .table)) room
+  front = rw (l .laid) (overlaid-front (tableWords (l .state .table)) room₀)
 
   -- what a store asks
-  pub loop-ready : (held ≤ limit) × (limit ≤ 256) × (limit * 3 ≤ length room) × Ascends held room
+  pub loop-ready : (held ≤ limit) × (limit ≤ 256) × (limit * fontWords ≤ length room) × Ascends held room
   loop-ready = (
     let k : length (l .state .table) ≤ limit = l .sound .few in let e : length (l .state .table) ≡ held = l .size in omega arith,
-    rw (l .limited) (limit-256 3 (length room₀)),
+    rw (l .limited) (limit-256 fontWords (length room₀)),
     l .fits,
-    table-ascends (l .state .table) room held (l .sound .up) (l .front) (l .size),
+    table-ascends (l .state .table) room held (l .sound .up) front (l .size),
   )
 
   module _ (h : 0 < n) {i : Item} (a : i ≡ itemAt ws) {e : Effect} (b : e ≡ effectOf src i font) where
     effect-here : e ≡ effectOf src i (row (l .state .font))
     effect-here = b ∙ ap (effectOf src i) (l .same)
 
-    turned : fontsFrom limit (applied limit (l .state) (fontAfter src i (l .state .font)) e) (shownAll src (n - 1) (rest ws 6))
+    turned : fontsFrom limit (applied limit (l .state) (fontAfter src i (l .state .font)) e) (shownAll src (n - 1) (rest ws tokenWords))
         ≡ fontsFrom limit (found noFonts) (shownAll src count tokens)
     unfolding fontsFrom
     turned =
-        let x : fontsFrom limit (fontToken limit (shownOf src (itemAt ws)) (l .state)) (shownAll src (n - 1) (rest ws 6))
+        let x : fontsFrom limit (fontToken limit (shownOf src (itemAt ws)) (l .state)) (shownAll src (n - 1) (rest ws tokenWords))
         ≡ fontsFrom limit (found noFonts) (shownAll src count tokens) =
         rw (shown-some src n ws h) at (l .left) in
         let y : fontToken limit (shownOf src (itemAt ws)) (l .state) ≡ applied limit (l .state) (fontAfter src i (l .state .font)) e =
         ap (λ (j : Item). fontToken limit (shownOf src j) (l .state)) (sym a)
         ∙ effect-token limit src i (l .state)
         ∙ ap (applied limit (l .state) (fontAfter src i (l .state .font))) (sym effect-here) in
-        ap (λ (z : Found Fonts). fontsFrom limit z (shownAll src (n - 1) (rest ws 6))) (sym y) ∙ x
+        ap (λ (z : Found Fonts). fontsFrom limit z (shownAll src (n - 1) (rest ws tokenWords))) (sym y) ∙ x
 
     leaves : Leaves (fontAfter src i (l .state .font)) e
     leaves = rw effect-here (effect-row src i (l .state .font))
@@ -270,7 +275,7 @@ module _ {src tokens : List ℕ} {count : ℕ} {room₀ : List ℕ} {limit : ℕ
     sound-after = rw (effect-here, ← (effect-token limit src i (l .state))) (sound-next limit (found (l .state)) (shownOf src i) (l .sound))
 
     -- a new current font
-    pub loop-set : (g : Row) → e ≡ Set g → Loop src tokens count room₀ limit room (rest ws 6) (n - 1) g held
+    pub loop-set : (g : Row) → e ≡ Set g → Loop src tokens count room₀ limit room (rest ws tokenWords) (n - 1) g held
     loop-set g x =
         record {
           state = record { table = l .state .table; font = fontAfter src i (l .state .font) };
@@ -282,48 +287,50 @@ module _ {src tokens : List ℕ} {count : ℕ} {room₀ : List ℕ} {limit : ℕ
           sound = rw x at sound-after;
           same = rw x at leaves;
           size = l .size;
-          front = l .front;
+          laid = l .laid;
           left = rw x at turned;
         }
 
     -- a store was asked, of the font before the token
     module _ (o : Outcome) (room′ : List ℕ) (told : (fs : List Font) (g : Font) → StoredFont limit held font fs g room o room′)
         (kept : length room′ ≡ length room) where
-      answered : ReadFonts (tableOf (stored limit (l .state))) o room′
-      answered = told (l .state .table) (l .state .font) (l .size) (l .front) (l .same)
+      answered : ReadFonts (tableOf (stored limit (l .state))) room o room′
+      answered = told (l .state .table) (l .state .font) (l .size) front (l .same)
 
       pub loop-full : (g : Row) → e ≡ Store g → (q : Refusal) → o ≡ Refused q
-          → ReadFonts (fonts (tableLimit 3 (length room₀)) (shownAll src count tokens)) (Refused q) room′
-      loop-full g x q y = stopped q (shownAll src (n - 1) (rest ws 6)) room′ (go (stored limit (l .state)) (rw y at answered) (rw x at turned))
+          → ReadFonts (fonts (tableLimit fontWords (length room₀)) (shownAll src count tokens)) room₀ (Refused q) room′
+      loop-full g x q y = stopped q (shownAll src (n - 1) (rest ws tokenWords)) room′ (go (stored limit (l .state)) (rw y at answered) (rw x at turned))
         where
-          go : (z : Found Fonts) → ReadFonts (tableOf z) (Refused q) room′
-              → fontsFrom limit (thenFont (fontAfter src i (l .state .font)) z) (shownAll src (n - 1) (rest ws 6))
+          go : (z : Found Fonts) → ReadFonts (tableOf z) room (Refused q) room′
+              → fontsFrom limit (thenFont (fontAfter src i (l .state .font)) z) (shownAll src (n - 1) (rest ws tokenWords))
               ≡ fontsFrom limit (found noFonts) (shownAll src count tokens)
-              → fontsFrom limit (refused q) (shownAll src (n - 1) (rest ws 6)) ≡ fontsFrom limit (found noFonts) (shownAll src count tokens)
+              → fontsFrom limit (refused q) (shownAll src (n - 1) (rest ws tokenWords)) ≡ fontsFrom limit (found noFonts) (shownAll src count tokens)
           go (found s) r t = absurd (done-refused (sym (r .0)))
           go (refused p) r t = let d : q ≡ p = cc in rw d t
 
       pub loop-unnumbered : e ≡ Unnumbered → (q : Refusal) → q ≡ unnumbered o
-          → ReadFonts (fonts (tableLimit 3 (length room₀)) (shownAll src count tokens)) (Refused q) room′
-      loop-unnumbered x q y = stopped q (shownAll src (n - 1) (rest ws 6)) room′ (go (stored limit (l .state)) answered (rw x at turned))
+          → ReadFonts (fonts (tableLimit fontWords (length room₀)) (shownAll src count tokens)) room₀ (Refused q) room′
+      loop-unnumbered x q y = stopped q (shownAll src (n - 1) (rest ws tokenWords)) room′ (go (stored limit (l .state)) answered (rw x at turned))
         where
-          go : (z : Found Fonts) → ReadFonts (tableOf z) o room′
-              → fontsFrom limit (thenNone z) (shownAll src (n - 1) (rest ws 6))
+          go : (z : Found Fonts) → ReadFonts (tableOf z) room o room′
+              → fontsFrom limit (thenNone z) (shownAll src (n - 1) (rest ws tokenWords))
               ≡ fontsFrom limit (found noFonts) (shownAll src count tokens)
-              → fontsFrom limit (refused q) (shownAll src (n - 1) (rest ws 6)) ≡ fontsFrom limit (found noFonts) (shownAll src count tokens)
+              → fontsFrom limit (refused q) (shownAll src (n - 1) (rest ws tokenWords)) ≡ fontsFrom limit (found noFonts) (shownAll src count tokens)
           go (found s) r t = let d : q ≡ refusal FontNumber = y ∙ ap unnumbered (r .0) in rw d t
           go (refused p) r t = let d : q ≡ p = y ∙ ap unnumbered r in rw d t
 
-      pub loop-store : (g : Row) → e ≡ Store g → (m : ℕ) → o ≡ Done m → Loop src tokens count room₀ limit room′ (rest ws 6) (n - 1) g m
-      loop-store g x m y = go (stored limit (l .state)) (rw y at answered) (rw x at turned) (rw x at sound-after)
+      pub loop-store : (g : Row) → e ≡ Store g → (m : ℕ) → o ≡ Done m → Loop src tokens count room₀ limit room′ (rest ws tokenWords) (n - 1) g m
+      loop-store g x m y = go (stored limit (l .state)) refl (rw y at answered) (rw x at turned) (rw x at sound-after)
         where
-          go : (z : Found Fonts) → ReadFonts (tableOf z) (Done m) room′
-              → fontsFrom limit (thenFont (fontAfter src i (l .state .font)) z) (shownAll src (n - 1) (rest ws 6))
+          go : (z : Found Fonts) → stored limit (l .state) ≡ z → ReadFonts (tableOf z) room (Done m) room′
+              → fontsFrom limit (thenFont (fontAfter src i (l .state .font)) z) (shownAll src (n - 1) (rest ws tokenWords))
               ≡ fontsFrom limit (found noFonts) (shownAll src count tokens)
               → SoundIf limit (thenFont (fontAfter src i (l .state .font)) z)
-              → Loop src tokens count room₀ limit room′ (rest ws 6) (n - 1) g m
-          go (found s) r t u =
+              → Loop src tokens count room₀ limit room′ (rest ws tokenWords) (n - 1) g m
+          go (found s) v r t u =
               let d : m ≡ length (s .table) = done-done m (length (s .table)) (r .0) in
+              let w : length (tableWords (l .state .table)) ≤ length (tableWords (s .table)) =
+              (let y = stored-longer limit (l .state) s v in let i = length-table (l .state .table) in let j = length-table (s .table) in omega arith) in
               record {
                 state = record { table = s .table; font = fontAfter src i (l .state .font) };
                 words = words-less n ws (l .words);
@@ -334,7 +341,7 @@ module _ {src tokens : List ℕ} {count : ℕ} {room₀ : List ℕ} {limit : ℕ
                 sound = u;
                 same = rw x at leaves;
                 size = sym d;
-                front = r .1;
+                laid = r .1 ∙ ap (overlaid (tableWords (s .table))) (l .laid) ∙ overlaid-again (tableWords (s .table)) (tableWords (l .state .table)) room₀ w;
                 left = t;
               }
-          go (refused p) r t u = absurd (done-refused r)
+          go (refused p) v r t u = absurd (done-refused r)

@@ -23,8 +23,8 @@ use Rattle.tokens.specs.declared.Property.{Property}
 use Rattle.tokens.specs.declared.Property.the-variants.{None, Value}
 use Rattle.tokens.specs.Tokens.{Shown}
 use Rattle.tokens.specs.Tokens
-use Rattle.rows.specs.Rows.{Font, Fonts, noFonts, hasKey, inserted, stored, tableOf}
-use Rattle.rows.proofs.Tables.{Ascending, Keys, ascending-insert, keys-insert, length-insert, length-kept}
+use Rattle.fonts.specs.Rows.{Font, Fonts, noFonts, hasKey, inserted, stored, tableOf, fontWords}
+use Rattle.fonts.proofs.RowTables.{Ascending, Keys, ascending-insert, keys-insert, length-insert, length-kept}
 use Rattle.fonts.specs.Fonts.{named, rekeyed, fontWord, fontToken, nextFont, fontsFrom, fonts}
 
 pub fonts-refused : (limit : ℕ) (r : Refusal) (ts : List Shown) → fontsFrom limit (refused r) ts ≡ refused r
@@ -123,5 +123,5 @@ module _ (limit : ℕ) (ts : List Shown) (fs : List Font) where
   pub fonts-keys : fonts limit ts ≡ found fs → Keys fs
   fonts-keys e = sound-fonts e .1 .1
 
-pub fonts-few-256 : (total : ℕ) (ts : List Shown) (fs : List Font) → fonts (tableLimit 3 total) ts ≡ found fs → length fs ≤ 256
-fonts-few-256 total ts fs e = let h : length fs ≤ tableLimit 3 total = fonts-few (tableLimit 3 total) ts fs e in omega (arith, limit-256 3 total)
+pub fonts-few-256 : (total : ℕ) (ts : List Shown) (fs : List Font) → fonts (tableLimit fontWords total) ts ≡ found fs → length fs ≤ 256
+fonts-few-256 total ts fs e = let h : length fs ≤ tableLimit fontWords total = fonts-few (tableLimit fontWords total) ts fs e in omega (arith, limit-256 fontWords total)

@@ -13,12 +13,13 @@ use Rattle.bytes.specs.declared.Class.the-variants.{Semicolon}
 use Rattle.bytes.specs.Bytes.{inClass, body}
 use Rattle.tokens.specs.declared.Property.{Property}
 use Rattle.tokens.specs.declared.Property.the-variants.{None, Value}
-use Rattle.items.specs.declared.Item.{Item}
-use Rattle.items.specs.declared.Item.the-variants.{Text, Opening, Closing, LineBreak, Ignorable, Word, Unknown}
-use Rattle.items.specs.Items.{part}
-use Rattle.rows.specs.declared.Font.{Font as Row}
+use Rattle.tokens.specs.declared.item.Item.{Item}
+use Rattle.tokens.specs.declared.item.Item.the-variants.{Text, Opening, Closing, LineBreak, Ignorable, Word, Unknown}
+use Rattle.tokens.specs.Items.{part}
+use Rattle.fonts.specs.declared.rows.Font.{Font as Row}
 use Rattle.fonts.specs.declared.Effect.{Effect}
 use Rattle.fonts.specs.declared.Effect.the-variants.{Set, Store, Unnumbered}
+use Rattle.tokens.specs.WordNumbers as words
 
 -- "ending `;`s dropped", "place 0 if empty"
 unfoldable pub namedRow : Row → ℕ → List ℕ → Row
@@ -33,7 +34,7 @@ numbered (Value v) f = Store (record { key = v % 65536; place = f .place; length
 
 -- `f` is number 9
 abbrev pub wordEffect : ℕ → Property → Row → Effect
-wordEffect w num f = cond (eqb w 9) (numbered num f) (Set f)
+wordEffect w num f = cond (eqb w words.fontNumber) (numbered num f) (Set f)
 
 -- a token; "Each closing bracket stores."
 abbrev pub effectOf : List ℕ → Item → Row → Effect

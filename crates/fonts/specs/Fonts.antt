@@ -12,7 +12,8 @@ use Rattle.tokens.specs.declared.Property.{Property}
 use Rattle.tokens.specs.declared.Property.the-variants.{None, Value}
 use Rattle.tokens.specs.Tokens.{Shown}
 use Rattle.tokens.specs.Tokens
-use Rattle.rows.specs.Rows.{Font, Fonts, noFonts, stored, tableOf}
+use Rattle.fonts.specs.Rows.{Font, Fonts, noFonts, stored, tableOf}
+use Rattle.tokens.specs.WordNumbers as words
 
 -- "Text replaces the name, ending `;`s dropped.", "place 0 if empty"
 unfoldable pub named : Font → ℕ → List ℕ → Font
@@ -33,7 +34,7 @@ rekeyed (Value v) (found s) = found (record { table = s .table; font = keyed (s 
 
 -- a word: `f` is number 9
 unfoldable pub fontWord : ℕ → ℕ → Property → Fonts → Found Fonts
-fontWord limit w num s = cond (eqb w 9) (rekeyed num (stored limit s)) (found s)
+fontWord limit w num s = cond (eqb w words.fontNumber) (rekeyed num (stored limit s)) (found s)
 
 -- a token of the group; "Each closing bracket stores. Nothing is reset between fonts."
 unfoldable pub fontToken : ℕ → Shown → Fonts → Found Fonts

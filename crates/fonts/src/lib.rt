@@ -5,27 +5,35 @@
 //   key_of      a number as a key
 //   step        a token's effect
 //   read_fonts  the whole table
+mod rows;
+
+use crate::rows::Font;
+use crate::rows::store;
 use answers::Outcome;
 use answers::Refusal;
 use answers::Why;
 use bytes::Class;
 use bytes::body_of;
-use items::Item;
-use items::item_at;
-use items::part;
-use rows::Font;
-use rows::store;
 use tokens::Property;
+use tokens::TOKEN_WORDS;
+use tokens::item::Item;
+use tokens::item::item_at;
+use tokens::item::part;
+use tokens::words;
 ghost use mathlib.Core.Path.{_≡_};
 ghost use Prim.Native.Nat.{_*_, _%_, _≤_};
 ghost use lib.ListN.{length};
 ghost use Rattle.bytes.specs.declared.Class.the-variants.{Semicolon};
 ghost use Rattle.bytes.specs.Bytes.{inClass, body};
-ghost use Rattle.items.specs.Items.{part as partOf, shownAll};
+ghost use Rattle.tokens.specs.Items.{part as partOf, shownAll};
 ghost use Rattle.rooms.specs.Rooms.{tableLimit};
-ghost use Rattle.rows.specs.Rows.{ReadFonts};
+ghost use Rattle.fonts.specs.Rows.{ReadFonts, fontWords};
 ghost use Rattle.fonts.specs.Fonts.{fonts as fontsOf};
 ghost use Rattle.fonts.specs.Effects.{namedRow, numbered as numberedOf, wordEffect, effectOf, unnumbered as unnumberedOf};
+ghost use Rattle.tokens.specs.Tokens.{tokenWords};
+
+// How many words a font's record has.
+pub const FONT_WORDS: usize = 3;
 
 pub enum Effect {
     Set(Font),
@@ -35,9 +43,9 @@ pub enum Effect {
 
 // How many records of three words a room of n words holds, and at most 256.
 fn limit_of(n: usize) -> usize
-    ensures { λ r. ⌜ r ≡ tableLimit 3 n ⌝ }
+    ensures { λ r. ⌜ r ≡ tableLimit fontWords n ⌝ }
 {
-    let whole = n / 3;
+    let whole = n / FONT_WORDS;
     if whole < 256 {
         return whole;
     }
@@ -104,7 +112,7 @@ fn numbered(number: Property, f: Font) -> Effect
 fn word_effect(w: u32, number: Property, f: Font) -> Effect
     ensures { λ r. ⌜ r ≡ wordEffect w number f ⌝ }
 {
-    if w == 9 {
+    if w == words::FONT_NUMBER {
         return numbered(number, f);
     }
     Effect::Set(f)
@@ -140,8 +148,8 @@ fn unnumbered(o: Outcome) -> Refusal
 
 // Reads the table of a group's tokens, which starts anew.
 pub fn read_fonts(source: &[u8], tokens: &[u32], count: usize, room: &mut [u32]) -> Outcome
-    requires { ⌜ (count * 6 ≤ length (now tokens)) × (count ≤ 65536) ⌝ }
-    ensures { λ r. ⌜ ReadFonts (fontsOf (tableLimit 3 (length (now (room .entry)))) (shownAll (now (source .entry)) count (now (tokens .entry)))) r (now (room .exit)) ⌝ }
+    requires { ⌜ (count * tokenWords ≤ length (now tokens)) × (count ≤ 65536) ⌝ }
+    ensures { λ r. ⌜ ReadFonts (fontsOf (tableLimit fontWords (length (now (room .entry)))) (shownAll (now (source .entry)) count (now (tokens .entry)))) (now (room .entry)) r (now (room .exit)) ⌝ }
 {
     let limit = limit_of(room.len());
     let mut t = tokens;
@@ -155,7 +163,7 @@ pub fn read_fonts(source: &[u8], tokens: &[u32], count: usize, room: &mut [u32])
     while 0 < n {
         let i = item_at(t);
         let e = step(source, i, font);
-        t = &t[6..];
+        t = &t[TOKEN_WORDS..];
         n -= 1;
         match e {
             Effect::Set(g) => {

@@ -7,7 +7,7 @@ use libc::STDIN_FILENO;
 use libc::STDOUT_FILENO;
 use parser::Answer;
 use reader::read;
-use styles::Reading;
+use readings::Reading;
 
 // The longest letter, and a byte more, so that a longer one is seen to be longer.
 const LETTER_BYTES: usize = 65537;

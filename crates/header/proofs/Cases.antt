@@ -9,11 +9,11 @@ use Rattle.bytes.specs.Texts.{bytesOf}
 use Rattle.tokens.specs.declared.Property.the-variants.{None, Value}
 use Rattle.tokens.specs.Tokens.{Shown}
 use Rattle.tokens.specs.Tokens
-use Rattle.rows.specs.Rows.{Font, hasKey, inserted, stored}
+use Rattle.fonts.specs.Rows.{Font, hasKey, inserted, stored}
 use Rattle.fonts.specs.Fonts.{named, fontWord, fontToken, fontsFrom, fonts}
 use Rattle.colours.specs.Colours.{colours, coloursFrom, colourToken, colourWordOf}
 use Rattle.walk.specs.Walk.{aimFrom, extent, walkFrom, walk}
-use Rattle.entering.specs.Entering.{Tables}
+use Rattle.header.specs.Entering.{Tables}
 use Rattle.header.specs.Header.{noTables, tablesFrom, tables}
 
 abbrev begin : Shown

@@ -15,14 +15,14 @@ use Rattle.answers.specs.Answers.{Found, found, refused}
 use Rattle.rooms.specs.Rooms.{tableLimit}
 use Rattle.rooms.proofs.Rooms.{limit-256}
 use Rattle.tokens.specs.Tokens.{Shown}
-use Rattle.rows.specs.Rows.{Font}
+use Rattle.fonts.specs.Rows.{Font, fontWords}
 use Rattle.fonts.specs.Fonts.{fonts}
-use Rattle.rows.proofs.Tables.{Ascending, Keys}
+use Rattle.fonts.proofs.RowTables.{Ascending, Keys}
 use Rattle.fonts.proofs.Tables.{fonts-few, fonts-up, fonts-keys}
-use Rattle.colours.specs.Colours.{colours}
+use Rattle.colours.specs.Colours.{colours, colourWords}
 use Rattle.colours.proofs.Tables.{Words, colours-few, colours-words}
 use Rattle.walk.specs.Walk.{Step, kept, hidden, fontTable, colourTable}
-use Rattle.entering.specs.Entering.{Tables, withFonts, withColours, readStep}
+use Rattle.header.specs.Entering.{Tables, withFonts, withColours, readStep}
 use Rattle.header.specs.Header.{noTables, nextStep, tablesFrom, tables}
 
 pub tables-refused : (f c : ℕ) (r : Refusal) (xs : List Step) → tablesFrom f c (refused r) xs ≡ refused r
@@ -96,10 +96,10 @@ module _ (f c : ℕ) where
       let h : SoundIf f c (tables f c xs) = sound-from (found noTables) xs (sound-start f c) in
       rw e at h
 
-pub tables-few-256 : (n m : ℕ) (xs : List Step) (s : Tables) → tables (tableLimit 3 n) (tableLimit 1 m) xs ≡ found s
+pub tables-few-256 : (n m : ℕ) (xs : List Step) (s : Tables) → tables (tableLimit fontWords n) (tableLimit colourWords m) xs ≡ found s
     → (length (s .fonts) ≤ 256) × (length (s .colours) ≤ 256)
 tables-few-256 n m xs s e =
-    let h : Sound (tableLimit 3 n) (tableLimit 1 m) s = tables-sound (tableLimit 3 n) (tableLimit 1 m) xs s e in
-    let a : length (s .fonts) ≤ tableLimit 3 n = h .fewFonts in
-    let b : length (s .colours) ≤ tableLimit 1 m = h .fewColours in
-    (omega (arith, limit-256 3 n), omega (arith, limit-256 1 m))
+    let h : Sound (tableLimit fontWords n) (tableLimit colourWords m) s = tables-sound (tableLimit fontWords n) (tableLimit colourWords m) xs s e in
+    let a : length (s .fonts) ≤ tableLimit fontWords n = h .fewFonts in
+    let b : length (s .colours) ≤ tableLimit colourWords m = h .fewColours in
+    (omega (arith, limit-256 fontWords n), omega (arith, limit-256 colourWords m))

@@ -12,40 +12,41 @@ use lib.ListN.{length, drop, length-take, length-drop}
 use Rattle.answers.specs.declared.Refusal.{Refusal}
 use Rattle.answers.specs.Answers.{Found, found, refused}
 use Rattle.rooms.specs.Rooms.{tableLimit}
-use Rattle.tokens.specs.Tokens.{Shown}
-use Rattle.items.specs.declared.Item.{Item}
-use Rattle.items.specs.declared.Item.the-variants.{Text, Opening, Closing, LineBreak, Ignorable, Word, Unknown}
-use Rattle.items.specs.Items.{itemAt, shownOf, shownAll}
-use Rattle.items.proofs.Items.{rest, words-less, shown-none, shown-some, shown-drop}
-use Rattle.rows.specs.Rows.{tableWords}
+use Rattle.tokens.specs.Tokens.{Shown, tokenWords}
+use Rattle.tokens.specs.declared.item.Item.{Item}
+use Rattle.tokens.specs.declared.item.Item.the-variants.{Text, Opening, Closing, LineBreak, Ignorable, Word, Unknown}
+use Rattle.tokens.specs.Items.{itemAt, shownOf, shownAll}
+use Rattle.tokens.proofs.Items.{rest, words-less, shown-none, shown-some, shown-drop}
+use Rattle.fonts.specs.Rows.{tableWords, fontWords}
 use Rattle.walk.specs.Walk.{aim, entered, enteredLength, stepOf, passedBy, walk}
 use Rattle.walk.proofs.Walk.{walk-end, walk-one}
 use Rattle.header.specs.declared.Header.the-variants.{Read, Refused}
-use Rattle.entering.specs.declared.Entered.{Entered}
-use Rattle.entering.specs.declared.Entered.the-variants.{On, Bad}
-use Rattle.entering.specs.Entering.{Tables, readStep}
-use Rattle.header.specs.Header.{noTables, tablesFrom, tables, ReadHeader}
-use Rattle.entering.specs.Entering.{opens, Holds, passed, Met, Enters}
+use Rattle.header.specs.declared.group.Entered.{Entered}
+use Rattle.header.specs.declared.group.Entered.the-variants.{On, Bad}
+use Rattle.header.specs.Entering.{Tables, readStep}
+use Rattle.header.specs.Header.{noTables, tablesFrom, tables, InFronts}
+use Rattle.header.specs.Entering.{opens, Holds, passed, Met, Enters}
 use Rattle.header.proofs.Tables.{tables-refused}
+use Rattle.colours.specs.Colours.{colourWords}
 
 -- what the whole letter gives
 abbrev whole : List ℕ → List ℕ → ℕ → List ℕ → List ℕ → Found Tables
-whole src tokens count fs cs = tables (tableLimit 3 (length fs)) (tableLimit 1 (length cs)) (walk (shownAll src count tokens))
+whole src tokens count fs cs = tables (tableLimit fontWords (length fs)) (tableLimit colourWords (length cs)) (walk (shownAll src count tokens))
 
 -- what the steps of tokens make of tables
 abbrev onward : List ℕ → List ℕ → Found Tables → List Shown → Found Tables
-onward fs cs x ts = tablesFrom (tableLimit 3 (length fs)) (tableLimit 1 (length cs)) x (walk ts)
+onward fs cs x ts = tablesFrom (tableLimit fontWords (length fs)) (tableLimit colourWords (length cs)) x (walk ts)
 
 -- the tokens behind the first
 abbrev behind : List ℕ → ℕ → List ℕ → List Shown
-behind src n t = shownAll src (n - 1) (rest t 6)
+behind src n t = shownAll src (n - 1) (rest t tokenWords)
 
 -- what one token makes of tables, those behind it given; what a group does, and how far it goes
 abbrev stepped : List ℕ → List ℕ → Shown → List Shown → Tables → Found Tables
-stepped fs cs x ts s = readStep (tableLimit 3 (length fs)) (tableLimit 1 (length cs)) (stepOf x ts) s
+stepped fs cs x ts s = readStep (tableLimit fontWords (length fs)) (tableLimit colourWords (length cs)) (stepOf x ts) s
 
 abbrev groupStep : List ℕ → List ℕ → List Shown → Tables → Found Tables
-groupStep fs cs ts s = readStep (tableLimit 3 (length fs)) (tableLimit 1 (length cs)) (entered (aim ts) ts) s
+groupStep fs cs ts s = readStep (tableLimit fontWords (length fs)) (tableLimit colourWords (length cs)) (entered (aim ts) ts) s
 
 abbrev groupLength : List Shown → ℕ
 groupLength ts = enteredLength (aim ts) ts
@@ -53,14 +54,14 @@ groupLength ts = enteredLength (aim ts) ts
 -- what is left, from the tables in the rooms, gives the whole result
 pub record Walking (src tokens : List ℕ) (count : ℕ) (fonts₀ colours₀ fs cs t : List ℕ) (n nf nc : ℕ) : Type 0 where
   pub state : Tables
-  pub words : n * 6 ≤ length t
+  pub words : n * tokenWords ≤ length t
   pub few : n ≤ 65536
   pub fontsLong : length fs ≡ length fonts₀
   pub coloursLong : length cs ≡ length colours₀
   pub holds : Holds state nf nc fs cs
   pub left : onward fonts₀ colours₀ (found state) (shownAll src n t) ≡ whole src tokens count fonts₀ colours₀
 
-pub walking-start : (src tokens : List ℕ) (count : ℕ) (fs cs : List ℕ) → (count * 6 ≤ length tokens) × (count ≤ 65536)
+pub walking-start : (src tokens : List ℕ) (count : ℕ) (fs cs : List ℕ) → (count * tokenWords ≤ length tokens) × (count ≤ 65536)
     → Walking src tokens count fs cs fs cs tokens count 0 0
 unfolding tableWords
 walking-start src tokens count fs cs h =
@@ -101,7 +102,7 @@ bad-bad : (q r : Refusal) → Bad q ≡ Bad r → q ≡ r
 bad-bad q r e = cc
 
 -- the words of the tokens behind the first h
-words-behind : (n h : ℕ) (ws : List ℕ) → n * 6 ≤ length ws → h ≤ n → (n - h) * 6 ≤ length (rest ws (h * 6))
+words-behind : (n h : ℕ) (ws : List ℕ) → n * tokenWords ≤ length ws → h ≤ n → (n - h) * tokenWords ≤ length (rest ws (h * tokenWords))
 words-behind n h ws k l = simp (length-take, length-drop) (omega arith)
 
 module _ {a b h a′ b′ h′ : ℕ} (e : On a b h ≡ On a′ b′ h′) where
@@ -117,7 +118,7 @@ module _ {a b h a′ b′ h′ : ℕ} (e : On a b h ≡ On a′ b′ h′) where
 module _ {src tokens : List ℕ} {count : ℕ} {fonts₀ colours₀ fs cs t : List ℕ} {n nf nc : ℕ}
     (w : Walking src tokens count fonts₀ colours₀ fs cs t n nf nc) where
   -- no token is left
-  pub walking-end : n ≤ 0 → ReadHeader (whole src tokens count fonts₀ colours₀) (Read nf nc) fs cs
+  pub walking-end : n ≤ 0 → InFronts (whole src tokens count fonts₀ colours₀) (Read nf nc) fs cs
   unfolding tablesFrom
   walking-end z =
       let e : found (w .state) ≡ whole src tokens count fonts₀ colours₀ = rw (shown-none src n t z, walk-end) at (w .left) in
@@ -131,11 +132,11 @@ module _ {src tokens : List ℕ} {count : ℕ} {fonts₀ colours₀ fs cs t : Li
     one-on i e = rw (← e) (rw (shown-some src n t z, walk-one (shownOf src (itemAt t)) (behind src n t)) at (w .left))
 
     -- what entering asks
-    pub walking-ready : ((n - 1) * 6 ≤ length (rest t 6)) × (n - 1 ≤ 65536)
+    pub walking-ready : ((n - 1) * tokenWords ≤ length (rest t tokenWords)) × (n - 1 ≤ 65536)
     walking-ready = (words-less n t (w .words), let k : n ≤ 65536 = w .few in omega arith)
 
     -- a token that is no opening bracket
-    pub walking-stay : b ≡ false → Walking src tokens count fonts₀ colours₀ fs cs (rest t 6) (n - 1) nf nc
+    pub walking-stay : b ≡ false → Walking src tokens count fonts₀ colours₀ fs cs (rest t tokenWords) (n - 1) nf nc
     walking-stay e =
         record {
           state = w .state;
@@ -149,7 +150,7 @@ module _ {src tokens : List ℕ} {count : ℕ} {fonts₀ colours₀ fs cs t : Li
 
     -- an opening bracket, and what entering its group answered
     module _ (y : b ≡ true) (r : Entered) (fs′ cs′ : List ℕ)
-        (m : Enters (tableLimit 3 (length fs)) (tableLimit 1 (length cs)) (behind src n t) nf nc fs cs r fs′ cs′ × (passed r ≤ n - 1)) where
+        (m : Enters (tableLimit fontWords (length fs)) (tableLimit colourWords (length cs)) (behind src n t) nf nc fs cs r fs′ cs′ × (passed r ≤ n - 1)) where
       module _ {f c h : ℕ} (e : r ≡ On f c h) where
         pub on-within : h ≤ n - 1
         on-within = rw e at (m .1)
@@ -157,8 +158,8 @@ module _ {src tokens : List ℕ} {count : ℕ} {fonts₀ colours₀ fs cs t : Li
         pub on-small : h ≤ 65536
         on-small = let k : n ≤ 65536 = w .few in let l : h ≤ n - 1 = on-within in omega arith
 
-        pub on-words : h * 6 ≤ length (rest t 6)
-        on-words = let k : (n - 1) * 6 ≤ length (rest t 6) = words-less n t (w .words) in let l : h ≤ n - 1 = on-within in omega arith
+        pub on-words : h * tokenWords ≤ length (rest t tokenWords)
+        on-words = let k : (n - 1) * tokenWords ≤ length (rest t tokenWords) = words-less n t (w .words) in let l : h ≤ n - 1 = on-within in omega arith
 
       into : onward fonts₀ colours₀ (groupStep fonts₀ colours₀ (behind src n t) (w .state)) (drop (groupLength (behind src n t)) (behind src n t))
           ≡ whole src tokens count fonts₀ colours₀
@@ -167,19 +168,19 @@ module _ {src tokens : List ℕ} {count : ℕ} {fonts₀ colours₀ fs cs t : Li
       answered : Met (groupStep fonts₀ colours₀ (behind src n t) (w .state)) (groupLength (behind src n t)) r fs′ cs′
       answered = rw (w .fontsLong, w .coloursLong) at (m .0 (w .state) (w .holds))
 
-      pub walking-bad : {q : Refusal} → r ≡ Bad q → ReadHeader (whole src tokens count fonts₀ colours₀) (Refused q) fs′ cs′
+      pub walking-bad : {q : Refusal} → r ≡ Bad q → InFronts (whole src tokens count fonts₀ colours₀) (Refused q) fs′ cs′
       walking-bad {q} e = go (groupStep fonts₀ colours₀ (behind src n t) (w .state)) (rw e at answered) into
         where
           go : (x : Found Tables) → Met x (groupLength (behind src n t)) (Bad q) fs′ cs′
               → onward fonts₀ colours₀ x (drop (groupLength (behind src n t)) (behind src n t)) ≡ whole src tokens count fonts₀ colours₀
-              → ReadHeader (whole src tokens count fonts₀ colours₀) (Refused q) fs′ cs′
+              → InFronts (whole src tokens count fonts₀ colours₀) (Refused q) fs′ cs′
           go (found s) u v = absurd (on-bad (sym (u .0)))
           go (refused p) u v =
               let d : refused p ≡ whole src tokens count fonts₀ colours₀ = sym (tables-refused _ _ p _) ∙ v in
               rw (← d) (ap Refused (bad-bad q p u))
 
       pub walking-on : length fs′ ≡ length fs → length cs′ ≡ length cs → {f c h : ℕ} → r ≡ On f c h
-          → Walking src tokens count fonts₀ colours₀ fs′ cs′ (rest (rest t 6) (h * 6)) (n - 1 - h) f c
+          → Walking src tokens count fonts₀ colours₀ fs′ cs′ (rest (rest t tokenWords) (h * tokenWords)) (n - 1 - h) f c
       walking-on kf kc {f} {c} {h} e = go (groupStep fonts₀ colours₀ (behind src n t) (w .state)) (rw e at answered) into
         where
           l : h ≤ n - 1
@@ -187,15 +188,15 @@ module _ {src tokens : List ℕ} {count : ℕ} {fonts₀ colours₀ fs cs t : Li
 
           go : (x : Found Tables) → Met x (groupLength (behind src n t)) (On f c h) fs′ cs′
               → onward fonts₀ colours₀ x (drop (groupLength (behind src n t)) (behind src n t)) ≡ whole src tokens count fonts₀ colours₀
-              → Walking src tokens count fonts₀ colours₀ fs′ cs′ (rest (rest t 6) (h * 6)) (n - 1 - h) f c
+              → Walking src tokens count fonts₀ colours₀ fs′ cs′ (rest (rest t tokenWords) (h * tokenWords)) (n - 1 - h) f c
           go (found s) u v =
               record {
                 state = s;
-                words = words-behind (n - 1) h (rest t 6) (words-less n t (w .words)) l;
+                words = words-behind (n - 1) h (rest t tokenWords) (words-less n t (w .words)) l;
                 few = let j : n ≤ 65536 = w .few in omega arith;
                 fontsLong = kf ∙ w .fontsLong;
                 coloursLong = kc ∙ w .coloursLong;
                 holds = record { fontCount = on-fonts (u .0); colourCount = on-colours (u .0); fontFront = u .1; colourFront = u .2 };
-                left = rw (← (shown-drop src h (n - 1) (rest t 6) l), on-passed (u .0)) v;
+                left = rw (← (shown-drop src h (n - 1) (rest t tokenWords) l), on-passed (u .0)) v;
               }
           go (refused p) u v = absurd (on-bad u)

@@ -4,9 +4,10 @@ use mathlib.Core.Path.{_≡_}
 use mathlib.Core.List.{List, [], _∷_}
 use lib.ListN.{length, take}
 use Rattle.answers.specs.Answers.{Found, found, refused}
-use Rattle.rows.specs.Rows.{tableWords, InFront}
+use Rattle.rooms.specs.Rooms.{filled}
+use Rattle.fonts.specs.Rows.{tableWords, InFront}
 use Rattle.walk.specs.Walk.{Step}
-use Rattle.entering.specs.Entering.{Tables, readStep}
+use Rattle.header.specs.Entering.{Tables, readStep}
 use Rattle.header.specs.declared.Header.{Header}
 use Rattle.header.specs.declared.Header.the-variants.{Read, Refused}
 
@@ -25,8 +26,15 @@ tablesFrom f c acc (x ∷ xs) = tablesFrom f c (nextStep f c acc x) xs
 abbrev pub tables : ℕ → ℕ → List Step → Found Tables
 tables f c xs = tablesFrom f c (found noTables) xs
 
--- what a function that reads the header answers, and what it leaves in the two rooms: the records are the front of each
-abbrev pub ReadHeader : Found Tables → Header → List ℕ → List ℕ → Type 0
-ReadHeader (found s) r fs cs =
+-- what the walk over the tokens answers, and what it leaves in the two rooms: the records are the front of each
+abbrev pub InFronts : Found Tables → Header → List ℕ → List ℕ → Type 0
+InFronts (found s) r fs cs =
     (r ≡ Read (length (s .fonts)) (length (s .colours))) × InFront (tableWords (s .fonts)) fs × (take (length (s .colours)) cs ≡ s .colours)
-ReadHeader (refused q) r fs cs = r ≡ Refused q
+InFronts (refused q) r fs cs = r ≡ Refused q
+
+-- what a function that reads the header into two rooms of f and c words answers, and the rooms that it leaves: the records and zeros. After a
+-- refusal `reader::read` clears them
+abbrev pub ReadHeader : Found Tables → ℕ → ℕ → Header → List ℕ → List ℕ → Type 0
+ReadHeader (found s) f c r fs cs =
+    (r ≡ Read (length (s .fonts)) (length (s .colours))) × (fs ≡ filled f (tableWords (s .fonts))) × (cs ≡ filled c (s .colours))
+ReadHeader (refused q) f c r fs cs = r ≡ Refused q

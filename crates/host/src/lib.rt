@@ -6,46 +6,30 @@
 //   elduvarn_stored_check, _read, _write             the stored form
 //
 // Every function is total, and says what the crate below says.
-use checks::check;
+pub mod answer;
+
+use crate::answer::CutAnswer;
+use crate::answer::ReadAnswer;
+use crate::answer::StoredAnswer;
+use crate::answer::WriteAnswer;
+use crate::answer::of_cut;
+use crate::answer::of_reading;
+use crate::answer::of_stored;
+use crate::answer::of_writing;
 use reader::read;
+use readings::Reading;
+use stored::check::check;
 use stored::read_list;
 use storing::write_list;
-use styles::Reading;
-use told::ReadAnswer;
-use told::StoredAnswer;
-use told::answer_of;
-use told::stored_of;
-ghost use mathlib.Core.Path.{_≡_};
-ghost use lib.ListN.{length};
-ghost use Rattle.answers.specs.Answers.{outcomeNumber, outcomeCount};
-ghost use Rattle.cutter.specs.Cutting.{cutAnswer, cutRoom};
 ghost use Rattle.parser.specs.Parsing.{sizes};
-ghost use Rattle.reader.specs.Reading.{readAnswer, tokenRoom, fontRoom, colourRoom, blockRoom, textRoom};
-ghost use Rattle.checks.specs.Checks.{checked};
-ghost use Rattle.stored.specs.Stored.{storedAnswer, storedBlocks, storedText};
-ghost use Rattle.storing.specs.Storing.{writeAnswer, writeRoom};
-ghost use Rattle.told.specs.Told.{answerOf, storedOf};
-
-// The answer's number, 0 or a refusal's, and how many tokens stand in the room.
-#[repr(C)]
-pub struct CutAnswer {
-    pub refusal: u32,
-    pub tokens: u32,
-}
+ghost use Rattle.host.specs.Exports.{CutFor, ReadFor, CheckFor, StoredFor, WriteFor};
 
 #[no_mangle]
 pub extern "C" fn elduvarn_cut(source: &[u8], tokens: &mut [u32]) -> CutAnswer
-    ensures number { λ r. ⌜ r .refusal ≡ outcomeNumber (cutAnswer (now (source .entry)) (length (now (tokens .entry)))) ⌝ }
-    ensures count { λ r. ⌜ r .tokens ≡ outcomeCount (cutAnswer (now (source .entry)) (length (now (tokens .entry)))) ⌝ }
-    ensures content { λ _. ⌜ now (tokens .exit) ≡ cutRoom (now (source .entry)) (length (now (tokens .entry))) ⌝ }
+    ensures { λ r. ⌜ CutFor (now (source .entry)) (now (tokens .entry)) r (now (tokens .exit)) ⌝ }
 {
     let outcome = cutter::cut(source, tokens);
-    let refusal = outcome.number();
-    let count = outcome.count() as u32;
-    CutAnswer {
-        refusal: refusal,
-        tokens: count,
-    }
+    of_cut(outcome)
 }
 
 #[no_mangle]
@@ -57,15 +41,11 @@ pub extern "C" fn elduvarn_read_plain(
     blocks: &mut [u32],
     text: &mut [u8],
 ) -> ReadAnswer
-    ensures answer { λ r. ⌜ r ≡ answerOf (readAnswer Reading.Plain (now (source .entry)) (sizes (now (tokens .entry)) (now (fonts .entry)) (now (colours .entry)) (now (blocks .entry)) (now (text .entry)))) ⌝ }
-    ensures token_room { λ _. ⌜ now (tokens .exit) ≡ tokenRoom Reading.Plain (now (source .entry)) (sizes (now (tokens .entry)) (now (fonts .entry)) (now (colours .entry)) (now (blocks .entry)) (now (text .entry))) ⌝ }
-    ensures font_room { λ _. ⌜ now (fonts .exit) ≡ fontRoom Reading.Plain (now (source .entry)) (sizes (now (tokens .entry)) (now (fonts .entry)) (now (colours .entry)) (now (blocks .entry)) (now (text .entry))) ⌝ }
-    ensures colour_room { λ _. ⌜ now (colours .exit) ≡ colourRoom Reading.Plain (now (source .entry)) (sizes (now (tokens .entry)) (now (fonts .entry)) (now (colours .entry)) (now (blocks .entry)) (now (text .entry))) ⌝ }
-    ensures block_room { λ _. ⌜ now (blocks .exit) ≡ blockRoom Reading.Plain (now (source .entry)) (sizes (now (tokens .entry)) (now (fonts .entry)) (now (colours .entry)) (now (blocks .entry)) (now (text .entry))) ⌝ }
-    ensures text_room { λ _. ⌜ now (text .exit) ≡ textRoom Reading.Plain (now (source .entry)) (sizes (now (tokens .entry)) (now (fonts .entry)) (now (colours .entry)) (now (blocks .entry)) (now (text .entry))) ⌝ }
+    ensures { λ r. ⌜ ReadFor Reading.Plain (now (source .entry)) (sizes (now (tokens .entry)) (now (fonts .entry)) (now (colours .entry)) (now (blocks .entry)) (now (text .entry)))
+        r (now (tokens .exit)) (now (fonts .exit)) (now (colours .exit)) (now (blocks .exit)) (now (text .exit)) ⌝ }
 {
     let answer = read(source, Reading::Plain, tokens, fonts, colours, blocks, text);
-    answer_of(answer)
+    of_reading(answer)
 }
 
 #[no_mangle]
@@ -77,12 +57,8 @@ pub extern "C" fn elduvarn_read_paragraphs(
     blocks: &mut [u32],
     text: &mut [u8],
 ) -> ReadAnswer
-    ensures answer { λ r. ⌜ r ≡ answerOf (readAnswer Reading.Paragraphs (now (source .entry)) (sizes (now (tokens .entry)) (now (fonts .entry)) (now (colours .entry)) (now (blocks .entry)) (now (text .entry)))) ⌝ }
-    ensures token_room { λ _. ⌜ now (tokens .exit) ≡ tokenRoom Reading.Paragraphs (now (source .entry)) (sizes (now (tokens .entry)) (now (fonts .entry)) (now (colours .entry)) (now (blocks .entry)) (now (text .entry))) ⌝ }
-    ensures font_room { λ _. ⌜ now (fonts .exit) ≡ fontRoom Reading.Paragraphs (now (source .entry)) (sizes (now (tokens .entry)) (now (fonts .entry)) (now (colours .entry)) (now (blocks .entry)) (now (text .entry))) ⌝ }
-    ensures colour_room { λ _. ⌜ now (colours .exit) ≡ colourRoom Reading.Paragraphs (now (source .entry)) (sizes (now (tokens .entry)) (now (fonts .entry)) (now (colours .entry)) (now (blocks .entry)) (now (text .entry))) ⌝ }
-    ensures block_room { λ _. ⌜ now (blocks .exit) ≡ blockRoom Reading.Paragraphs (now (source .entry)) (sizes (now (tokens .entry)) (now (fonts .entry)) (now (colours .entry)) (now (blocks .entry)) (now (text .entry))) ⌝ }
-    ensures text_room { λ _. ⌜ now (text .exit) ≡ textRoom Reading.Paragraphs (now (source .entry)) (sizes (now (tokens .entry)) (now (fonts .entry)) (now (colours .entry)) (now (blocks .entry)) (now (text .entry))) ⌝ }
+    ensures { λ r. ⌜ ReadFor Reading.Paragraphs (now (source .entry)) (sizes (now (tokens .entry)) (now (fonts .entry)) (now (colours .entry)) (now (blocks .entry)) (now (text .entry)))
+        r (now (tokens .exit)) (now (fonts .exit)) (now (colours .exit)) (now (blocks .exit)) (now (text .exit)) ⌝ }
 {
     let answer = read(
         source,
@@ -93,20 +69,13 @@ pub extern "C" fn elduvarn_read_paragraphs(
         blocks,
         text,
     );
-    answer_of(answer)
-}
-
-// The answer's number; how many bytes stand in the room.
-#[repr(C)]
-pub struct WriteAnswer {
-    pub refusal: u32,
-    pub bytes: usize,
+    of_reading(answer)
 }
 
 // The refusal number that reading a stored list would give, rooms counted as ample.
 #[no_mangle]
 pub extern "C" fn elduvarn_stored_check(list: &[u8]) -> u32
-    ensures { λ r. ⌜ r ≡ outcomeNumber (checked (now (list .entry))) ⌝ }
+    ensures { λ r. ⌜ CheckFor (now (list .entry)) r ⌝ }
 {
     let outcome = check(list);
     outcome.number()
@@ -118,25 +87,16 @@ pub extern "C" fn elduvarn_stored_read(
     blocks: &mut [u32],
     text: &mut [u8],
 ) -> StoredAnswer
-    ensures answer { λ r. ⌜ r ≡ storedOf (storedAnswer (length (now (blocks .entry))) (length (now (text .entry))) (now (list .entry))) ⌝ }
-    ensures block_room { λ _. ⌜ now (blocks .exit) ≡ storedBlocks (length (now (blocks .entry))) (length (now (text .entry))) (now (list .entry)) ⌝ }
-    ensures text_room { λ _. ⌜ now (text .exit) ≡ storedText (length (now (blocks .entry))) (length (now (text .entry))) (now (list .entry)) ⌝ }
+    ensures { λ r. ⌜ StoredFor (now (list .entry)) (now (blocks .entry)) (now (text .entry)) r (now (blocks .exit)) (now (text .exit)) ⌝ }
 {
     let answer = read_list(list, blocks, text);
-    stored_of(answer)
+    of_stored(answer)
 }
 
 #[no_mangle]
 pub extern "C" fn elduvarn_stored_write(blocks: &[u32], text: &[u8], list: &mut [u8]) -> WriteAnswer
-    ensures number { λ r. ⌜ r .refusal ≡ outcomeNumber (writeAnswer (length (now (list .entry))) (now (blocks .entry)) (now (text .entry))) ⌝ }
-    ensures count { λ r. ⌜ r .bytes ≡ outcomeCount (writeAnswer (length (now (list .entry))) (now (blocks .entry)) (now (text .entry))) ⌝ }
-    ensures content { λ _. ⌜ now (list .exit) ≡ writeRoom (length (now (list .entry))) (now (blocks .entry)) (now (text .entry)) ⌝ }
+    ensures { λ r. ⌜ WriteFor (now (blocks .entry)) (now (text .entry)) (now (list .entry)) r (now (list .exit)) ⌝ }
 {
     let outcome = write_list(blocks, text, list);
-    let refusal = outcome.number();
-    let bytes = outcome.count();
-    WriteAnswer {
-        refusal: refusal,
-        bytes: bytes,
-    }
+    of_writing(outcome)
 }

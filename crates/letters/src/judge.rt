@@ -1,8 +1,9 @@
 // One listing of ours against the expected one.
 use crate::list::LENGTH_BYTES;
 use crate::list::Letter;
+use crate::same::same;
 use crate::say;
-use alike::same;
+use extraction::PAGE_BYTES;
 use extraction::extract;
 ghost use Prim.Native.Nat.{_≤_};
 ghost use lib.ListN.{length};
@@ -19,12 +20,27 @@ fn count_in(answer: u32, answers: &mut [u32]) {
     }
 }
 
-// Reads the letter at the front of `rest`: 1 if its listing is the expected one, else 0. `letters` and `agree` count those before;
-// the first letter that does not agree is said.
+// 1 if our listing, the first `bytes` of the page, is the expected one, else 0. `letters` and `agree` count those before; the first
+// letter that does not agree is said.
+fn judge(expected: &[u8], page: &[u8], bytes: usize, letters: usize, agree: usize) -> usize
+    requires { ⌜ bytes ≤ length (now page) ⌝ }
+    ensures { λ r. ⌜ r ≤ 1 ⌝ }
+{
+    let ours = &page[..bytes];
+    if same(expected, ours) {
+        return 1;
+    }
+    if letters == agree {
+        say::difference(letters, expected, ours);
+    }
+    0
+}
+
+// Reads the letter at the front of `rest`, and judges its listing.
 pub fn read_and_judge(
     rest: &[u8],
     letter: Letter,
-    page: &mut [u8],
+    page: &mut [u8; PAGE_BYTES],
     answers: &mut [u32],
     letters: usize,
     agree: usize,
@@ -36,13 +52,6 @@ pub fn read_and_judge(
     let from = letter.listing;
     let end = letter.end;
     let listed = extract(&rest[LENGTH_BYTES..letter_end], page);
-    let bytes = listed.bytes;
     count_in(listed.number, answers);
-    if same(&rest[from..end], &page[..bytes]) {
-        return 1;
-    }
-    if letters == agree {
-        say::difference(letters, &rest[from..end], &page[..bytes]);
-    }
-    0
+    judge(&rest[from..end], page, listed.bytes, letters, agree)
 }

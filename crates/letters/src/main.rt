@@ -9,6 +9,7 @@
 // The letters are in data/listings.bin; data/README.md says what it holds and how it was made.
 mod judge;
 mod list;
+mod same;
 mod say;
 mod small;
 
@@ -26,7 +27,7 @@ const FILE_ROOM: usize = 524288;
 const ANSWERS: usize = 26;
 
 // Every letter of the file, up to its end or to where it is cut short.
-fn replay(file: &[u8], page: &mut [u8], answers: &mut [u32]) -> Tally {
+fn replay(file: &[u8], page: &mut [u8; PAGE_BYTES], answers: &mut [u32]) -> Tally {
     let mut rest = file;
     let mut letters: usize = 0;
     let mut agree: usize = 0;
@@ -56,7 +57,7 @@ fn replay(file: &[u8], page: &mut [u8], answers: &mut [u32]) -> Tally {
 }
 
 // Reads the file, and judges every letter of it.
-fn run(bytes: &mut [u8], page: &mut [u8], answers: &mut [u32]) {
+fn run(bytes: &mut [u8], page: &mut [u8; PAGE_BYTES], answers: &mut [u32]) {
     let file = os::open_read(b"listings.bin");
     if file < 0 {
         say::text(b"listings.bin cannot be opened\n");

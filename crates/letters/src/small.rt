@@ -3,22 +3,20 @@
 // refusal is all of every room.
 use crate::say::number;
 use crate::say::text;
+use blocks::BLOCK_WORDS;
+use colours::COLOUR_WORDS;
+use fonts::FONT_WORDS;
 use parser::Answer;
 use parser::Counts;
-use styles::Reading;
+use readings::Reading;
+use tokens::TOKEN_WORDS;
 ghost use mathlib.Core.Path.{_≡_};
 ghost use mathlib.Core.Bool.{true};
-ghost use Prim.Native.Nat.{ℕ, _<_, _≤_};
+ghost use Prim.Native.Nat.{ℕ, _*_, _<_, _≤_};
 ghost use lib.ListN.{length, getD};
-
-// The words of a record.
-const TOKEN: usize = 6;
-
-const FONT: usize = 3;
-
-const COLOUR: usize = 1;
-
-const BLOCK: usize = 13;
+ghost use Rattle.tokens.specs.Tokens.{tokenWords};
+ghost use Rattle.fonts.specs.Rows.{fontWords};
+ghost use Rattle.blocks.specs.Pages.{blockWords};
 
 // No word or byte that the reader should leave.
 const JUNK: u32 = 0xa5a5_5a5a;
@@ -26,23 +24,20 @@ const JUNK: u32 = 0xa5a5_5a5a;
 const JUNK_BYTE: u8 = 0xa5;
 
 // The largest of these rooms.
-const TOKENS: usize = 48;
+const TOKENS: usize = 7 * TOKEN_WORDS;
 
-const FONTS: usize = 8;
+const FONTS: usize = 2 * FONT_WORDS;
 
-const COLOURS: usize = 4;
+const COLOURS: usize = 2 * COLOUR_WORDS;
 
-const BLOCKS: usize = 32;
+const BLOCKS: usize = 2 * BLOCK_WORDS;
 
-const TEXT: usize = 8;
+const TEXT: usize = 3;
 
-struct Sizes {
-    tokens: usize,
-    fonts: usize,
-    colours: usize,
-    blocks: usize,
-    text: usize,
-}
+// The words of three and of five tokens.
+const THREE: usize = 3 * TOKEN_WORDS;
+
+const FIVE: usize = 5 * TOKEN_WORDS;
 
 // The first word behind so many records, or behind those that the room has whole.
 fn behind(room: &[u32], count: usize, width: usize) -> usize
@@ -120,18 +115,26 @@ fn reading_of(paragraphs: bool) -> Reading {
     Reading::Plain
 }
 
-fn say_question(letter: &[u8], paragraphs: bool, sizes: Sizes) {
+fn say_question(
+    letter: &[u8],
+    paragraphs: bool,
+    tokens: usize,
+    fonts: usize,
+    colours: usize,
+    blocks: usize,
+    room: usize,
+) {
     text(letter);
     if paragraphs {
         text(b" by paragraphs in");
     } else {
         text(b" in");
     }
-    item(sizes.tokens);
-    item(sizes.fonts);
-    item(sizes.colours);
-    item(sizes.blocks);
-    item(sizes.text);
+    item(tokens);
+    item(fonts);
+    item(colours);
+    item(blocks);
+    item(room);
 }
 
 // Answer, counts and text.
@@ -165,10 +168,10 @@ fn say_answer(
 ) {
     let counts = answer.counts();
     say_told(answer.number(), counts, room);
-    let token_rest = rest_zero(tokens, counts.tokens, TOKEN);
-    let font_rest = rest_zero(fonts, counts.fonts, FONT);
-    let colour_rest = rest_zero(colours, counts.colours, COLOUR);
-    let block_rest = rest_zero(blocks, counts.blocks, BLOCK);
+    let token_rest = rest_zero(tokens, counts.tokens, TOKEN_WORDS);
+    let font_rest = rest_zero(fonts, counts.fonts, FONT_WORDS);
+    let colour_rest = rest_zero(colours, counts.colours, COLOUR_WORDS);
+    let block_rest = rest_zero(blocks, counts.blocks, BLOCK_WORDS);
     let text_rest = zero_bytes_from(room, counts.text);
     if token_rest & font_rest & colour_rest & block_rest & text_rest {
         text(b", the rest zero\n");
@@ -191,15 +194,11 @@ fn read_and_say(
     say_answer(answer, tokens, fonts, colours, blocks, room);
 }
 
-fn one(letter: &[u8], paragraphs: bool, sizes: Sizes)
-    requires { ⌜ (sizes .tokens ≤ 48) × (sizes .fonts ≤ 8) × (sizes .colours ≤ 4) × (sizes .blocks ≤ 32) × (sizes .text ≤ 8) ⌝ }
+// One letter in rooms of so many words and, for the text, bytes.
+fn one(letter: &[u8], paragraphs: bool, t: usize, f: usize, c: usize, b: usize, x: usize)
+    requires { ⌜ (t ≤ 7 * tokenWords) × (f ≤ 2 * fontWords) × (c ≤ 2) × (b ≤ 2 * blockWords) × (x ≤ 3) ⌝ }
 {
-    say_question(letter, paragraphs, sizes);
-    let t = sizes.tokens;
-    let f = sizes.fonts;
-    let c = sizes.colours;
-    let b = sizes.blocks;
-    let x = sizes.text;
+    say_question(letter, paragraphs, t, f, c, b, x);
     let mut tokens = [JUNK; TOKENS];
     let mut fonts = [JUNK; FONTS];
     let mut colours = [JUNK; COLOURS];
@@ -216,48 +215,44 @@ fn one(letter: &[u8], paragraphs: bool, sizes: Sizes)
     );
 }
 
-fn rooms(tokens: usize, fonts: usize, colours: usize, blocks: usize, text: usize) -> Sizes
-    ensures { λ r. ⌜ (r .tokens ≡ tokens) × (r .fonts ≡ fonts) × (r .colours ≡ colours) × (r .blocks ≡ blocks) × (r .text ≡ text) ⌝ }
-{
-    Sizes {
-        tokens: tokens,
-        fonts: fonts,
-        colours: colours,
-        blocks: blocks,
-        text: text,
-    }
-}
-
 // Tokens, blocks and text: just enough; no whole number of records; a token, a block, a byte too few. The block is asked for
 // before the text.
 fn one_block() {
-    one(b"{a}", false, rooms(18, 0, 0, 13, 1));
-    one(b"{a}", false, rooms(23, 2, 1, 25, 2));
-    one(b"{a}", false, rooms(17, 0, 0, 13, 1));
-    one(b"{a}", false, rooms(18, 0, 0, 12, 0));
-    one(b"{a}", false, rooms(18, 0, 0, 13, 0));
+    one(b"{a}", false, THREE, 0, 0, BLOCK_WORDS, 1);
+    one(b"{a}", false, THREE + TOKEN_WORDS - 1, 2, 1, BLOCKS - 1, 2);
+    one(b"{a}", false, THREE - 1, 0, 0, BLOCK_WORDS, 1);
+    one(b"{a}", false, THREE, 0, 0, BLOCK_WORDS - 1, 0);
+    one(b"{a}", false, THREE, 0, 0, BLOCK_WORDS, 0);
 }
 
 // The same for a second block, when one is written already.
 fn two_blocks() {
-    one(b"{a\\b b}", false, rooms(30, 0, 0, 26, 2));
-    one(b"{a\\b b}", false, rooms(30, 0, 0, 25, 2));
-    one(b"{a\\b b}", false, rooms(30, 0, 0, 26, 1));
+    one(b"{a\\b b}", false, FIVE, 0, 0, BLOCKS, 2);
+    one(b"{a\\b b}", false, FIVE, 0, 0, BLOCKS - 1, 2);
+    one(b"{a\\b b}", false, FIVE, 0, 0, BLOCKS, 1);
 }
 
 // A second font, a second colour.
 fn tables() {
-    one(b"{\\fonttbl{\\f1 A;}}", false, rooms(42, 6, 0, 0, 0));
-    one(b"{\\fonttbl{\\f1 A;}}", false, rooms(42, 5, 0, 0, 0));
-    one(b"{\\colortbl\\blue1\\blue2}", false, rooms(30, 0, 2, 0, 0));
-    one(b"{\\colortbl\\blue1\\blue2}", false, rooms(30, 0, 1, 0, 0));
+    one(b"{\\fonttbl{\\f1 A;}}", false, TOKENS, FONTS, 0, 0, 0);
+    one(b"{\\fonttbl{\\f1 A;}}", false, TOKENS, FONTS - 1, 0, 0, 0);
+    one(b"{\\colortbl\\blue1\\blue2}", false, FIVE, 0, COLOURS, 0, 0);
+    one(
+        b"{\\colortbl\\blue1\\blue2}",
+        false,
+        FIVE,
+        0,
+        COLOURS - 1,
+        0,
+        0,
+    );
 }
 
 // Both readings.
 fn readings() {
-    one(b"{a\\par b}", false, rooms(30, 0, 0, 13, 2));
-    one(b"{a\\par b}", true, rooms(30, 0, 0, 13, 2));
-    one(b"{a\\par b}", true, rooms(30, 0, 0, 13, 3));
+    one(b"{a\\par b}", false, FIVE, 0, 0, BLOCK_WORDS, 2);
+    one(b"{a\\par b}", true, FIVE, 0, 0, BLOCK_WORDS, 2);
+    one(b"{a\\par b}", true, FIVE, 0, 0, BLOCK_WORDS, 3);
 }
 
 pub fn all() {

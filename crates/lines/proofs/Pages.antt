@@ -3,15 +3,18 @@
 --     put-in, put-out     a byte for which there is room, and one for which there is none
 --     put-then            some, and then others
 --     put-as              the same bytes by another name
+--     put-fits            bytes for which there is room, all of them: where they end, and the page
+--     put-whole           the same from the page's start on
+--     whole-front         these are the page's front
 --     left-start, -more, -end   a loop over what is left: whoever puts that has put all
 -- Assumes nothing.
 use Prim.Native.Nat.{ℕ, zero, suc, _+_, _-_, _≤_, _<_}
 use mathlib.Core.Path.{_≡_, refl, sym, ap, _∙_}
 use mathlib.Core.List.{List, [], _∷_, _++_, append-nil, append-assoc}
 use native.Mathlib.Omega.{arith}
-use lib.ListN.{length, take, drop, set, length-take, length-append}
-use lib.Seq.{take-all, take-suc-set, drop-set-lt, take-append-seam, drop-drop}
-use Rattle.lines.specs.Pages.{Put}
+use lib.ListN.{length, take, drop, set, length-take, length-append, take-append-drop}
+use lib.Seq.{take-all, length-take-le, take-suc-set, drop-set-lt, take-append-seam, drop-drop}
+use Rattle.lines.specs.Pages.{Put, PutWhole, Front}
 
 -- what was left out at the end of a page stays out
 clipped : (n : ℕ) (u ys : List ℕ) → take n (take n u ++ ys) ≡ take n (u ++ ys)
@@ -64,6 +67,30 @@ module _ {page : List ℕ} {at : ℕ} where
         filled = g ∙ clipped (length page) (take at page ++ xs) ys ∙ ap (take (length page)) (append-assoc (take at page) xs ys);
         behind = q .behind ∙ k;
       }
+
+  -- the length of the page is that of the code's, which does not change
+  pub put-fits : {xs page′ : List ℕ} {r : ℕ} → Put page at xs page′ r → length page′ ≡ length page → at + length xs ≤ length page
+      → (r ≡ at + length xs) × (page′ ≡ (take at page ++ xs) ++ drop (at + length xs) page)
+  put-fits {xs} {page′} {r} p n h =
+      let l : length (take at page ++ xs) ≡ at + length xs = simp (length-append, length-take) (omega arith) in
+      let f : take r page′ ≡ take at page ++ xs = p .filled ∙ take-all (length page) (take at page ++ xs) (omega arith) in
+      let b = p .within in
+      let e : r ≡ at + length xs = sym (length-take-le r page′ (omega arith)) ∙ ap length f ∙ l in
+      let k : drop r page′ ≡ drop (at + length xs) page = p .behind ∙ ap (λ (m : ℕ). drop m page) e in
+      (e, sym (take-append-drop r page′) ∙ rw (f, k))
+
+pub put-whole : {page xs page′ : List ℕ} {r : ℕ} → Put page 0 xs page′ r → length page′ ≡ length page → length xs ≤ length page → PutWhole page xs page′ r
+put-whole {page} {xs} {page′} {r} p n h =
+    let z : 0 + length xs ≡ length xs = omega arith in
+    let w = put-fits p n (omega arith) in
+    record { count = w .0 ∙ z; content = rw z at (w .1) }
+
+pub whole-front : {page xs page′ : List ℕ} {r : ℕ} → PutWhole page xs page′ r → Front xs page′ r
+whole-front {page} {xs} {page′} {r} w =
+    record {
+      within = let e = ap length (w .content) in let a = length-append xs (drop (length xs) page) in let c = w .count in omega arith;
+      front = rw (w .count, w .content) (take-append-seam xs (drop (length xs) page));
+    }
 
 abbrev pub Left : List ℕ → ℕ → List ℕ → List ℕ → ℕ → List ℕ → Type 0
 Left page₀ at all page end rest = (page′ : List ℕ) (r : ℕ) → Put page end rest page′ r → Put page₀ at all page′ r

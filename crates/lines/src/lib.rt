@@ -90,9 +90,9 @@ fn record_line(words: &[u32], page: &mut [u8], at: usize) -> usize
     end
 }
 
-// A line for each of the first `count` records of a room that are there whole. No record has more words than a block's.
+// A line for each of the first `count` records of a room that are there whole.
 pub fn records(room: &[u32], count: usize, width: usize, page: &mut [u8], at: usize) -> usize
-    requires { ⌜ (width ≤ 13) × (at ≤ length (now page)) ⌝ }
+    requires { ⌜ at ≤ length (now page) ⌝ }
     ensures { λ r. ⌜ Put (now (page .entry)) at (lines width count (now (room .entry))) (now (page .exit)) r ⌝ }
 {
     let mut rest = room;

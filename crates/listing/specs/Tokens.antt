@@ -1,12 +1,26 @@
 -- What the program prints of a letter. Assumes nothing: these are definitions.
-use Prim.Native.Nat.{ℕ}
+use Prim.Native.Nat.{ℕ, _*_}
 use mathlib.Core.List.{List, _++_}
+use lib.ListN.{take}
+use Rattle.answers.specs.declared.Outcome.{Outcome}
 use Rattle.answers.specs.Answers.{outcomeNumber, outcomeCount}
+use Rattle.tokens.specs.Tokens.{tokenWords}
 use Rattle.cutter.specs.Cutting.{cutAnswer, cutRoom}
 use Rattle.lines.specs.Lines.{item, lines}
 
--- the answer's number and the count of tokens, then the six words of each token, one a line; cut in a room of so many words
+-- the answer's number and the count of tokens
+unfoldable pub firstLine : Outcome → List ℕ
+firstLine o = item (outcomeNumber o) 32 ++ item (outcomeCount o) 10
+
+-- then the words of each token, one a line; the letter is cut in a room of so many words
 unfoldable pub tokenLines : List ℕ → ℕ → List ℕ
 tokenLines letter words =
-    item (outcomeNumber (cutAnswer letter words)) 32 ++ (item (outcomeCount (cutAnswer letter words)) 10
-    ++ lines 6 (outcomeCount (cutAnswer letter words)) (cutRoom letter words))
+    let o = cutAnswer letter words in
+    firstLine o ++ lines tokenWords (outcomeCount o) (cutRoom letter words)
+
+-- the first part of the lines of so many tokens: those of 1,024
+abbrev pub partTokens : ℕ
+partTokens = 1024
+
+unfoldable pub tokenPart : ℕ → List ℕ → List ℕ
+tokenPart count room = lines tokenWords count (take (partTokens * tokenWords) room)

@@ -1,42 +1,117 @@
 // Lists a letter's tokens: the letter comes by standard input, the list goes to standard output.
 //
-// The first line has the answer's number and the count of tokens. Then each token has a line: its six words in
-// decimal, with the number as a signed one. A read that fails counts as the letter's end.
+// The first line has the answer's number and the count of tokens. Then each token has a line: its words in decimal, with the
+// number as a signed one. A read that fails counts as the letter's end.
+//
+// The list goes out part by part, each whole on its page: the first line, then the lines of so many tokens at a time.
+use answers::Outcome;
 use libc::STDIN_FILENO;
 use libc::STDOUT_FILENO;
 use lines::number;
 use lines::records;
+use tokens::TOKEN_WORDS;
+ghost use mathlib.Core.Path.{_≡_};
+ghost use mathlib.Core.List.{_++_};
+ghost use Prim.Native.Nat.{_-_, _≤_};
 ghost use lib.ListN.{length};
-ghost use Rattle.lines.specs.Pages.{Put};
-ghost use Rattle.listing.specs.Tokens.{tokenLines};
+ghost use Rattle.answers.specs.Answers.{outcomeCount};
+ghost use Rattle.lines.specs.Lines.{lines};
+ghost use Rattle.lines.specs.Pages.{Put, PutWhole};
+ghost use Rattle.tokens.specs.Tokens.{tokenWords};
+ghost use Rattle.listing.specs.Tokens.{partTokens, firstLine, tokenLines, tokenPart};
 
 // The longest letter, and a byte more, so that a longer one is seen to be longer.
 const LETTER_BYTES: usize = 65537;
 
-const TOKEN_WORDS: usize = 6;
+// No letter has more tokens than the longest has bytes.
+const ROOM_WORDS: usize = 65536 * TOKEN_WORDS;
 
-// No letter has more tokens than the longest has bytes: 65,536 records.
-const ROOM_WORDS: usize = 393216;
+// The tokens of a part.
+const PART_TOKENS: usize = 1024;
 
-// A token's line has at most 31 bytes.
-const PAGE_BYTES: usize = 2097152;
+const PART_WORDS: usize = PART_TOKENS * TOKEN_WORDS;
 
-// The list of a letter's tokens, cut in a room, on a page; how many bytes it has.
-fn list(letter: &[u8], room: &mut [u32], page: &mut [u8]) -> usize
-    ensures { λ r. ⌜ Put (now (page .entry)) 0 (tokenLines (now (letter .entry)) (length (now (room .entry)))) (now (page .exit)) r ⌝ }
+// A word with its sign and the byte behind it has at most 12 bytes.
+const PAGE_BYTES: usize = 12 * PART_WORDS;
+
+fn first_line(outcome: Outcome, page: &mut [u8]) -> usize
+    ensures { λ r. ⌜ Put (now (page .entry)) 0 (firstLine outcome) (now (page .exit)) r ⌝ }
 {
-    let outcome = cutter::cut(letter, room);
-    let count = outcome.count();
     let answer = number(outcome.number() as u64, b' ', page, 0);
-    let first = number(count as u64, b'\n', page, answer);
-    records(room, count, TOKEN_WORDS, page, first)
+    number(outcome.count() as u64, b'\n', page, answer)
 }
 
-// Reads the letter, and writes the list.
-fn run(letter: &mut [u8], room: &mut [u32], page: &mut [u8]) {
+fn whole_first_line(outcome: Outcome, page: &mut [u8; PAGE_BYTES]) -> usize
+    ensures { λ r. ⌜ PutWhole (now (page .entry)) (firstLine outcome) (now (page .exit)) r ⌝ }
+{
+    first_line(outcome, page)
+}
+
+// The first part of the lines of `count` tokens.
+fn part(room: &[u32], count: usize, page: &mut [u8; PAGE_BYTES]) -> usize
+    ensures { λ r. ⌜ PutWhole (now (page .entry)) (tokenPart count (now (room .entry))) (now (page .exit)) r ⌝ }
+{
+    if room.len() < PART_WORDS {
+        return records(room, count, TOKEN_WORDS, page, 0);
+    }
+    records(&room[..PART_WORDS], count, TOKEN_WORDS, page, 0)
+}
+
+fn write(page: &[u8], bytes: usize)
+    requires { ⌜ bytes ≤ length (now page) ⌝ }
+{
+    io::write_all(STDOUT_FILENO, &page[..bytes]);
+}
+
+fn write_first_line(outcome: Outcome, page: &mut [u8; PAGE_BYTES]) {
+    let bytes = whole_first_line(outcome, page);
+    write(page, bytes);
+}
+
+fn write_part(room: &[u32], count: usize, page: &mut [u8; PAGE_BYTES]) {
+    let bytes = part(room, count, page);
+    write(page, bytes);
+}
+
+// How many tokens are left behind a part.
+fn behind_part(count: usize) -> usize
+    ensures { λ r. ⌜ r ≡ count - partTokens ⌝ }
+{
+    if count < PART_TOKENS {
+        return 0;
+    }
+    count - PART_TOKENS
+}
+
+// Writes the lines of the first `count` tokens of a room, part by part.
+fn write_tokens(room: &[u32], count: usize, page: &mut [u8; PAGE_BYTES]) {
+    let mut rest = room;
+    let mut left = count;
+    while PART_WORDS <= rest.len() {
+        write_part(rest, left, page);
+        rest = &rest[PART_WORDS..];
+        left = behind_part(left);
+    }
+    write_part(rest, left, page);
+}
+
+// Writes a letter's list: that is the answer's line and the lines of the room's tokens. The letter is named for the promise alone.
+fn write_list(letter: &[u8], outcome: Outcome, room: &[u32], page: &mut [u8; PAGE_BYTES])
+    requires { ⌜ tokenLines (now letter) (length (now room)) ≡ firstLine outcome ++ lines tokenWords (outcomeCount outcome) (now room) ⌝ }
+{
+    write_first_line(outcome, page);
+    write_tokens(room, outcome.count(), page);
+}
+
+fn print(letter: &[u8], room: &mut [u32], page: &mut [u8; PAGE_BYTES]) {
+    let outcome = cutter::cut(letter, room);
+    write_list(letter, outcome, room, page);
+}
+
+// Reads the letter, and prints its list.
+fn run(letter: &mut [u8], room: &mut [u32], page: &mut [u8; PAGE_BYTES]) {
     let n = io::read_full(STDIN_FILENO, letter);
-    let end = list(&letter[..n], room, page);
-    io::write_all(STDOUT_FILENO, &page[..end]);
+    print(&letter[..n], room, page);
 }
 
 fn in_rooms(

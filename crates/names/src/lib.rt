@@ -1,6 +1,7 @@
 // The 49 names of control words (01, Cutting; `ControlWord::from` in the crate), and the search for a word's number.
 //
 // A constant is laid out anew at each use, so a caller takes the table once by `table()` and lends it to each search.
+use bytes::wide;
 ghost use mathlib.Core.Path.{_≡_};
 ghost use Prim.Native.Nat.{_≤_, _<_};
 ghost use Rattle.names.specs.Names.{rows, nameOf, sameBytes, wordNumber};
@@ -67,13 +68,6 @@ pub fn table() -> Table
     ensures { λ r. ⌜ r ≡ rows ⌝ }
 {
     NAMES
-}
-
-// A length byte as a length.
-fn wide(x: u8) -> usize
-    ensures { λ r. ⌜ r ≡ x ⌝ }
-{
-    x as usize
 }
 
 // Whether w is the name of a row: its length first, which tells most words apart, then its bytes.

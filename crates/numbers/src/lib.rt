@@ -11,7 +11,7 @@ pub enum Number {
 }
 
 // The value of a hexadecimal digit; 16 for any other byte.
-pub fn hex_digit(b: u8) -> u32
+fn hex_digit(b: u8) -> u32
     ensures { λ r. ⌜ r ≡ hexDigit b ⌝ }
 {
     if (b'0' <= b) & (b <= b'9') {

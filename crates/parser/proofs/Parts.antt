@@ -18,30 +18,31 @@ use Rattle.rooms.specs.Streams.{Stream, items, answer}
 use Rattle.rooms.proofs.Streams.{done-refused}
 use Rattle.tokens.specs.Tokens.{Shown}
 use Rattle.tokens.specs.Tokens
-use Rattle.items.specs.declared.Item.{Item}
-use Rattle.items.specs.Items.{itemAt, shownOf, shownAll}
-use Rattle.items.proofs.Items.{shown-none, shown-some}
-use Rattle.styles.specs.declared.Reading.{Reading}
-use Rattle.pages.specs.declared.Page.{Page}
-use Rattle.pages.specs.declared.Laid.{Laid}
-use Rattle.pages.specs.declared.Laid.the-variants.{On, Full}
+use Rattle.tokens.specs.declared.item.Item.{Item}
+use Rattle.tokens.specs.Items.{itemAt, shownOf, shownAll}
+use Rattle.tokens.proofs.Items.{shown-none, shown-some}
+use Rattle.readings.specs.declared.Reading.{Reading}
+use Rattle.blocks.specs.declared.Page.{Page}
+use Rattle.blocks.specs.declared.Laid.{Laid}
+use Rattle.blocks.specs.declared.Laid.the-variants.{On, Full}
 use Rattle.rooms.specs.Rooms.{filled, tableLimit}
 use Rattle.rooms.proofs.Clearing.{filled-front}
-use Rattle.pages.specs.Pages.{Piece, blocks}
-use Rattle.pages.specs.Laying.{on, told, blank, blockCount, lastPut, layAll}
-use Rattle.pages.proofs.Settling.{lay-refuses, lay-joins, Joined, Filled, joined-filled}
+use Rattle.blocks.specs.Pages.{Piece, blocks, blockWords}
+use Rattle.blocks.specs.Laying.{on, told, blank, blockCount, lastPut, layAll}
+use Rattle.blocks.proofs.Settling.{lay-refuses, lay-joins, Joined, Filled, joined-filled}
 use Rattle.walk.specs.Walk.{walk}
-use Rattle.acts.specs.Body.{body}
-use Rattle.rows.specs.Rows.{tableWords}
-use Rattle.rows.proofs.Tables.{length-table}
+use Rattle.body.specs.Body.{body}
+use Rattle.fonts.specs.Rows.{tableWords, fontWords}
+use Rattle.fonts.proofs.RowTables.{length-table}
 use Rattle.header.specs.declared.Header.{Header}
 use Rattle.header.specs.declared.Header.the-variants.{Read as Headed, Refused as Unheaded}
-use Rattle.entering.specs.Entering.{Tables}
+use Rattle.header.specs.Entering.{Tables}
 use Rattle.header.specs.Header.{tables, ReadHeader}
 use Rattle.parser.specs.declared.Answer.{Answer}
 use Rattle.parser.specs.declared.Answer.the-variants.{Read, Refuses}
-use Rattle.parser.specs.Parsing.{Sizes, begun, ended, placed, bodied, headed, walked}
+use Rattle.parser.specs.Parsing.{Sizes, begun, letterFrom, placed, bodied, headed, walked}
 use Rattle.parser.specs.Parts.{Starts, firstOf, BodyInto, LetterInto}
+use Rattle.colours.specs.Colours.{colourWords}
 
 -- the first token
 pub start-none : (src : List ℕ) (n : ℕ) (ws : List ℕ) {r : Refusal} → n ≡ 0 → r ≡ refusal NoTokens → Starts (begun (shownAll src n ws)) (Refused r)
@@ -61,7 +62,7 @@ start-first src n ws z e f = rw (shown-some src n ws (omega arith), f src, e) (s
 
 -- the body
 module _ (rd : Reading) (ts : List Shown) (b t : List ℕ) (n f c : ℕ) where
-  abbrev stream : Stream Piece
+  abbrev stream : Stream Refusal Piece
   stream = placed rd (length b) (length t) ts
 
   module _ (l : Laid) (b₁ t₁ : List ℕ) (h : told l b₁ t₁ ≡ layAll (on blank b t) (body rd (walk ts))) where
@@ -76,7 +77,7 @@ module _ (rd : Reading) (ts : List Shown) (b t : List ℕ) (n f c : ℕ) where
       unfolding placed
       joined = lay-joins (body rd (walk ts)) b t (sym h ∙ ap (λ (m : Laid). told m b₁ t₁) e)
 
-      pub body-laid : {cnt : ℕ} {b₂ b₃ t₂ : List ℕ} → b₂ ≡ lastPut p b₁ → cnt ≡ blockCount p → b₃ ≡ take (cnt * 13) b₂ ++ replicate (length b₂ - cnt * 13) 0
+      pub body-laid : {cnt : ℕ} {b₂ b₃ t₂ : List ℕ} → b₂ ≡ lastPut p b₁ → cnt ≡ blockCount p → b₃ ≡ take (cnt * blockWords) b₂ ++ replicate (length b₂ - cnt * blockWords) 0
           → t₂ ≡ take (p .text) t₁ ++ replicate (length t₁ - p .text) 0
           → BodyInto (answer 0 stream) (items stream) n f c (Read (record { tokens = n; fonts = f; colours = c; blocks = cnt; text = p .text })) b₃ t₂ (length b) (length t)
       body-laid {cnt} {b₂} {b₃} {t₂} g q u v =
@@ -93,52 +94,31 @@ module _ (rd : Reading) (ts : List Shown) (b t : List ℕ) (n f c : ℕ) where
 headed-unheaded : {A : Type 0} {f c : ℕ} {k : Refusal} → Headed f c ≡ Unheaded k → A
 headed-unheaded e = absurd (let w : _≡_ {A = ℕ} 0 1 = cc in omega arith)
 
-front-fits : (k : ℕ) (ws room : List ℕ) → take k room ≡ ws → length ws ≡ k → k ≤ length room
-front-fits k ws room e l = let q : length (take k room) ≡ k = ap length e ∙ l in let h = length-take k room in omega arith
-
-module _ (x : Found Tables) (r : Header) (fs cs : List ℕ) (h : ReadHeader x r fs cs) where
-  pub header-fits : {f c : ℕ} → r ≡ Headed f c → f * 3 ≤ length fs
-  header-fits = go x h
-    where
-      go : (y : Found Tables) → ReadHeader y r fs cs → {f c : ℕ} → r ≡ Headed f c → f * 3 ≤ length fs
-      go (found s) (a, b, d) {f} {c} e =
-          let q : Headed f c ≡ Headed (length (s .fonts)) (length (s .colours)) = sym e ∙ a in
-          let k : f ≡ length (s .fonts) = cc in
-          let l : length (tableWords (s .fonts)) ≡ 3 * length (s .fonts) = length-table (s .fonts) in
-          let m : length (tableWords (s .fonts)) ≤ length fs = front-fits (length (tableWords (s .fonts))) (tableWords (s .fonts)) fs b refl in
-          omega arith
-      go (refused q) g e = headed-unheaded (sym e ∙ g)
-
 module _ (rd : Reading) (zf zc zb zt : ℕ) (ts : List Shown) (n : ℕ) where
-  pub letter-refused : (x : Found Tables) (r : Header) (fs cs : List ℕ) → ReadHeader x r fs cs → {k : Refusal} → r ≡ Unheaded k
-      → (fs′ cs′ bs tx : List ℕ) → LetterInto (headed rd zb zt ts x) n (Refuses k) fs′ cs′ bs tx zf zc zb zt
-  letter-refused (found s) r fs cs h e fs′ cs′ bs tx = headed-unheaded (sym (h .0) ∙ e)
-  letter-refused (refused q) r fs cs h {k} e fs′ cs′ bs tx = let w : Unheaded k ≡ Unheaded q = sym e ∙ h in cc
+  pub letter-refused : (x : Found Tables) (r : Header) (fs cs : List ℕ) → ReadHeader x zf zc r fs cs → {k : Refusal} → r ≡ Unheaded k
+      → (bs tx : List ℕ) → LetterInto (headed rd zb zt ts x) n (Refuses k) fs cs bs tx zf zc zb zt
+  letter-refused (found s) r fs cs h e bs tx = headed-unheaded (sym (h .0) ∙ e)
+  letter-refused (refused q) r fs cs h {k} e bs tx = let w : Unheaded k ≡ Unheaded q = sym e ∙ h in cc
 
   -- the body's answer is the letter's
-  body-ends : (s : Tables) (o : Outcome) (st : Stream Piece) (a : Answer) (fs cs bs tx : List ℕ)
+  body-ends : (s : Tables) (o : Outcome) (st : Stream Refusal Piece) (a : Answer) (fs cs bs tx : List ℕ)
       → fs ≡ filled zf (tableWords (s .fonts)) → cs ≡ filled zc (s .colours)
-      → BodyInto o (items st) n (length (s .fonts)) (length (s .colours)) a bs tx zb zt → LetterInto (ended s st o) n a fs cs bs tx zf zc zb zt
+      → BodyInto o (items st) n (length (s .fonts)) (length (s .colours)) a bs tx zb zt → LetterInto (letterFrom s st o) n a fs cs bs tx zf zc zb zt
   body-ends s (Done k) st a fs cs bs tx p q h = (h .0, p, q, h .1, h .2)
   body-ends s (Refused r) st a fs cs bs tx p q h = h
 
-  pub letter-read : (x : Found Tables) (r : Header) (fs cs : List ℕ) → ReadHeader x r fs cs → {f c : ℕ} → r ≡ Headed f c → (fs′ cs′ : List ℕ)
-      → fs′ ≡ take (f * 3) fs ++ replicate (length fs - f * 3) 0 → cs′ ≡ take c cs ++ replicate (length cs - c) 0 → length fs ≡ zf → length cs ≡ zc
+  pub letter-read : (x : Found Tables) (r : Header) (fs cs : List ℕ) → ReadHeader x zf zc r fs cs → {f c : ℕ} → r ≡ Headed f c
       → (a : Answer) (bs tx : List ℕ) → BodyInto (answer 0 (placed rd zb zt ts)) (items (placed rd zb zt ts)) n f c a bs tx zb zt
-      → LetterInto (headed rd zb zt ts x) n a fs′ cs′ bs tx zf zc zb zt
+      → LetterInto (headed rd zb zt ts x) n a fs cs bs tx zf zc zb zt
   unfolding bodied
-  letter-read (refused q) r fs cs h e fs′ cs′ u v lf lc a bs tx g = headed-unheaded (sym e ∙ h)
-  letter-read (found s) r fs cs h {f} {c} e fs′ cs′ u v lf lc a bs tx g =
+  letter-read (refused q) r fs cs h e a bs tx g = headed-unheaded (sym e ∙ h)
+  letter-read (found s) r fs cs h {f} {c} e a bs tx g =
       let q : Headed f c ≡ Headed (length (s .fonts)) (length (s .colours)) = sym e ∙ h .0 in
       let k : f ≡ length (s .fonts) = cc in
       let m : c ≡ length (s .colours) = cc in
-      let st : Stream Piece = placed rd zb zt ts in
-      let lw : length (tableWords (s .fonts)) ≡ f * 3 = length-table (s .fonts) ∙ omega arith in
-      let front : take (f * 3) fs ≡ tableWords (s .fonts) = rw (← lw) (h .1) in
+      let st : Stream Refusal Piece = placed rd zb zt ts in
       let w : BodyInto (answer 0 st) (items st) n (length (s .fonts)) (length (s .colours)) a bs tx zb zt = rw (k, m) at g in
-      body-ends s (answer 0 st) st a fs′ cs′ bs tx
-      (filled-front zf (f * 3) (tableWords (s .fonts)) fs fs′ u front lw lf)
-      (filled-front zc c (s .colours) cs cs′ v (rw m (h .2)) (sym m) lc) w
+      body-ends s (answer 0 st) st a fs cs bs tx (h .1) (h .2) w
 
 -- the whole: the first token refuses, or the letter's answer stands
 begun-found : (ts : List Shown) {s : Outcome} {m : ℕ} → Starts (begun ts) s → s ≡ Done m → begun ts ≡ found ts
@@ -160,6 +140,6 @@ module _ (rd : Reading) (z : Sizes) (ts : List Shown) (n : ℕ) {s : Outcome} (h
       go (refused r) q = let w : Refused r ≡ Refused k = sym q ∙ e in cc
 
   pub parse-read : {m : ℕ} → s ≡ Done m → (a : Answer) (fs cs bs tx : List ℕ)
-      → LetterInto (headed rd (z .blocks) (z .text) ts (tables (tableLimit 3 (z .fonts)) (tableLimit 1 (z .colours)) (walk ts))) n a fs cs bs tx (z .fonts) (z .colours) (z .blocks) (z .text)
+      → LetterInto (headed rd (z .blocks) (z .text) ts (tables (tableLimit fontWords (z .fonts)) (tableLimit colourWords (z .colours)) (walk ts))) n a fs cs bs tx (z .fonts) (z .colours) (z .blocks) (z .text)
       → LetterInto (walked rd z (begun ts)) n a fs cs bs tx (z .fonts) (z .colours) (z .blocks) (z .text)
   parse-read e a fs cs bs tx g = rw (begun-found ts h e) g

@@ -1,5 +1,5 @@
 -- 01, Answer numbers 8 to 20: tokens become tables, blocks and text. Assumes nothing: these are definitions.
-use Prim.Native.Nat.{ℕ}
+use Prim.Native.Nat.{ℕ, _≤_}
 use mathlib.Core.List.{List, [], _∷_}
 use lib.ListN.{length}
 use Rattle.answers.specs.declared.Why.the-variants.{NoTokens, FirstToken}
@@ -11,14 +11,17 @@ use Rattle.rooms.specs.Rooms.{tableLimit, capacity}
 use Rattle.tokens.specs.Tokens.{Shown}
 use Rattle.tokens.specs.Tokens
 use Rattle.walk.specs.Walk.{walk}
-use Rattle.entering.specs.Entering.{Tables}
+use Rattle.header.specs.Entering.{Tables}
 use Rattle.header.specs.Header.{tables}
-use Rattle.styles.specs.declared.Reading.{Reading}
-use Rattle.pages.specs.Pages.{Piece, blockWords, textCapacity, none, roomy}
-use Rattle.acts.specs.Body.{body}
+use Rattle.readings.specs.declared.Reading.{Reading}
+use Rattle.blocks.specs.Pages.{Piece, blockWords, textCapacity, none, roomy, blocks, textOf}
+use Rattle.body.specs.Body.{body}
 use Rattle.parser.specs.declared.Counts.{Counts}
 use Rattle.parser.specs.declared.Answer.{Answer}
 use Rattle.parser.specs.declared.Answer.the-variants.{Read, Refuses}
+use Rattle.fonts.specs.Rows.{fontWords}
+use Rattle.colours.specs.Colours.{colourWords}
+use Rattle.answers.specs.declared.Refusal.{Refusal}
 
 -- "8: no tokens (blank source)", "9: first token is no opening bracket"
 abbrev pub begun : List Shown → Found (List Shown)
@@ -49,17 +52,17 @@ pub record Letter : Type 0 where
   pub pieces : List Piece
 
 -- the pieces of the body that find room in b words and t bytes, or the first refusal met
-abbrev pub ended : Tables → Stream Piece → Outcome → Found Letter
-ended h s (Done n) = found (record { tables = h; pieces = items s })
-ended h s (Refused r) = refused r
+abbrev pub letterFrom : Tables → Stream Refusal Piece → Outcome → Found Letter
+letterFrom h s (Done n) = found (record { tables = h; pieces = items s })
+letterFrom h s (Refused r) = refused r
 
-unfoldable pub placed : Reading → ℕ → ℕ → List Shown → Stream Piece
+unfoldable pub placed : Reading → ℕ → ℕ → List Shown → Stream Refusal Piece
 placed rd b t ts = roomy (capacity blockWords b) (textCapacity t) none (body rd (walk ts))
 
 unfoldable pub bodied : Reading → ℕ → ℕ → List Shown → Tables → Found Letter
 bodied rd b t ts h =
     let s = placed rd b t ts in
-    ended h s (answer 0 s)
+    letterFrom h s (answer 0 s)
 
 -- "then the header walk; then the body"
 abbrev pub headed : Reading → ℕ → ℕ → List Shown → Found Tables → Found Letter
@@ -67,7 +70,7 @@ headed rd b t ts (found h) = bodied rd b t ts h
 headed rd b t ts (refused r) = refused r
 
 abbrev pub walked : Reading → Sizes → Found (List Shown) → Found Letter
-walked rd z (found ts) = headed rd (z .blocks) (z .text) ts (tables (tableLimit 3 (z .fonts)) (tableLimit 1 (z .colours)) (walk ts))
+walked rd z (found ts) = headed rd (z .blocks) (z .text) ts (tables (tableLimit fontWords (z .fonts)) (tableLimit colourWords (z .colours)) (walk ts))
 walked rd z (refused r) = refused r
 
 -- "0 is success."; the number and the five counts of an answer
@@ -81,3 +84,14 @@ noCounts = record { tokens = 0; fonts = 0; colours = 0; blocks = 0; text = 0 }
 abbrev pub answerCounts : Answer → Counts
 answerCounts (Read n) = n
 answerCounts (Refuses r) = noCounts
+
+-- how much a letter of n tokens has, if it was read: what hosts rely on, who count in 32 bits
+pub record Few (n : ℕ) (l : Letter) : Type 0 where
+  pub fonts : length (l .tables .fonts) ≤ 256
+  pub colours : length (l .tables .colours) ≤ 256
+  pub blocks : length (blocks (l .pieces)) ≤ n
+  pub text : length (textOf (l .pieces)) ≤ 2147483647
+
+abbrev pub FewIn : ℕ → Found Letter → Type 0
+FewIn n (found l) = Few n l
+FewIn n (refused r) = Unit {0}

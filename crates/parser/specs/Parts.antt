@@ -10,8 +10,8 @@ use Rattle.answers.specs.Answers.{refusal, Found, found, refused}
 use Rattle.rooms.specs.Rooms.{filled}
 use Rattle.tokens.specs.Tokens.{Shown}
 use Rattle.tokens.specs.Tokens
-use Rattle.rows.specs.Rows.{tableWords}
-use Rattle.pages.specs.Pages.{Piece, blocks, textOf, records}
+use Rattle.fonts.specs.Rows.{tableWords}
+use Rattle.blocks.specs.Pages.{Piece, blocks, textOf, records}
 use Rattle.parser.specs.declared.Answer.{Answer}
 use Rattle.parser.specs.declared.Answer.the-variants.{Read, Refuses}
 use Rattle.parser.specs.Parsing.{Letter}

@@ -7,29 +7,32 @@
 use answers::Outcome;
 use answers::Refusal;
 use answers::Why;
+use blocks::BLOCK_WORDS;
+use blocks::Laid;
+use blocks::Page;
+use blocks::finish;
 use body::lay_body;
 use header::Header;
 use header::read_header;
-use items::Item;
-use items::item_at;
-use pages::BLOCK_WORDS;
-use pages::Laid;
-use pages::Page;
-use pages::finish;
+use readings::Reading;
 use rooms::clear_bytes_from;
 use rooms::clear_from;
-use styles::Reading;
+use tokens::item::Item;
+use tokens::item::item_at;
 ghost use mathlib.Core.Path.{_≡_};
 ghost use mathlib.Core.List.{List};
 ghost use Prim.Native.Nat.{ℕ, _*_, _≤_};
 ghost use lib.ListN.{length};
-ghost use Rattle.items.specs.Items.{shownOf, shownAll};
+ghost use Rattle.tokens.specs.Items.{shownOf, shownAll};
 ghost use Rattle.parser.specs.Parsing.{answerNumber, answerCounts, sizes, begun as begunOf, headed, placed, walked};
 ghost use Rattle.parser.specs.Parts.{Starts, firstOf, BodyInto, LetterInto};
 ghost use Rattle.rooms.specs.Streams.{answer, items};
 ghost use Rattle.rooms.specs.Rooms.{tableLimit};
 ghost use Rattle.walk.specs.Walk.{walk as walkOf};
 ghost use Rattle.header.specs.Header.{tables};
+ghost use Rattle.tokens.specs.Tokens.{tokenWords};
+ghost use Rattle.fonts.specs.Rows.{fontWords};
+ghost use Rattle.colours.specs.Colours.{colourWords};
 
 // How many records of each kind, and how many bytes of text.
 pub struct Counts {
@@ -62,7 +65,7 @@ fn first_token(i: Item) -> Outcome
 
 // Whether there is a first token, and an opening bracket it is.
 fn start(tokens: &[u32], n: usize) -> Outcome
-    requires { ⌜ n * 6 ≤ length (now tokens) ⌝ }
+    requires { ⌜ n * tokenWords ≤ length (now tokens) ⌝ }
     ensures { λ r. ⌜ ((src : List ℕ) → Starts (begunOf (shownAll src n (now (tokens .entry)))) r) ⌝ }
 {
     if n == 0 {
@@ -82,7 +85,7 @@ fn read_body(
     blocks: &mut [u32],
     text: &mut [u8],
 ) -> Answer
-    requires { ⌜ (n * 6 ≤ length (now tokens)) × (n ≤ 65536) ⌝ }
+    requires { ⌜ (n * tokenWords ≤ length (now tokens)) × (n ≤ 65536) ⌝ }
     ensures { λ r. ⌜ BodyInto (answer 0 (placed reading (length (now (blocks .entry))) (length (now (text .entry))) (shownAll (now (source .entry)) n (now (tokens .entry))))) (items (placed reading (length (now (blocks .entry))) (length (now (text .entry))) (shownAll (now (source .entry)) n (now (tokens .entry))))) n fonts colours r (now (blocks .exit)) (now (text .exit)) (length (now (blocks .entry))) (length (now (text .entry))) ⌝ }
 {
     let laid = lay_body(source, reading, tokens, n, blocks, text);
@@ -116,17 +119,13 @@ fn letter(
     blocks: &mut [u32],
     text: &mut [u8],
 ) -> Answer
-    requires { ⌜ (n * 6 ≤ length (now tokens)) × (n ≤ 65536) ⌝ }
-    ensures { λ r. ⌜ LetterInto (headed reading (length (now (blocks .entry))) (length (now (text .entry))) (shownAll (now (source .entry)) n (now (tokens .entry))) (tables (tableLimit 3 (length (now (fonts .entry)))) (tableLimit 1 (length (now (colours .entry)))) (walkOf (shownAll (now (source .entry)) n (now (tokens .entry)))))) n r (now (fonts .exit)) (now (colours .exit)) (now (blocks .exit)) (now (text .exit)) (length (now (fonts .entry))) (length (now (colours .entry))) (length (now (blocks .entry))) (length (now (text .entry))) ⌝ }
+    requires { ⌜ (n * tokenWords ≤ length (now tokens)) × (n ≤ 65536) ⌝ }
+    ensures { λ r. ⌜ LetterInto (headed reading (length (now (blocks .entry))) (length (now (text .entry))) (shownAll (now (source .entry)) n (now (tokens .entry))) (tables (tableLimit fontWords (length (now (fonts .entry)))) (tableLimit colourWords (length (now (colours .entry)))) (walkOf (shownAll (now (source .entry)) n (now (tokens .entry)))))) n r (now (fonts .exit)) (now (colours .exit)) (now (blocks .exit)) (now (text .exit)) (length (now (fonts .entry))) (length (now (colours .entry))) (length (now (blocks .entry))) (length (now (text .entry))) ⌝ }
 {
     let header = read_header(source, tokens, n, fonts, colours);
     match header {
         Header::Refused(refusal) => Answer::Refuses(refusal),
-        Header::Read(f, c) => {
-            clear_from(fonts, f * 3);
-            clear_from(colours, c);
-            read_body(source, reading, tokens, n, f, c, blocks, text)
-        }
+        Header::Read(f, c) => read_body(source, reading, tokens, n, f, c, blocks, text),
     }
 }
 
@@ -141,7 +140,7 @@ pub fn parse(
     blocks: &mut [u32],
     text: &mut [u8],
 ) -> Answer
-    requires { ⌜ (n * 6 ≤ length (now tokens)) × (n ≤ 65536) ⌝ }
+    requires { ⌜ (n * tokenWords ≤ length (now tokens)) × (n ≤ 65536) ⌝ }
     ensures { λ r. ⌜ LetterInto (walked reading (sizes (now (tokens .entry)) (now (fonts .entry)) (now (colours .entry)) (now (blocks .entry)) (now (text .entry))) (begunOf (shownAll (now (source .entry)) n (now (tokens .entry))))) n r (now (fonts .exit)) (now (colours .exit)) (now (blocks .exit)) (now (text .exit)) (length (now (fonts .entry))) (length (now (colours .entry))) (length (now (blocks .entry))) (length (now (text .entry))) ⌝ }
 {
     let started = start(tokens, n);

@@ -2,27 +2,29 @@
 --     items-storable     the pieces of a stream, as a list
 --     blocks-storable    the blocks that pieces are joined to are such pieces too
 --     storable-good      neighbours differ, so a stored list can hold them
+--     storable-small     and its numbers can say them, if the text is no longer than a text room counts for
 -- Assumes nothing.
 use mathlib.Core.Path.{_≡_, refl, ap, _∙_}
 use mathlib.Core.List.{List, [], _∷_, _++_}
 use mathlib.Core.Bool.{Bool, true, false, cond, not}
-use Prim.Native.Nat.{ℕ, _+_}
+use Prim.Native.Nat.{ℕ, _≤_}
 use native.Mathlib.Omega.{arith}
-use lib.ListN.{length-append}
+use lib.ListN.{length, length-append}
 use Rattle.rooms.specs.Streams.{Stream, end, stop, _▸_, items}
 use Rattle.rooms.proofs.Streams.{Each}
 use Rattle.wellformed.proofs.WellFormed.{utf8-join}
 use Rattle.styles.specs.declared.Style.{Style}
 use Rattle.styles.specs.Styles.{sameStyle}
-use Rattle.fields.specs.Fields.{inRange}
-use Rattle.pages.specs.Pages.{Piece, piece, blocksFrom, blocks, Last, none, last}
-use Rattle.pages.proofs.Blocks.{ApartFrom, Apart, blocks-differ}
+use Rattle.blocks.specs.Pages.{Piece, piece, blocksFrom, blocks, textOf, Last, none, last}
+use Rattle.blocks.proofs.Blocks.{ApartFrom, Apart, blocks-differ}
 use Rattle.storing.specs.Good.{Good}
 use Rattle.storing.proofs.Writing.{one-good}
+use Rattle.roundtrips.specs.Trips.{Small}
 use Rattle.previews.proofs.Tokens.{All}
 use Rattle.previews.proofs.Pieces.{Whole, Storable}
+use Rattle.answers.specs.declared.Refusal.{Refusal}
 
-pub items-storable : (s : Stream Piece) → Each Storable s → All Storable (items s)
+pub items-storable : (s : Stream Refusal Piece) → Each Storable s → All Storable (items s)
 unfolding items
 items-storable end h = tt
 items-storable (stop r) h = tt
@@ -32,24 +34,26 @@ items-storable (x ▸ s) h = (h .0, items-storable s (h .1))
 join-whole : (a b : List ℕ) → Whole a → Whole b → Whole (a ++ b)
 join-whole a b h k = record { some = omega (arith, h .some, length-append a b); utf8 = utf8-join a b (h .utf8) ∙ k .utf8 }
 
-from-storable : (xs : List Piece) (s : Style) (bs : List ℕ) → inRange s ≡ true → Whole bs → All Storable xs
+from-storable : (xs : List Piece) (s : Style) (bs : List ℕ) → Storable (piece s bs) → All Storable xs
     → All Storable (blocksFrom s bs xs)
 unfolding blocksFrom
-from-storable [] s bs r w h = (record { range = r; text = w }, tt)
-from-storable (x ∷ xs) s bs r w h =
-    go (sameStyle s (x .style))
-    (from-storable xs s (bs ++ x .bytes) r (join-whole bs (x .bytes) w (h .0 .text)) (h .1))
-    (from-storable xs (x .style) (x .bytes) (h .0 .range) (h .0 .text) (h .1))
+from-storable [] s bs g h = (g, tt)
+from-storable (x ∷ xs) s bs g h =
+    go (sameStyle s (x .style)) (from-storable xs s (bs ++ x .bytes) longer (h .1))
+    (from-storable xs (x .style) (x .bytes) (h .0) (h .1))
   where
+    longer : Storable (piece s (bs ++ x .bytes))
+    longer = record { range = g .range; words = g .words; text = join-whole bs (x .bytes) (g .text) (h .0 .text) }
+
     go : (t : Bool) → All Storable (blocksFrom s (bs ++ x .bytes) xs) → All Storable (blocksFrom (x .style) (x .bytes) xs)
         → All Storable (cond t (blocksFrom s (bs ++ x .bytes) xs) (piece s bs ∷ blocksFrom (x .style) (x .bytes) xs))
     go true p q = p
-    go false p q = (record { range = r; text = w }, q)
+    go false p q = (g, q)
 
 pub blocks-storable : (xs : List Piece) → All Storable xs → All Storable (blocks xs)
 unfolding blocks
 blocks-storable [] h = tt
-blocks-storable (x ∷ xs) h = from-storable xs (x .style) (x .bytes) (h .0 .range) (h .0 .text) (h .1)
+blocks-storable (x ∷ xs) h = from-storable xs (x .style) (x .bytes) (h .0) (h .1)
 
 no-blocks : (l : Last) → Good l [] ≡ true
 unfolding Good
@@ -79,3 +83,10 @@ good-all (x ∷ xs) h d =
 
 pub storable-good : (xs : List Piece) → All Storable xs → Good none (blocks xs) ≡ true
 storable-good xs h = good-all (blocks xs) (blocks-storable xs h) (blocks-differ xs)
+
+pub storable-small : (xs : List Piece) → All Storable xs → length (textOf xs) ≤ 2147483647 → Small xs
+unfolding textOf
+storable-small [] h k = omega arith
+storable-small (x ∷ xs) h k =
+    let n = length-append (x .bytes) (textOf xs) in
+    (h .0 .words, omega (arith, n, k), storable-small xs (h .1) (omega (arith, n, k)))

@@ -7,7 +7,7 @@
 use mathlib.Core.Path.{_≡_, refl, sym, ap, _∙_}
 use mathlib.Core.List.{List, [], _∷_, _++_, append-nil}
 use mathlib.Core.Bool.{Bool, true, false, cond, false≢true}
-use Prim.Native.Nat.{ℕ, zero, suc, _+_, _<_}
+use Prim.Native.Nat.{ℕ, zero, suc, _<_}
 use native.Mathlib.Omega.{arith}
 use lib.ListN.{length}
 use lib.Dec.{eqb}
@@ -26,21 +26,23 @@ use Rattle.units.proofs.Units.{Numbers32, run-scalars, runText-some}
 use Rattle.wellformed.specs.WellFormed.{isUtf8}
 use Rattle.wellformed.proofs.WellFormed.{utf8-empty, utf8-ascii, utf8-one, utf8-all}
 use Rattle.styles.specs.declared.State.{State}
-use Rattle.styles.specs.declared.Reading.{Reading}
+use Rattle.readings.specs.declared.Reading.{Reading}
 use Rattle.styles.specs.declared.Change.{Change}
 use Rattle.styles.specs.declared.Change.the-variants.{To, Says, Refuses}
-use Rattle.styles.specs.Styles.{fresh, change}
+use Rattle.styles.specs.Styles.{fresh, change, styleWords}
 use Rattle.fields.specs.Fields.{inRange}
-use Rattle.pages.specs.Pages.{Piece}
+use Rattle.blocks.specs.Pages.{Piece}
 use Rattle.walk.specs.declared.Aim.{Aim}
 use Rattle.walk.specs.declared.Aim.the-variants.{Nothing, Hide, Fonts, Colours}
 use Rattle.walk.specs.Walk.{aim, Step, kept, hidden, fontTable, colourTable, entered, stepOf, stepsAt, leftAt, passedBy}
 use Rattle.walk.specs.Walk.{walkFrom, walk}
 use Rattle.runs.specs.Runs.{some}
-use Rattle.acts.specs.Body.{Item, token, run, apart, joined, keptItems, stepItems, gather, Asked, stops, goes, says, stackLimit}
-use Rattle.acts.specs.Body.{changed, tokenAsks, bareAsks, runAsks, asks, statesOf, pieceOf, uttered, bodyFrom, body}
+use Rattle.body.specs.Body.{Item, token, run, apart, joined, keptItems, stepItems, gather, Asked, stops, goes, says, stackLimit}
+use Rattle.body.specs.Body.{changed, tokenAsks, bareAsks, runAsks, asks, statesOf, pieceOf, uttered, bodyFrom, body}
+use Rattle.roundtrips.specs.Trips.{Words}
 use Rattle.previews.proofs.Tokens.{All, Fine}
-use Rattle.previews.proofs.States.{Sound, SoundChange, fresh-sound, change-sound, sound-range}
+use Rattle.previews.proofs.States.{Sound, SoundChange, fresh-sound, change-sound, sound-range, sound-words}
+use Rattle.answers.specs.declared.Refusal.{Refusal}
 
 -- ---- the walk and the items
 
@@ -174,7 +176,7 @@ module _ (rd : Reading) (top : State) (rest : List State) (h : Sound top) (k : A
   token-fine Shown.lineBreak g = ((h, k), record { some = omega arith; utf8 = utf8-ascii (10 ∷ []) line-low })
   token-fine Shown.ignorable g = tt
   token-fine (Shown.text p bs) g = ((h, k), record { some = g .0; utf8 = utf8-ascii bs (g .1) })
-  token-fine (Shown.word w num) g = changed-fine top rest (change rd top w num) h k (change-sound rd top w num h)
+  token-fine (Shown.word w num) g = changed-fine top rest (change rd top w num) h k (change-sound rd top w num h g)
   token-fine (Shown.unknown p bs num) g = (h, k)
 
   run-fine : (nums : List Property) → Numbers32 nums → FineAsked (runAsks top rest nums)
@@ -208,13 +210,14 @@ asks-fine rd (top ∷ rest) (run nums) h g = run-fine rd top rest (h .0) (h .1) 
 -- a piece that a stored block can be made of
 pub record Storable (x : Piece) : Type 0 where
   pub range : inRange (x .style) ≡ true
+  pub words : Words (styleWords (x .style))
   pub text : Whole (x .bytes)
 
 piece-storable : (st : List State) (bs : List ℕ) → All Sound st → Whole bs → Storable (pieceOf st bs)
-piece-storable [] bs h g = record { range = sound-range fresh fresh-sound; text = g }
-piece-storable (top ∷ rest) bs h g = record { range = sound-range top (h .0); text = g }
+piece-storable [] bs h g = record { range = sound-range fresh fresh-sound; words = sound-words fresh fresh-sound; text = g }
+piece-storable (top ∷ rest) bs h g = record { range = sound-range top (h .0); words = sound-words top (h .0); text = g }
 
-uttered-storable : (a : Asked) (more : Stream Piece) → FineAsked a → Each Storable more → Each Storable (uttered a more)
+uttered-storable : (a : Asked) (more : Stream Refusal Piece) → FineAsked a → Each Storable more → Each Storable (uttered a more)
 uttered-storable (stops r) more h k = tt
 uttered-storable (goes st) more h k = k
 uttered-storable (says st bs) more h k = (piece-storable st bs (h .0) (h .1), k)

@@ -1,43 +1,57 @@
--- Every reading of a letter can be stored:
---     preview-stored   the blocks and the text that a reading leaves in its rooms are good blocks, and the writer of the stored
---                      form writes them as one list, given room
--- It is about the definitions that the contracts of `reader::read` and `storing::write_list` cite. Assumes nothing.
+-- What any letter reads to, stored, is read back as the same blocks and text:
+--     read-back   the promise of specs/Promise
+-- The pieces of a letter that was read are all those of the body; the blocks that they are joined to are good and small, so the
+-- writer writes them as one list (storing/proofs/Writing), and that list is read as them (roundtrips/proofs/RoundTrips). Assumes
+-- nothing.
 use mathlib.Core.Path.{_≡_, refl, sym, ap, subst, _∙_}
 use mathlib.Core.List.{List, [], _∷_}
 use mathlib.Core.Bool.{Bool, true, false, cond}
-use Prim.Native.Nat.{ℕ, _*_, _≤_}
+use Prim.Native.Nat.{ℕ, _+_, _*_, _≤_, _<_}
 use native.Mathlib.Omega.{arith}
 use borrow.Author.Tests.{ltb-true}
 use lib.ListN.{length, take}
 use lib.Dec.{ltb}
 use Rattle.answers.specs.declared.Outcome.{Outcome}
 use Rattle.answers.specs.declared.Outcome.the-variants.{Done, Refused}
-use Rattle.answers.specs.Answers.{Found, found, refused}
+use Rattle.answers.specs.declared.Why.the-variants.{OutputRoom}
+use Rattle.answers.specs.Answers.{refusal, outcomeNumber, Found, found, refused}
 use Rattle.rooms.specs.Streams.{Stream, items, answer}
-use Rattle.rooms.specs.Rooms.{capacity, filled, tableLimit}
-use Rattle.tokens.specs.Tokens.{Shown, Token}
+use Rattle.rooms.specs.Rooms.{capacity, filled, tableLimit, settled}
+use Rattle.rooms.proofs.Rooms.{settled-over}
+use Rattle.sevens.specs.Sevens.{byteLayout}
+use Rattle.sevens.proofs.Streamed.{answer-streamed}
+use Rattle.tokens.specs.Tokens.{Shown, Token, shownBy}
 use Rattle.tokens.specs.Tokens
 use Rattle.cutter.specs.Cutting.{tokenStream, cutAnswer}
 use Rattle.walk.specs.Walk.{walk}
-use Rattle.entering.specs.Entering.{Tables}
+use Rattle.header.specs.Entering.{Tables}
 use Rattle.header.specs.Header.{tables}
-use Rattle.styles.specs.declared.Reading.{Reading}
-use Rattle.pages.specs.Pages.{Piece, none, blocks, textOf, records, blockWords, textCapacity, roomy}
-use Rattle.pages.proofs.Blocks.{text-blocks, length-records}
-use Rattle.acts.specs.Body.{body}
+use Rattle.readings.specs.declared.Reading.{Reading}
+use Rattle.blocks.specs.Pages.{Piece, none, blocks, textOf, records, blockWords, textCapacity, roomy}
+use Rattle.blocks.proofs.Blocks.{text-blocks, length-records}
+use Rattle.body.specs.Body.{body}
 use Rattle.parser.specs.declared.Counts.{Counts}
 use Rattle.parser.specs.declared.Answer.the-variants.{Read}
-use Rattle.parser.specs.Parsing.{begun, Sizes, Letter, ended, placed, bodied, headed, walked}
-use Rattle.reader.specs.Reading.{shownBy, cut, letterOf, countsOf}
+use Rattle.parser.specs.Parsing.{begun, Sizes, Letter, letterFrom, placed, bodied, headed, walked}
+use Rattle.reader.specs.Reading.{cut, letterOf, countsOf}
 use Rattle.reader.specs.Reading.{answered, readAnswer, blockRoom, textRoom}
-use Rattle.putting.specs.Blocks.{listBytes}
+use Rattle.storing.specs.Bytes.{listBytes}
+use Rattle.stored.specs.Stored.{answerNumber}
+use Rattle.stored.specs.Checks.{checked}
+use Rattle.stored.proofs.Ample.{check-reads}
 use Rattle.storing.specs.Good.{Good}
-use Rattle.storing.specs.Storing.{writeAnswer, writeRoom}
-use Rattle.storing.proofs.Writing.{write-good}
-use Rattle.roundtrips.proofs.Ample.{roomy-whole, roomy-text, take-filled}
+use Rattle.storing.specs.Storing.{writeAnswer}
+use Rattle.storing.proofs.Writing.{good-count, stream-good, write-good}
+use Rattle.roundtrips.specs.Trips.{Small}
+use Rattle.roundtrips.proofs.Ample.{roomy-whole, roomy-text, take-filled, Reads}
+use Rattle.roundtrips.proofs.RoundTrips.{list-reads}
+use Rattle.previews.specs.Promise.{blocksRead, textRead, StoredAs, ReadBack, Kept, Promise}
 use Rattle.previews.proofs.Tokens.{All, Fine, shown-fine}
 use Rattle.previews.proofs.Pieces.{Storable, body-storable}
-use Rattle.previews.proofs.Joining.{items-storable, storable-good}
+use Rattle.previews.proofs.Joining.{items-storable, blocks-storable, storable-good, storable-small}
+use Rattle.fonts.specs.Rows.{fontWords}
+use Rattle.colours.specs.Colours.{colourWords}
+use Rattle.answers.specs.declared.Refusal.{Refusal}
 
 -- ---- the pieces of a letter that was read
 
@@ -50,7 +64,7 @@ bodied-laid : (rd : Reading) (b t : ℕ) (ts : List Shown) (h : Tables) → Laid
 unfolding bodied
 bodied-laid rd b t ts h = go (answer 0 (placed rd b t ts)) refl
   where
-    go : (o : Outcome) → answer 0 (placed rd b t ts) ≡ o → Laid rd b t ts (ended h (placed rd b t ts) o)
+    go : (o : Outcome) → answer 0 (placed rd b t ts) ≡ o → Laid rd b t ts (letterFrom h (placed rd b t ts) o)
     go (Done n) e = (n, e, refl)
     go (Refused r) e = tt
 
@@ -63,7 +77,7 @@ module _ (rd : Reading) (z : Sizes) where
   begun-laid [] = tt
   begun-laid (Shown.opening ∷ ts) =
       let all : List Shown = Shown.opening ∷ ts in
-      headed-laid rd (z .blocks) (z .text) all (tables (tableLimit 3 (z .fonts)) (tableLimit 1 (z .colours)) (walk all))
+      headed-laid rd (z .blocks) (z .text) all (tables (tableLimit fontWords (z .fonts)) (tableLimit colourWords (z .colours)) (walk all))
   begun-laid (Shown.closing ∷ ts) = tt
   begun-laid (Shown.lineBreak ∷ ts) = tt
   begun-laid (Shown.ignorable ∷ ts) = tt
@@ -87,7 +101,7 @@ module _ (rd : Reading) (b t : ℕ) (ts : List Shown) {n : ℕ} (d : answer 0 (p
   placed-storable h =
       let e : roomy (capacity blockWords b) (textCapacity t) none (body rd (walk ts)) ≡ body rd (walk ts) =
       roomy-whole (body rd (walk ts)) (capacity blockWords b) (textCapacity t) none 0 d in
-      subst (λ (s : Stream Piece). All Storable (items s)) (sym e) (items-storable (body rd (walk ts)) (body-storable rd ts h))
+      subst (λ (s : Stream Refusal Piece). All Storable (items s)) (sym e) (items-storable (body rd (walk ts)) (body-storable rd ts h))
 
   placed-text : length (textOf (items (placed rd b t ts))) ≤ textCapacity t
   unfolding placed
@@ -112,54 +126,68 @@ module _ (rd : Reading) (src : List ℕ) (z : Sizes) {l : Letter} (e : letterOf 
   unfolding textRoom
   text-room = rw e
 
--- what the writer makes of blocks, in a room of so many bytes that is large enough
-abbrev Stores : List Piece → Type 0
-Stores xs =
-    (total : ℕ) → length (listBytes xs) ≤ total
-    → (writeAnswer total (records 0 xs) (textOf xs) ≡ Done (length (listBytes xs)))
-    × (writeRoom total (records 0 xs) (textOf xs) ≡ filled total (listBytes xs))
+-- ---- blocks, stored and read back
 
-module _ (rd : Reading) (src : List ℕ) (z : Sizes) {c : Counts} where
-  letter-stored : (l : Letter) → letterOf rd src z ≡ found l
-      → Laid rd (z .blocks) (z .text) (shownBy (items (tokenStream src))) (found l) → Read (countsOf src l) ≡ Read c
-      → (xs : List Piece) × (Good none xs ≡ true) × (take (c .blocks * 13) (blockRoom rd src z) ≡ records 0 xs)
-      × (take (c .text) (textRoom rd src z) ≡ textOf xs) × Stores xs
-  letter-stored l e (n, d, p) a =
+module _ (xs : List Piece) (good : Good none xs ≡ true) (short : length (textOf xs) ≤ 2147483647) where
+  -- a room that is too small
+  write-full : (total : ℕ) → total < length (listBytes xs)
+      → writeAnswer total (records 0 xs) (textOf xs) ≡ Refused (refusal OutputRoom)
+  unfolding writeAnswer
+  write-full total h =
+      ap (λ (y : Stream Refusal ℕ). settled byteLayout (refusal OutputRoom) total (answer 0 y)) (stream-good xs good short)
+      ∙ ap (settled byteLayout (refusal OutputRoom) total) (answer-streamed (listBytes xs) 0)
+      ∙ settled-over byteLayout (refusal OutputRoom) total (0 + length (listBytes xs)) (omega arith)
+
+  good-stored : StoredAs (records 0 xs) (textOf xs) (listBytes xs)
+  good-stored = record {
+    answer = λ total f. write-good xs total good short f .0;
+    room = λ total f. write-good xs total good short f .1;
+    full = write-full;
+  }
+
+  good-back : Small xs → (b t : ℕ) → length xs * blockWords ≤ b → length (textOf xs) ≤ t → Reads (listBytes xs) xs b t
+  good-back small b t h k =
+      let few : length xs < 4294967296 = omega (arith, good-count xs none good) in
+      list-reads xs good small few b t (record { blocks = rw (length-records xs 0) h; text = k; counts = short })
+
+-- what is read back in ample rooms, the check accepts
+back-checked : (c : Counts) (ws tx s : List ℕ) → ReadBack c ws tx s → outcomeNumber (checked s) ≡ 0
+back-checked c ws tx s h =
+    let b : ℕ = (length s + c .blocks) * blockWords in
+    let t : ℕ = 2147483647 + c .text in
+    sym (check-reads s b t (omega arith) (omega arith)) ∙ ap answerNumber (h b t (omega arith) (omega arith) .answer)
+
+-- ---- the promise
+
+module _ (rd : Reading) (src : List ℕ) (z : Sizes) where
+  letter-kept : (l : Letter) → letterOf rd src z ≡ found l
+      → Laid rd (z .blocks) (z .text) (shownBy (items (tokenStream src))) (found l)
+      → Kept (countsOf src l) (blocksRead rd src z (countsOf src l)) (textRead rd src z (countsOf src l))
+  letter-kept l e (n, d, p) =
       let xs : List Piece = blocks (l .pieces) in
       let ts : List Shown = shownBy (items (tokenStream src)) in
+      let c : Counts = countsOf src l in
       let h : All Storable (l .pieces) =
       subst (All Storable) (sym p) (placed-storable rd (z .blocks) (z .text) ts d (shown-fine src)) in
-      let good : Good none xs ≡ true = storable-good (l .pieces) h in
       let same : textOf xs ≡ textOf (l .pieces) = text-blocks (l .pieces) in
-      let kb : length xs ≡ c .blocks = cc in
-      let kt : length (textOf (l .pieces)) ≡ c .text = cc in
-      let short : length (textOf xs) ≤ 2147483647 =
-      subst (λ (v : List ℕ). length v ≤ 2147483647) (sym (same ∙ ap textOf p)) (placed-short rd (z .blocks) (z .text) ts d) in (
-        xs,
-        good,
-        ap (take (c .blocks * 13)) (block-room rd src z e)
-            ∙ take-filled (z .blocks) (records 0 xs) (c .blocks * 13) (length-records xs 0 ∙ ap (λ (k : ℕ). k * 13) kb),
-        ap (take (c .text)) (text-room rd src z e) ∙ take-filled (z .text) (textOf (l .pieces)) (c .text) kt ∙ sym same,
-        λ total f. write-good xs total good short f,
-      )
+      let short : length (textOf xs) ≤ 2147483647 = rw (same, p) (placed-short rd (z .blocks) (z .text) ts d) in
+      let good : Good none xs ≡ true = storable-good (l .pieces) h in
+      let small : Small xs = storable-small xs (blocks-storable (l .pieces) h) short in
+      let ws : blocksRead rd src z c ≡ records 0 xs =
+      ap (take (c .blocks * blockWords)) (block-room rd src z e)
+      ∙ take-filled (z .blocks) (records 0 xs) (c .blocks * blockWords) (length-records xs 0) in
+      let tx : textRead rd src z c ≡ textOf xs =
+      ap (take (c .text)) (text-room rd src z e) ∙ take-filled (z .text) (textOf (l .pieces)) (c .text) refl ∙ sym same in
+      let back : ReadBack c (records 0 xs) (textOf xs) (listBytes xs) = rw (← same) (good-back xs good short small) in
+      rw (ws, tx) (listBytes xs, good-stored xs good short, back, back-checked c (records 0 xs) (textOf xs) (listBytes xs) back)
 
--- ---- the theorem
-
--- The blocks and the text in the rooms of a successful reading, in either reading and in rooms of any sizes, are the records
--- and the text of some blocks xs that a stored list can hold; and in a room that is large enough the writer answers the length
--- of that list, and writes it
-pub preview-stored : (rd : Reading) (src : List ℕ) (z : Sizes) {c : Counts} → readAnswer rd src z ≡ Read c
-    → (xs : List Piece) × (Good none xs ≡ true) × (take (c .blocks * 13) (blockRoom rd src z) ≡ records 0 xs)
-    × (take (c .text) (textRoom rd src z) ≡ textOf xs)
-    × ((total : ℕ) → length (listBytes xs) ≤ total
-    → (writeAnswer total (records 0 xs) (textOf xs) ≡ Done (length (listBytes xs)))
-    × (writeRoom total (records 0 xs) (textOf xs) ≡ filled total (listBytes xs)))
+pub read-back : Promise
 unfolding readAnswer
-preview-stored rd src z {c} a = go (letterOf rd src z) refl (letter-laid rd z src) a
+read-back rd src z c a = go (letterOf rd src z) refl (letter-laid rd z src) a
   where
     go : (x : Found Letter) → letterOf rd src z ≡ x → Laid rd (z .blocks) (z .text) (shownBy (items (tokenStream src))) x
-        → answered src x ≡ Read c
-        → (xs : List Piece) × (Good none xs ≡ true) × (take (c .blocks * 13) (blockRoom rd src z) ≡ records 0 xs)
-        × (take (c .text) (textRoom rd src z) ≡ textOf xs) × Stores xs
-    go (found l) e d b = letter-stored rd src z l e d b
+        → answered src x ≡ Read c → Kept c (blocksRead rd src z c) (textRead rd src z c)
+    go (found l) e d b =
+        let same : countsOf src l ≡ c = cc in
+        subst (λ (k : Counts). Kept k (blocksRead rd src z k) (textRead rd src z k)) same (letter-kept rd src z l e d)
     go (refused r) e d b = let w : _≡_ {A = ℕ} 0 1 = cc in absurd (omega arith)

@@ -1,11 +1,14 @@
--- The ranges that a state keeps: whatever words come, the style of a state is one that a stored block can have.
+-- The ranges that a state keeps: whatever words come, the style of a state is one that a stored block can have, and each of its
+-- fields has 32 bits.
 --     fresh-sound     a fresh state
---     change-sound    a word's effect
---     sound-range     the style of such a state
+--     change-sound    a word's effect, where the word's number has 32 bits
+--     sound-range     the style of such a state is in range
+--     sound-words     and its fields have 32 bits
 -- Assumes nothing.
 use mathlib.Core.Path.{_≡_, refl}
+use mathlib.Core.List.{List, [], _∷_}
 use mathlib.Core.Bool.{Bool, true, false, cond, _||_}
-use Prim.Native.Nat.{ℕ, _-_, _≤_}
+use Prim.Native.Nat.{ℕ, zero, suc, _-_, _≤_, _<_}
 use native.Mathlib.Omega.{arith}
 use borrow.Author.Tests.{leb-true, ltb-true, ltb-false, eqb-false, le-leb}
 use lib.Dec.{leb, ltb, eqb}
@@ -17,13 +20,15 @@ use Rattle.styles.specs.declared.Flags.{Flags}
 use Rattle.styles.specs.declared.Painter.{Painter}
 use Rattle.styles.specs.declared.Paragraph.{Paragraph}
 use Rattle.styles.specs.declared.State.{State}
-use Rattle.styles.specs.declared.Reading.{Reading}
-use Rattle.styles.specs.declared.Reading.the-variants.{Plain, Paragraphs}
+use Rattle.readings.specs.declared.Reading.{Reading}
+use Rattle.readings.specs.declared.Reading.the-variants.{Plain, Paragraphs}
 use Rattle.styles.specs.declared.Change.{Change}
 use Rattle.styles.specs.declared.Change.the-variants.{To, Says, Refuses}
 use Rattle.styles.specs.Styles.{freshPainter, freshParagraph, fresh, painted, isFlag, isFitted, fitted, fitting, isAligned}
-use Rattle.styles.specs.Styles.{alignment, lined, spacing, measured, isCharacter, ending, change, bit, flagsNumber, styleOf}
+use Rattle.styles.specs.Styles.{alignment, lined, spacing, measured, isCharacter, ending, change, bit, flagsNumber, styleOf, styleWords}
 use Rattle.fields.specs.Fields.{inRange}
+use Rattle.roundtrips.specs.Trips.{Words}
+use Rattle.previews.proofs.Tokens.{All}
 
 -- "first three to 65,535"
 pub record SoundPainter (p : Painter) : Type 0 where
@@ -31,12 +36,17 @@ pub record SoundPainter (p : Painter) : Type 0 where
   pub font : p .font ≤ 65535
   pub size : p .size ≤ 65535
 
--- "alignment to 3, kind to 1, line value to 2,147,483,647 and 0 if automatic"
+-- a number of 32 bits
+abbrev Word : ℕ → Type 0
+Word n = n ≤ 4294967295
+
+-- "alignment to 3, kind to 1, line value to 2,147,483,647 and 0 if automatic"; the other four are any numbers of tokens
 pub record SoundParagraph (p : Paragraph) : Type 0 where
   pub alignment : p .alignment ≤ 3
   pub kind : p .kind ≤ 1
   pub line : p .line ≤ 2147483647
   pub automatic : eqb (p .kind) 1 || eqb (p .line) 0 ≡ true
+  pub measures : All Word (p .before ∷ p .after ∷ p .multiplier ∷ p .tab ∷ [])
 
 pub record Sound (s : State) : Type 0 where
   pub painter : SoundPainter (s .painter)
@@ -46,7 +56,13 @@ fresh-painter : SoundPainter freshPainter
 fresh-painter = record { colour = omega arith; font = omega arith; size = omega arith }
 
 fresh-paragraph : SoundParagraph freshParagraph
-fresh-paragraph = record { alignment = omega arith; kind = omega arith; line = omega arith; automatic = refl }
+fresh-paragraph = record {
+  alignment = omega arith;
+  kind = omega arith;
+  line = omega arith;
+  automatic = refl;
+  measures = omega arith;
+}
 
 pub fresh-sound : Sound fresh
 fresh-sound = record { painter = fresh-painter; paragraph = fresh-paragraph }
@@ -79,7 +95,7 @@ fitting-sound : (s : State) (w v : ℕ) → Sound s → SoundChange (fitting s w
 fitting-sound s w v h = go (leb v 65535) refl
   where
     go : (t : Bool) → leb v 65535 ≡ t
-        → SoundChange (cond t (To (painted s (fitted (s .painter) w v))) (Refuses (refusal NumberField)))
+        → SoundChange (cond t (To (painted s (fitted (s .painter) w v))) (Refuses NumberField))
     go true e = record { painter = fitted-sound (s .painter) w v (h .painter) (leb-true v 65535 e); paragraph = h .paragraph }
     go false e = tt
 
@@ -93,7 +109,13 @@ alignment-most w =
 lined-sound : (s : State) (v : ℕ) → Sound s → v ≤ 2147483647 → Sound (lined s 1 v)
 lined-sound s v h l = record {
   painter = h .painter;
-  paragraph = record { alignment = h .paragraph .alignment; kind = omega arith; line = l; automatic = refl };
+  paragraph = record {
+    alignment = h .paragraph .alignment;
+    kind = omega arith;
+    line = l;
+    automatic = refl;
+    measures = h .paragraph .measures;
+  };
 }
 
 spacing-sound : (s : State) (v : ℕ) → Sound s → SoundChange (spacing s v)
@@ -104,11 +126,17 @@ spacing-sound s v h =
     automatic : Sound (lined s 0 0)
     automatic = record {
       painter = h .painter;
-      paragraph = record { alignment = h .paragraph .alignment; kind = omega arith; line = omega arith; automatic = refl };
+      paragraph = record {
+        alignment = h .paragraph .alignment;
+        kind = omega arith;
+        line = omega arith;
+        automatic = refl;
+        measures = h .paragraph .measures;
+      };
     }
 
     go : (t u : Bool) → eqb v 2147483648 ≡ t → ltb v 2147483648 ≡ u
-        → SoundChange (cond t (Refuses (refusal LineSpacing)) (cond u (To (lined s 1 v)) (To (lined s 1 (4294967296 - v)))))
+        → SoundChange (cond t (Refuses LineSpacing) (cond u (To (lined s 1 v)) (To (lined s 1 (4294967296 - v)))))
     go true u e f = tt
     go false true e f = lined-sound s v h (omega (arith, ltb-true v 2147483648 f))
     go false false e f = lined-sound s (4294967296 - v) h (omega (arith, ltb-false v 2147483648 f, eqb-false v 2147483648 e))
@@ -117,13 +145,29 @@ ending-sound : (rd : Reading) (s : State) → Sound s → SoundChange (ending rd
 ending-sound Plain s h = h
 ending-sound Paragraphs s h = tt
 
-measured-sound : (p : Paragraph) (w v : ℕ) → SoundParagraph p → SoundParagraph (measured p w v)
+measured-sound : (p : Paragraph) (w v : ℕ) → SoundParagraph p → Word v → SoundParagraph (measured p w v)
 unfolding measured
-measured-sound p w v h = record { alignment = h .alignment; kind = h .kind; line = h .line; automatic = h .automatic }
+measured-sound p w v h l =
+    let m = h .measures in
+    record {
+      alignment = h .alignment;
+      kind = h .kind;
+      line = h .line;
+      automatic = h .automatic;
+      measures =
+          omega (
+            arith,
+            at-most (eqb w 33) v (p .before) 4294967295 l (m .0),
+            at-most (eqb w 34) v (p .after) 4294967295 l (m .1 .0),
+            at-most (eqb w 36) v (p .multiplier) 4294967295 l (m .1 .1 .0),
+            at-most (eqb w 25) v (p .tab) 4294967295 l (m .1 .1 .1 .0),
+          );
+    }
 
-pub change-sound : (rd : Reading) (s : State) (w : ℕ) (num : Property) → Sound s → SoundChange (change rd s w num)
+pub change-sound : (rd : Reading) (s : State) (w : ℕ) (num : Property) → Sound s → valueOf num < 4294967296
+    → SoundChange (change rd s w num)
 unfolding change
-change-sound rd s w num h =
+change-sound rd s w num h n =
     let p = h .painter in
     let q = h .paragraph in
     either (isFlag w) _ _
@@ -133,14 +177,20 @@ change-sound rd s w num h =
     (either (isAligned w) _ _
     (record {
       painter = p;
-      paragraph = record { alignment = alignment-most w; kind = q .kind; line = q .line; automatic = q .automatic };
+      paragraph = record {
+        alignment = alignment-most w;
+        kind = q .kind;
+        line = q .line;
+        automatic = q .automatic;
+        measures = q .measures;
+      };
     })
     (either (eqb w 35) _ _ (spacing-sound s (valueOf num) h)
     (either (eqb w 23) _ _ (record { painter = fresh-painter; paragraph = q })
     (either (eqb w 21) _ _ (record { painter = p; paragraph = fresh-paragraph })
     (either (eqb w 20) _ _ (ending-sound rd s h)
     (either (eqb w 3) _ _ (record { painter = p; paragraph = q })
-    (record { painter = p; paragraph = measured-sound (s .paragraph) w (valueOf num) q })))))))))
+    (record { painter = p; paragraph = measured-sound (s .paragraph) w (valueOf num) q (omega arith) })))))))))
 
 -- ---- the style
 
@@ -177,3 +227,13 @@ sound-range s h =
       le-leb (q .line) 2147483647 (h .paragraph .line),
       h .paragraph .automatic,
     )
+
+words-all : (ns : List ℕ) → All Word ns → Words ns
+words-all [] h i = omega arith
+words-all (n ∷ ns) h zero = omega (arith, h .0)
+words-all (n ∷ ns) h (suc i) = words-all ns (h .1) i
+
+pub sound-words : (s : State) → Sound s → Words (styleWords (styleOf s))
+unfolding styleOf
+sound-words s h =
+    words-all (styleWords (styleOf s)) (omega (arith, h .painter, h .paragraph, flags-most (s .painter .flags)))

@@ -24,14 +24,14 @@ use Rattle.rooms.proofs.Streams.{Each, Each-then, Each-each, Each-either}
 use Rattle.slices.specs.Slices.{slices}
 use Rattle.tokens.specs.declared.Property.{Property}
 use Rattle.tokens.specs.declared.Property.the-variants.{None, Value}
-use Rattle.tokens.specs.Tokens.{Shown, Token, valueOf}
+use Rattle.tokens.specs.Tokens.{Shown, Token, valueOf, shownBy}
 use Rattle.tokens.specs.Tokens
 use Rattle.tokenize.specs.Tokenize.{isMark, isEscape, mark, plain, hexValue, hexEscape, lineBreakAnd, shownWord, numbered}
 use Rattle.tokenize.specs.Tokenize.{named, bareLength, wordTail, word, other, escaped, tokens}
 use Rattle.tokenize.proofs.Places.{At, Stands}
 use Rattle.cutter.specs.Cutting.{locate, located, last, allSlices, trimStart, trimmed, tokenStream}
 use Rattle.cutter.proofs.Places.{Placed, stream-places}
-use Rattle.reader.specs.Reading.{shownBy}
+use Rattle.answers.specs.declared.Refusal.{Refusal}
 
 -- each of a list has a property
 abbrev pub All : {A : Type 0} → (A → Type 0) → List A → Type 0
@@ -127,7 +127,7 @@ SomeIn t = Some (t .shows)
 
 located-some : (p : ℕ) (s : List ℕ) → Each SomeIn (located p s)
 unfolding located
-located-some p s = Each-each SomeIn (locate p (length s)) (tokens p s) (tokens-some p s)
+located-some p s = Each-each SomeIn refusal (locate p (length s)) (tokens p s) (tokens-some p s)
 
 last-some : (p : ℕ) (s : List ℕ) → Each SomeIn (last p s)
 unfolding last
@@ -184,7 +184,7 @@ fine-one src h Shown.ignorable a s = tt
 fine-one src h (Shown.word w num) a s = a .1
 fine-one src h (Shown.unknown p bs num) a s = tt
 
-fine-all : (src : List ℕ) → any isHigh src ≡ false → (s : Stream Token) → Each (Placed src) s → Each SomeIn s
+fine-all : (src : List ℕ) → any isHigh src ≡ false → (s : Stream Refusal Token) → Each (Placed src) s → Each SomeIn s
     → All Fine (shownBy (items s))
 unfolding items shownBy
 fine-all src h end a b = tt

@@ -1,1 +1,2 @@
--- No definitions: the theorem is about those of `reader` and `storing`.
+-- Promise: what any letter reads to, stored, is read back as the same blocks and text; read it first.
+pub mod Promise

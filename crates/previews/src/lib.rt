@@ -1,2 +1,2 @@
-// Every reading of a letter can be stored: the blocks and the text that `reader::read` answers are blocks and text that
-// `storing::write_list` accepts, given room. A theorem over the promises of both, and no code. proofs/Previews.antt states it.
+// What any letter reads to, stored, is read back as the same blocks and text: a theorem over the promises of `reader::read`,
+// `storing::write_list` and `stored::read_list`, and no code. specs/Promise.antt states it.

@@ -1,4 +1,3 @@
--- Laws: Tokens, of a token room that the cutter filled; Whole, of `read`; Tight, that one result is permitted.
-pub mod Tokens
+-- Laws: Whole, of `read`; Tight, that one result is permitted.
 pub mod Whole
 pub mod Tight

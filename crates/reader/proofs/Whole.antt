@@ -3,44 +3,50 @@
 --     read-refused, read-done      the answer and the five rooms
 -- Assumes nothing.
 use mathlib.Core.Path.{_≡_, refl, sym, ap, _∙_}
-use mathlib.Core.List.{List}
-use Prim.Native.Nat.{ℕ}
+use mathlib.Core.List.{List, [], _∷_}
+use Prim.Native.Nat.{ℕ, suc, _≤_}
 use native.Mathlib.Omega.{arith}
-use lib.ListN.{replicate}
+use lib.ListN.{length, replicate}
 use Rattle.answers.specs.declared.Refusal.{Refusal}
 use Rattle.answers.specs.declared.Outcome.{Outcome}
 use Rattle.answers.specs.declared.Outcome.the-variants.{Done, Refused}
 use Rattle.answers.specs.Answers.{Found, found, refused}
 use Rattle.rooms.specs.Streams.{items}
-use Rattle.rooms.specs.Rooms.{encode, filled}
-use Rattle.tokens.specs.Tokens.{Shown, tokenLayout}
+use Rattle.rooms.specs.Rooms.{encode, filled, content}
+use Rattle.tokens.specs.Tokens.{Shown, Token, tokenLayout, shownBy}
 use Rattle.cutter.specs.Cutting.{tokenStream, cutAnswer, cutRoom}
-use Rattle.items.specs.Items.{shownAll}
-use Rattle.styles.specs.declared.Reading.{Reading}
+use Rattle.tokens.specs.Items.{shownAll}
+use Rattle.readings.specs.declared.Reading.{Reading}
 use Rattle.parser.specs.declared.Counts.{Counts}
 use Rattle.parser.specs.declared.Answer.{Answer}
 use Rattle.parser.specs.declared.Answer.the-variants.{Read, Refuses}
-use Rattle.parser.specs.Parsing.{begun, Sizes, Letter, walked}
+use Rattle.blocks.specs.Pages.{blocks}
+use Rattle.parser.specs.Parsing.{begun, Sizes, Letter, walked, Few, FewIn}
+use Rattle.parser.proofs.Few.{letter-few}
 use Rattle.parser.specs.Parts.{LetterInto}
-use Rattle.reader.specs.Reading.{cut, letterOf, tokenCount, readAnswer, tokenRoom, fontRoom, colourRoom, blockRoom, textRoom}
-use Rattle.reader.proofs.Tokens.{cut-counts, cut-room, cut-shown, length-items}
-
--- what the contract of `read` says
-pub record Reads (rd : Reading) (src : List ℕ) (z : Sizes) (r : Answer) (tk fs cs bs tx : List ℕ) : Type 0 where
-  pub answer : r ≡ readAnswer rd src z
-  pub token-room : tk ≡ tokenRoom rd src z
-  pub font-room : fs ≡ fontRoom rd src z
-  pub colour-room : cs ≡ colourRoom rd src z
-  pub block-room : bs ≡ blockRoom rd src z
-  pub text-room : tx ≡ textRoom rd src z
+use Rattle.reader.specs.Reading.{cut, letterOf, tokenCount, countsOf, readAnswer, tokenRoom, fontRoom, colourRoom, blockRoom, textRoom, Reads}
 
 zeros : {l : List ℕ} {n m : ℕ} → l ≡ replicate n 0 → n ≡ m → l ≡ replicate m 0
 zeros e q = e ∙ rw q
 
--- the contract, clause by clause
-pub clauses : {rd : Reading} {src : List ℕ} {z : Sizes} {r : Answer} {tk fs cs bs tx : List ℕ} → Reads rd src z r tk fs cs bs tx
-    → (r ≡ readAnswer rd src z) × ((tk ≡ tokenRoom rd src z) × ((fs ≡ fontRoom rd src z) × ((cs ≡ colourRoom rd src z) × ((bs ≡ blockRoom rd src z) × (tx ≡ textRoom rd src z)))))
-clauses x = (x .answer, (x .token-room, (x .font-room, (x .colour-room, (x .block-room, x .text-room)))))
+-- the room of a source that was cut holds the records and zeros
+cut-room : (src : List ℕ) (total : ℕ) {n : ℕ} → Done n ≡ cutAnswer src total → cutRoom src total ≡ filled total (encode tokenLayout (tokenStream src))
+unfolding cutRoom content
+cut-room src total e = ap (λ (a : Outcome). content tokenLayout total a (tokenStream src)) (sym e)
+
+length-shown : (ts : List Token) → length (shownBy ts) ≡ length ts
+unfolding shownBy
+length-shown [] = refl
+length-shown (t ∷ ts) = ap suc (length-shown ts)
+
+-- a letter has at most as many blocks as its source has tokens
+letter-counted : (rd : Reading) (src : List ℕ) (z : Sizes) → FewIn (tokenCount src) (letterOf rd src z)
+unfolding letterOf
+letter-counted rd src z = go (cutAnswer src (z .tokens))
+  where
+    go : (o : Outcome) → FewIn (tokenCount src) (cut rd z (items (tokenStream src)) o)
+    go (Done n) = rw length-shown at (letter-few rd z (shownBy (items (tokenStream src))))
+    go (Refused r) = tt
 
 module _ (rd : Reading) (src : List ℕ) (z : Sizes) where
   pub read-refused : {k : Refusal} → letterOf rd src z ≡ refused k → {r : Answer} {tk fs cs bs tx : List ℕ} → r ≡ Refuses k → {n₁ n₂ n₃ n₄ n₅ : ℕ} → tk ≡ replicate n₁ 0 → n₁ ≡ z .tokens
@@ -49,11 +55,12 @@ module _ (rd : Reading) (src : List ℕ) (z : Sizes) where
   unfolding readAnswer tokenRoom fontRoom colourRoom blockRoom textRoom
   read-refused {k} e a b b′ c c′ d d′ f f′ g g′ = record {
     answer = rw e a;
-    token-room = rw e (zeros b b′);
-    font-room = rw e (zeros c c′);
-    colour-room = rw e (zeros d d′);
-    block-room = rw e (zeros f f′);
-    text-room = rw e (zeros g g′);
+    tokens = rw e (zeros b b′);
+    fonts = rw e (zeros c c′);
+    colours = rw e (zeros d d′);
+    blocks = rw e (zeros f f′);
+    text = rw e (zeros g g′);
+    counted = λ c q. absurd (let w : Refuses k ≡ Read c = sym a ∙ q in let v : _≡_ {A = ℕ} 0 1 = cc in omega arith);
   }
 
   -- refused by the cutter
@@ -63,14 +70,13 @@ module _ (rd : Reading) (src : List ℕ) (z : Sizes) where
   cut-refused e d m fs cs bs tx = rw (sym e ∙ d) refl
 
   -- cut: the parser's answer stands
-  pub cut-parsed : {o : Outcome} {n : ℕ} → o ≡ cutAnswer src (z .tokens) → o ≡ Done n → (room : List ℕ) → room ≡ cutRoom src (z .tokens) → {t : ℕ} → t ≡ z .tokens → (a : Answer) (fs cs bs tx : List ℕ)
+  pub cut-parsed : {o : Outcome} {n : ℕ} → o ≡ cutAnswer src (z .tokens) → o ≡ Done n → (room : List ℕ) → n ≡ tokenCount src → shownAll src n room ≡ shownBy (items (tokenStream src)) → {t : ℕ} → t ≡ z .tokens → (a : Answer) (fs cs bs tx : List ℕ)
       → LetterInto (walked rd (record { tokens = t; fonts = z .fonts; colours = z .colours; blocks = z .blocks; text = z .text }) (begun (shownAll src n room))) n a fs cs bs tx (z .fonts) (z .colours) (z .blocks) (z .text)
       → LetterInto (letterOf rd src z) (tokenCount src) a fs cs bs tx (z .fonts) (z .colours) (z .blocks) (z .text)
   unfolding letterOf
-  cut-parsed {o} {n} e d room q i a fs cs bs tx g =
+  cut-parsed {o} {n} e d room m q i a fs cs bs tx g =
       let l : letterOf rd src z ≡ walked rd z (begun (shownAll src n room)) =
-      ap (cut rd z (items (tokenStream src))) (sym e ∙ d) ∙ ap (λ (ts : List Shown). walked rd z (begun ts)) (sym (cut-shown src (z .tokens) e d q)) in
-      let m : n ≡ tokenCount src = cut-counts src (z .tokens) e d .0 ∙ sym (length-items (tokenStream src)) in
+      ap (cut rd z (items (tokenStream src))) (sym e ∙ d) ∙ ap (λ (ts : List Shown). walked rd z (begun ts)) (sym q) in
       rw (l, ← m) (rw i at g)
 
   module _ (a : Answer) (fs cs bs tx : List ℕ) (g : LetterInto (letterOf rd src z) (tokenCount src) a fs cs bs tx (z .fonts) (z .colours) (z .blocks) (z .text)) where
@@ -87,24 +93,28 @@ module _ (rd : Reading) (src : List ℕ) (z : Sizes) where
     was-cut l v = go (cutAnswer src (z .tokens)) refl
       where
         go : (o : Outcome) → o ≡ cutAnswer src (z .tokens) → cutRoom src (z .tokens) ≡ filled (z .tokens) (encode tokenLayout (tokenStream src))
-        go (Done n) e = cut-room src (z .tokens) e refl
+        go (Done n) e = cut-room src (z .tokens) e
         go (Refused r) e = absurd (let w : refused r ≡ found l = ap (cut rd z (items (tokenStream src))) e ∙ v in let u : _≡_ {A = ℕ} 0 1 = cc in omega arith)
 
     into-done : (l : Letter) → letterOf rd src z ≡ found l → LetterInto (found l) (tokenCount src) a fs cs bs tx (z .fonts) (z .colours) (z .blocks) (z .text)
-        → {tk : List ℕ} → tk ≡ filled (z .tokens) (encode tokenLayout (tokenStream src)) → Reads rd src z a tk fs cs bs tx
+        → {tk : List ℕ} → tk ≡ filled (z .tokens) (encode tokenLayout (tokenStream src)) → tokenCount src ≤ 65536 → Reads rd src z a tk fs cs bs tx
     unfolding readAnswer tokenRoom fontRoom colourRoom blockRoom textRoom
-    into-done l v y q = record {
+    into-done l v y q few = record {
       answer = rw v (y .0);
-      token-room = rw v q;
-      font-room = rw v (y .1);
-      colour-room = rw v (y .2);
-      block-room = rw v (y .3);
-      text-room = rw v (y .4);
+      tokens = rw v q;
+      fonts = rw v (y .1);
+      colours = rw v (y .2);
+      blocks = rw v (y .3);
+      text = rw v (y .4);
+      counted = λ c i.
+          let w : Few (tokenCount src) l = rw v at (letter-counted rd src z) in
+          let e : countsOf src l ≡ c = (let j : Read (countsOf src l) ≡ Read c = sym (y .0) ∙ i in cc) in
+          rw (← e) (record { tokens = few; fonts = w .fonts; colours = w .colours; blocks = (let b : length (blocks (l .pieces)) ≤ tokenCount src = w .blocks in omega arith); text = w .text });
     }
 
-    pub read-done : {c : Counts} → a ≡ Read c → {tk : List ℕ} → tk ≡ cutRoom src (z .tokens) → Reads rd src z a tk fs cs bs tx
-    read-done {c} i {tk} q = go (letterOf rd src z) refl g
+    pub read-done : {c : Counts} → a ≡ Read c → tokenCount src ≤ 65536 → {tk : List ℕ} → tk ≡ cutRoom src (z .tokens) → Reads rd src z a tk fs cs bs tx
+    read-done {c} i few {tk} q = go (letterOf rd src z) refl g
       where
         go : (x : Found Letter) → letterOf rd src z ≡ x → LetterInto x (tokenCount src) a fs cs bs tx (z .fonts) (z .colours) (z .blocks) (z .text) → Reads rd src z a tk fs cs bs tx
         go (refused r) v y = absurd (let w : Read c ≡ Refuses r = sym i ∙ y in let u : _≡_ {A = ℕ} 0 1 = cc in omega arith)
-        go (found l) v y = into-done l v y (q ∙ was-cut l v)
+        go (found l) v y = into-done l v y (q ∙ was-cut l v) few

@@ -1,6 +1,7 @@
 -- 01, Answer numbers: a letter read whole: the one answer, and the one content of the five lent rooms. Assumes nothing: these
 -- are definitions.
-use Prim.Native.Nat.{ℕ}
+use Prim.Native.Nat.{ℕ, _≤_}
+use mathlib.Core.Path.{_≡_}
 use mathlib.Core.List.{List, [], _∷_}
 use lib.ListN.{length, replicate}
 use Rattle.answers.specs.declared.Outcome.{Outcome}
@@ -8,20 +9,15 @@ use Rattle.answers.specs.declared.Outcome.the-variants.{Done, Refused}
 use Rattle.answers.specs.Answers.{Found, found, refused}
 use Rattle.rooms.specs.Streams.{items}
 use Rattle.rooms.specs.Rooms.{encode, filled}
-use Rattle.tokens.specs.Tokens.{Shown, Token, tokenLayout}
+use Rattle.tokens.specs.Tokens.{Shown, Token, tokenLayout, shownBy}
 use Rattle.cutter.specs.Cutting.{tokenStream, cutAnswer}
-use Rattle.rows.specs.Rows.{tableWords}
-use Rattle.styles.specs.declared.Reading.{Reading}
-use Rattle.pages.specs.Pages.{blocks, textOf, records}
+use Rattle.fonts.specs.Rows.{tableWords}
+use Rattle.readings.specs.declared.Reading.{Reading}
+use Rattle.blocks.specs.Pages.{blocks, textOf, records}
 use Rattle.parser.specs.declared.Counts.{Counts}
 use Rattle.parser.specs.declared.Answer.{Answer}
 use Rattle.parser.specs.declared.Answer.the-variants.{Read, Refuses}
 use Rattle.parser.specs.Parsing.{begun, Sizes, Letter, walked}
-
--- what tokens show
-unfoldable pub shownBy : List Token → List Shown
-shownBy [] = []
-shownBy (t ∷ ts) = t .shows ∷ shownBy ts
 
 -- "cutting .. then 6, 7, 8, 9"
 abbrev pub cut : Reading → Sizes → List Token → Outcome → Found Letter
@@ -73,3 +69,21 @@ blockRoom rd src z = holding (z .blocks) (λ (l : Letter). records 0 (blocks (l 
 
 unfoldable pub textRoom : Reading → List ℕ → Sizes → List ℕ
 textRoom rd src z = holding (z .text) (λ (l : Letter). textOf (l .pieces)) (letterOf rd src z)
+
+-- counts of a letter that was read: each fits 32 bits, as hosts count
+pub record Counted (c : Counts) : Type 0 where
+  pub tokens : c .tokens ≤ 65536
+  pub fonts : c .fonts ≤ 256
+  pub colours : c .colours ≤ 256
+  pub blocks : c .blocks ≤ 65536
+  pub text : c .text ≤ 2147483647
+
+-- What `read` promises: the one answer, and the one content of each room. That the counts are small follows, and is said with them.
+pub record Reads (rd : Reading) (src : List ℕ) (z : Sizes) (r : Answer) (tk fs cs bs tx : List ℕ) : Type 0 where
+  pub answer : r ≡ readAnswer rd src z
+  pub tokens : tk ≡ tokenRoom rd src z
+  pub fonts : fs ≡ fontRoom rd src z
+  pub colours : cs ≡ colourRoom rd src z
+  pub blocks : bs ≡ blockRoom rd src z
+  pub text : tx ≡ textRoom rd src z
+  pub counted : (c : Counts) → r ≡ Read c → Counted c

@@ -8,15 +8,17 @@ use answers::Refusal;
 use cutter::cut;
 use parser::Answer;
 use parser::parse;
+use readings::Reading;
 use rooms::clear_bytes_from;
 use rooms::clear_from;
-use styles::Reading;
 ghost use mathlib.Core.Path.{_≡_};
+ghost use Prim.Native.Nat.{_≤_};
 ghost use lib.ListN.{length, replicate};
 ghost use Rattle.cutter.specs.Cutting.{cutRoom};
+ghost use Rattle.parser.specs.declared.Counts.{Counts};
 ghost use Rattle.parser.specs.Parsing.{sizes};
 ghost use Rattle.parser.specs.Parts.{LetterInto};
-ghost use Rattle.reader.specs.Reading.{letterOf, tokenCount, readAnswer, tokenRoom, fontRoom, colourRoom, blockRoom, textRoom};
+ghost use Rattle.reader.specs.Reading.{letterOf, tokenCount, Reads};
 
 // Cuts and parses. After a refusal the rooms may hold anything.
 fn attempt(
@@ -29,6 +31,7 @@ fn attempt(
     text: &mut [u8],
 ) -> Answer
     ensures token_room { λ _. ⌜ now (tokens .exit) ≡ cutRoom (now (source .entry)) (length (now (tokens .entry))) ⌝ }
+    ensures few { λ r. ⌜ ((k : Counts) → r ≡ Answer.Read k → tokenCount (now (source .entry)) ≤ 65536) ⌝ }
     ensures letter { λ r. ⌜ LetterInto (letterOf reading (now (source .entry)) (sizes (now (tokens .entry)) (now (fonts .entry)) (now (colours .entry)) (now (blocks .entry)) (now (text .entry)))) (tokenCount (now (source .entry))) r (now (fonts .exit)) (now (colours .exit)) (now (blocks .exit)) (now (text .exit)) (length (now (fonts .entry))) (length (now (colours .entry))) (length (now (blocks .entry))) (length (now (text .entry))) ⌝ }
 {
     let outcome = cut(source, tokens);
@@ -72,12 +75,8 @@ pub fn read(
     blocks: &mut [u32],
     text: &mut [u8],
 ) -> Answer
-    ensures answer { λ r. ⌜ r ≡ readAnswer reading (now (source .entry)) (sizes (now (tokens .entry)) (now (fonts .entry)) (now (colours .entry)) (now (blocks .entry)) (now (text .entry))) ⌝ }
-    ensures token_room { λ _. ⌜ now (tokens .exit) ≡ tokenRoom reading (now (source .entry)) (sizes (now (tokens .entry)) (now (fonts .entry)) (now (colours .entry)) (now (blocks .entry)) (now (text .entry))) ⌝ }
-    ensures font_room { λ _. ⌜ now (fonts .exit) ≡ fontRoom reading (now (source .entry)) (sizes (now (tokens .entry)) (now (fonts .entry)) (now (colours .entry)) (now (blocks .entry)) (now (text .entry))) ⌝ }
-    ensures colour_room { λ _. ⌜ now (colours .exit) ≡ colourRoom reading (now (source .entry)) (sizes (now (tokens .entry)) (now (fonts .entry)) (now (colours .entry)) (now (blocks .entry)) (now (text .entry))) ⌝ }
-    ensures block_room { λ _. ⌜ now (blocks .exit) ≡ blockRoom reading (now (source .entry)) (sizes (now (tokens .entry)) (now (fonts .entry)) (now (colours .entry)) (now (blocks .entry)) (now (text .entry))) ⌝ }
-    ensures text_room { λ _. ⌜ now (text .exit) ≡ textRoom reading (now (source .entry)) (sizes (now (tokens .entry)) (now (fonts .entry)) (now (colours .entry)) (now (blocks .entry)) (now (text .entry))) ⌝ }
+    ensures { λ r. ⌜ Reads reading (now (source .entry)) (sizes (now (tokens .entry)) (now (fonts .entry)) (now (colours .entry)) (now (blocks .entry)) (now (text .entry)))
+        r (now (tokens .exit)) (now (fonts .exit)) (now (colours .exit)) (now (blocks .exit)) (now (text .exit)) ⌝ }
 {
     let answer = attempt(source, reading, tokens, fonts, colours, blocks, text);
     match answer {

@@ -1,22 +1,27 @@
 // Replays listed answers of the Rust crate through our cutter, and says where ours differ.
 //
-// How the list is laid out and when answers are the same stands in the crate `listed`; `say` has the lines that are written.
+//   list    how answers are listed, and where the next one stands
+//   judge   one answer of ours against the listed one
+//   say     the lines that are written
+//
 // The list is data/letters.bin; data/README.md says what it holds and how it was made.
+mod judge;
+mod list;
 mod say;
 
-use listed::judge::Verdict;
-use listed::judge::compare;
-use listed::list::Answer;
-use listed::list::Front;
-use listed::list::HEAD_BYTES;
-use listed::list::ROOM_MOST;
-use listed::list::next;
+use judge::Verdict;
+use judge::compare;
+use list::Answer;
+use list::Front;
+use list::HEAD_BYTES;
+use list::ROOM_MOST;
+use list::next;
 use say::End;
 use say::Tally;
 ghost use Prim.Native.Nat.{_≤_};
 ghost use lib.ListN.{length};
 ghost use Rattle.cutter.specs.Cutting.{cutAnswer, cutRoom};
-ghost use Rattle.listed.specs.Listed.{Whole, Judged};
+ghost use Rattle.replay.specs.Listed.{Whole, Judged};
 
 // What every word of a room holds before the cut: no word that the cutter should leave there.
 const JUNK: u32 = 0xa5a5_5a5a;

@@ -1,7 +1,7 @@
 // What the program writes to standard output.
+use crate::judge::Difference;
+use crate::judge::Part;
 use libc::STDOUT_FILENO;
-use listed::judge::Difference;
-use listed::judge::Part;
 
 // At most so many differences are said one by one.
 const LINES_MOST: usize = 10;

@@ -14,21 +14,20 @@ use borrow.Author.Tests.{le-ltb, ne-eqb, ltb-false}
 use lib.ListN.{length, take, replicate, length-append}
 use lib.Seq.{take-at}
 use lib.Dec.{ltb, eqb}
-use Rattle.answers.specs.declared.Outcome.{Outcome}
 use Rattle.answers.specs.declared.Outcome.the-variants.{Done}
 use Rattle.answers.specs.declared.Why.the-variants.{BlockRoom, TextRoom}
 use Rattle.answers.specs.Answers.{refusal}
 use Rattle.rooms.proofs.Streams.{done-refused}
-use Rattle.rooms.specs.Streams.{Stream, end, stop, _▸_, items, answer}
+use Rattle.rooms.specs.Streams.{Stream, end, stop, _▸_, items, answer, ended}
 use Rattle.styles.specs.declared.Style.{Style}
 use Rattle.rooms.specs.Rooms.{filled}
 use Rattle.styles.specs.Styles.{sameStyle, styleWords}
-use Rattle.pages.specs.Pages.{Piece, piece, Last, none, last, starts, roomy, blocks, blocksFrom, textOf, records, blockRecord}
-use Rattle.stored.specs.declared.Answer.the-variants.{Read}
+use Rattle.blocks.specs.Pages.{Piece, piece, Last, none, last, starts, roomy, blocks, blocksFrom, textOf, records, blockRecord}
 use Rattle.stored.specs.Stored.{placed, storedAnswer, storedBlocks, storedText}
 use Rattle.storing.specs.Good.{Good}
-use Rattle.roundtrips.specs.Trips.{Words, Small, all}
+use Rattle.roundtrips.specs.Trips.{Words, Small, all, ReadsAs}
 use Rattle.storing.proofs.Writing.{good-one}
+use Rattle.answers.specs.declared.Refusal.{Refusal}
 
 pub items-all : (xs : List Piece) → items (all xs) ≡ xs
 unfolding items all
@@ -36,7 +35,7 @@ items-all [] = refl
 items-all (x ∷ xs) = ap (λ (l : List Piece). x ∷ l) (items-all xs)
 
 pub answer-all : (xs : List Piece) (n : ℕ) → answer n (all xs) ≡ Done (n + length xs)
-unfolding answer all
+unfolding ended all
 answer-all [] n = ap (λ (m : ℕ). Done m) (let z : n ≡ n + 0 = omega arith in z)
 answer-all (x ∷ xs) n = answer-all xs (n + 1) ∙ ap (λ (m : ℕ). Done m) (let z : n + 1 + length xs ≡ n + suc (length xs) = omega arith in z)
 
@@ -47,17 +46,17 @@ roomy-all [] b t l g h k = refl
 roomy-all (x ∷ xs) b t l g h k =
     let n = length-append (x .bytes) (textOf xs) in
     rw (good-one l x xs g .change, ne-eqb b 0 (λ z. omega arith), le-ltb t (length (x .bytes)) (omega (arith, n, k)))
-    (ap (λ (z : Stream Piece). x ▸ z) (roomy-all xs (b - 1) (t - length (x .bytes)) (last (x .style)) (good-one l x xs g .rest) (omega arith) (omega (arith, n, k))))
+    (ap (λ (z : Stream Refusal Piece). x ▸ z) (roomy-all xs (b - 1) (t - length (x .bytes)) (last (x .style)) (good-one l x xs g .rest) (omega arith) (omega (arith, n, k))))
 
 -- what found room is a front of what was asked, and all of it where all was read
-pub roomy-whole : (s : Stream Piece) (b t : ℕ) (l : Last) (j : ℕ) {r : ℕ} → answer j (roomy b t l s) ≡ Done r → (roomy b t l s ≡ s)
-unfolding roomy answer
+pub roomy-whole : (s : Stream Refusal Piece) (b t : ℕ) (l : Last) (j : ℕ) {r : ℕ} → answer j (roomy b t l s) ≡ Done r → (roomy b t l s ≡ s)
+unfolding roomy ended
 roomy-whole end b t l j e = refl
 roomy-whole (stop r) b t l j e = refl
 roomy-whole (x ▸ s) b t l j {r} e = go (starts l (x .style) && eqb b 0) (ltb t (length (x .bytes))) e
     (λ d. roomy-whole s (cond (starts l (x .style)) (b - 1) b) (t - length (x .bytes)) (last (x .style)) (j + 1) d)
   where
-    more : Stream Piece
+    more : Stream Refusal Piece
     more = roomy (cond (starts l (x .style)) (b - 1) b) (t - length (x .bytes)) (last (x .style)) s
 
     go : (y z : Bool) → answer j (cond y (stop (refusal BlockRoom)) (cond z (stop (refusal TextRoom)) (x ▸ more))) ≡ Done r
@@ -65,7 +64,7 @@ roomy-whole (x ▸ s) b t l j {r} e = go (starts l (x .style) && eqb b 0) (ltb t
         → cond y (stop (refusal BlockRoom)) (cond z (stop (refusal TextRoom)) (x ▸ more)) ≡ x ▸ s
     go true z d f = absurd (done-refused (sym d))
     go false true d f = absurd (done-refused (sym d))
-    go false false d f = ap (λ (q : Stream Piece). x ▸ q) (f d)
+    go false false d f = ap (λ (q : Stream Refusal Piece). x ▸ q) (f d)
 
 -- blocks of differing styles stay as they are
 not-true : (b : Bool) → not b ≡ true → b ≡ false
@@ -85,14 +84,14 @@ blocks-apart [] g = refl
 blocks-apart (x ∷ xs) g = apart xs (x .style) (x .bytes) (good-one none x xs g .rest)
 
 -- the text that found room
-pub roomy-text : (s : Stream Piece) (b t : ℕ) (l : Last) (j : ℕ) {r : ℕ} → answer j (roomy b t l s) ≡ Done r → length (textOf (items (roomy b t l s))) ≤ t
-unfolding roomy answer items textOf
+pub roomy-text : (s : Stream Refusal Piece) (b t : ℕ) (l : Last) (j : ℕ) {r : ℕ} → answer j (roomy b t l s) ≡ Done r → length (textOf (items (roomy b t l s))) ≤ t
+unfolding roomy ended items textOf
 roomy-text end b t l j e = omega arith
 roomy-text (stop r) b t l j e = omega arith
 roomy-text (x ▸ s) b t l j {r} e = go (starts l (x .style) && eqb b 0) (ltb t (length (x .bytes))) refl e
     (λ d. roomy-text s (cond (starts l (x .style)) (b - 1) b) (t - length (x .bytes)) (last (x .style)) (j + 1) d)
   where
-    more : Stream Piece
+    more : Stream Refusal Piece
     more = roomy (cond (starts l (x .style)) (b - 1) b) (t - length (x .bytes)) (last (x .style)) s
 
     go : (y z : Bool) → ltb t (length (x .bytes)) ≡ z → answer j (cond y (stop (refusal BlockRoom)) (cond z (stop (refusal TextRoom)) (x ▸ more))) ≡ Done r
@@ -128,10 +127,8 @@ pub take-filled : (total : ℕ) (ws : List ℕ) (n : ℕ) → length ws ≡ n �
 take-filled total ws n e = take-at ws (replicate (total - length ws) 0) n e
 
 -- what a list reads to, where its blocks are known and find room
-pub record Reads (s : List ℕ) (xs : List Piece) (b t : ℕ) : Type 0 where
-  pub answer : storedAnswer b t s ≡ Read (record { blocks = length xs; text = length (textOf xs) })
-  pub blocks : storedBlocks b t s ≡ filled b (records 0 xs)
-  pub text : storedText b t s ≡ filled t (textOf xs)
+abbrev pub Reads : List ℕ → List Piece → ℕ → ℕ → Type 0
+Reads s xs b t = ReadsAs s (record { blocks = length xs; text = length (textOf xs) }) (records 0 xs) (textOf xs) b t
 
 pub stored-reads : (s : List ℕ) (xs : List Piece) (b t : ℕ) → placed b t s ≡ all xs → Good none xs ≡ true → Reads s xs b t
 unfolding storedAnswer storedBlocks storedText

@@ -14,14 +14,14 @@ use Rattle.answers.specs.Answers.{refusal, Found, found, refused}
 use Rattle.wellformed.specs.WellFormed.{isUtf8}
 use Rattle.styles.specs.declared.Style.{Style}
 use Rattle.styles.specs.Styles.{styleWords}
-use Rattle.pages.specs.Pages.{Piece, piece, Last, starts}
+use Rattle.blocks.specs.Pages.{Piece, piece, Last, starts}
 use Rattle.fields.specs.Fields.{inRange, styleNumbers, styleFrom}
 use Rattle.fields.proofs.Styles.{style-there, style-back, numbers-small, style-small}
-use Rattle.entries.specs.declared.Entry.{Entry}
-use Rattle.entries.specs.declared.Entry.the-variants.{Is, Bad}
-use Rattle.entries.specs.Entries.{Numbers, numbersFrom, ruled, entryOf, entry}
-use Rattle.entries.proofs.Entries.{Entered, entry-is, Sized, numbers-sized}
-use Rattle.putting.specs.Blocks.{numbersBytes, blockNumbers, blockBytes}
+use Rattle.stored.specs.declared.entry.Entry.{Entry}
+use Rattle.stored.specs.declared.entry.Entry.the-variants.{Is, Bad}
+use Rattle.stored.specs.Entries.{Numbers, numbersFrom, ruled, entryOf, entry}
+use Rattle.stored.proofs.Entries.{Entered, entry-is, Sized, numbers-sized}
+use Rattle.storing.specs.Bytes.{numbersBytes, blockNumbers, blockBytes}
 use Rattle.roundtrips.specs.Trips.{Bytes, Words}
 use Rattle.roundtrips.proofs.Numbers.{numbers-written, numbers-read, ReadBack}
 

@@ -11,24 +11,25 @@ use native.Mathlib.Omega.{arith}
 use lib.ListN.{length, take, drop, take-append-drop}
 use lib.Seq.{drop-append-seam, take-append-seam, drop-drop}
 use Rattle.answers.specs.declared.Outcome.the-variants.{Done}
-use Rattle.rooms.specs.Streams.{Stream, _▸_, items, answer}
+use Rattle.rooms.specs.Streams.{Stream, _▸_, items, answer, ended}
 use Rattle.rooms.proofs.Streams.{done-refused}
 use Rattle.sevens.specs.declared.Numeral.{Numeral}
 use Rattle.sevens.specs.declared.Numeral.the-variants.{Is as Numbered, Bad as BadNumber, Short}
 use Rattle.sevens.specs.Sevens.{numberOf, written}
 use Rattle.sevens.proofs.Sevens.{read-written, written-read}
 use Rattle.styles.specs.declared.Style.{Style}
-use Rattle.pages.specs.Pages.{Piece, piece, Last, none, last}
-use Rattle.entries.specs.declared.Entry.{Entry}
-use Rattle.entries.specs.declared.Entry.the-variants.{Is, Bad}
-use Rattle.entries.specs.Entries.{entry}
+use Rattle.blocks.specs.Pages.{Piece, piece, Last, none, last}
+use Rattle.stored.specs.declared.entry.Entry.{Entry}
+use Rattle.stored.specs.declared.entry.Entry.the-variants.{Is, Bad}
+use Rattle.stored.specs.Entries.{entry}
 use Rattle.stored.specs.Stored.{over, entered, blocksFrom, counted, stored}
-use Rattle.putting.specs.Blocks.{numbersBytes, blockNumbers, blockBytes, blocksBytes, listBytes}
+use Rattle.storing.specs.Bytes.{numbersBytes, blockNumbers, blockBytes, blocksBytes, listBytes}
 use Rattle.storing.specs.Good.{Good}
 use Rattle.storing.proofs.Writing.{good-one, one-good}
 use Rattle.roundtrips.specs.Trips.{Bytes, Small, all}
 use Rattle.roundtrips.proofs.Numbers.{bytes-drop}
 use Rattle.roundtrips.proofs.Blocks.{Fit, entry-written, Back, entry-read}
+use Rattle.answers.specs.declared.Refusal.{Refusal}
 
 pub good-fit : (l : Last) (x : Piece) (xs : List Piece) → Good l (x ∷ xs) ≡ true → Small (x ∷ xs) → Fit l x
 good-fit l x xs g (w, h, more) =
@@ -48,7 +49,7 @@ module _ (x : Piece) (t : List ℕ) where
   unfolding m blockBytes
   behind-numbers = ap (drop m) (append-assoc (numbersBytes (blockNumbers x)) (x .bytes) t) ∙ drop-append-seam (numbersBytes (blockNumbers x)) (x .bytes ++ t)
 
-  pub entered-written : (l : Last) (more : Last → List ℕ → Stream Piece) → Fit l x
+  pub entered-written : (l : Last) (more : Last → List ℕ → Stream Refusal Piece) → Fit l x
       → entered (entry l (blockBytes x ++ t)) (blockBytes x ++ t) more ≡ x ▸ more (last (x .style)) t
   unfolding m
   entered-written l more f =
@@ -62,7 +63,7 @@ unfolding blocksFrom blocksBytes all
 blocks-written [] l g s = refl
 blocks-written (x ∷ xs) l g s =
     entered-written x (blocksBytes xs) l (blocksFrom (length xs)) (good-fit l x xs g s)
-    ∙ ap (λ (z : Stream Piece). x ▸ z) (blocks-written xs (last (x .style)) (good-one l x xs g .rest) (s .2))
+    ∙ ap (λ (z : Stream Refusal Piece). x ▸ z) (blocks-written xs (last (x .style)) (good-one l x xs g .rest) (s .2))
 
 pub list-written : (xs : List Piece) → Good none xs ≡ true → Small xs → length xs < 4294967296 → stored (listBytes xs) ≡ all xs
 unfolding stored listBytes
@@ -71,7 +72,7 @@ list-written xs g s h =
 
 -- ---- read, then written
 
-pub record Read (k : ℕ) (l : Last) (s : List ℕ) (q : Stream Piece) : Type 0 where
+pub record Read (k : ℕ) (l : Last) (s : List ℕ) (q : Stream Refusal Piece) : Type 0 where
   pub whole : q ≡ all (items q)
   pub bytes : s ≡ blocksBytes (items q)
   pub good : Good l (items q) ≡ true
@@ -79,15 +80,15 @@ pub record Read (k : ℕ) (l : Last) (s : List ℕ) (q : Stream Piece) : Type 0 
   pub counted : length (items q) ≡ k
 
 read-over : (l : Last) (s : List ℕ) (j : ℕ) {r : ℕ} → answer j (over s) ≡ Done r → Read 0 l s (over s)
-unfolding answer items all blocksBytes Good
+unfolding ended items all blocksBytes Good
 read-over l [] j e = record { whole = refl; bytes = refl; good = refl; small = omega arith; counted = refl }
 read-over l (b ∷ s) j e = absurd (done-refused (sym e))
 
-read-more : (k : ℕ) (l : Last) (s : List ℕ) (st : Style) (m n : ℕ) (q : Stream Piece) → Back l s st m n → Read k (last st) (drop (m + n) s) q
+read-more : (k : ℕ) (l : Last) (s : List ℕ) (st : Style) (m n : ℕ) (q : Stream Refusal Piece) → Back l s st m n → Read k (last st) (drop (m + n) s) q
     → Read (suc k) l s (piece st (take n (drop m s)) ▸ q)
 unfolding items all blocksBytes
 read-more k l s st m n q b r = record {
-  whole = ap (λ (z : Stream Piece). piece st (take n (drop m s)) ▸ z) (r .whole);
+  whole = ap (λ (z : Stream Refusal Piece). piece st (take n (drop m s)) ▸ z) (r .whole);
   bytes = sym (take-append-drop (m + n) s) ∙ rw (b .bytes, ← r .bytes);
   good = good-more l (piece st (take n (drop m s))) (items q) (b .fit) (r .good);
   small = (b .fit .words, b .fit .short, r .small);
@@ -95,7 +96,7 @@ read-more k l s st m n q b r = record {
 }
 
 pub blocks-read : (k : ℕ) (l : Last) (s : List ℕ) → Bytes s → (j : ℕ) {r : ℕ} → answer j (blocksFrom k l s) ≡ Done r → Read k l s (blocksFrom k l s)
-unfolding blocksFrom answer
+unfolding blocksFrom ended
 blocks-read zero l s b j e = read-over l s j e
 blocks-read (suc k) l s b j {r} e = go (entry l s) refl e (λ l′ m d. blocks-read k l′ (drop m s) (bytes-drop s m b) (j + 1) d)
   where
@@ -106,7 +107,7 @@ blocks-read (suc k) l s b j {r} e = go (entry l s) refl e (λ l′ m d. blocks-r
     go (Bad q) d f more = absurd (done-refused (sym f))
 
 -- the blocks of a list that is accepted
-pub record Accepted (s : List ℕ) (q : Stream Piece) : Type 0 where
+pub record Accepted (s : List ℕ) (q : Stream Refusal Piece) : Type 0 where
   pub whole : q ≡ all (items q)
   pub bytes : s ≡ listBytes (items q)
   pub good : Good none (items q) ≡ true
@@ -114,7 +115,7 @@ pub record Accepted (s : List ℕ) (q : Stream Piece) : Type 0 where
   pub few : length (items q) < 4294967296
 
 pub list-read : (s : List ℕ) → Bytes s → (j : ℕ) {r : ℕ} → answer j (stored s) ≡ Done r → Accepted s (stored s)
-unfolding stored answer listBytes
+unfolding stored ended listBytes
 list-read s b j {r} e = go (numberOf s) refl e
   where
     go : (x : Numeral) → numberOf s ≡ x → answer j (counted x s) ≡ Done r → Accepted s (counted x s)

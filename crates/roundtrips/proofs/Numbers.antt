@@ -11,8 +11,8 @@ use Rattle.sevens.specs.declared.Numeral.{Numeral}
 use Rattle.sevens.specs.declared.Numeral.the-variants.{Is as Numbered, Bad as BadNumber, Short}
 use Rattle.sevens.specs.Sevens.{numberOf, written}
 use Rattle.sevens.proofs.Sevens.{read-written, written-read}
-use Rattle.entries.specs.Entries.{Numbers, behind, andMore, numbersFrom}
-use Rattle.putting.specs.Blocks.{numbersBytes}
+use Rattle.stored.specs.Entries.{Numbers, behind, andMore, numbersFrom}
+use Rattle.storing.specs.Bytes.{numbersBytes}
 use Rattle.roundtrips.specs.Trips.{Bytes, Words}
 
 -- the rest of a list of bytes

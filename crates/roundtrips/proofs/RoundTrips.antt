@@ -1,5 +1,6 @@
 -- The round trips of the stored form (01, Stored form):
---     written-reads   what the writer writes, the reader reads back as the same blocks and text, given room
+--     list-reads      the list of good blocks, whose numbers have 32 bits, the reader reads as those blocks, given room
+--     written-reads   so what the writer writes, it reads back as the same blocks and text
 --     read-writes     what the reader accepts, the writer writes back as the same bytes, given room
 --     one-form        so two lists that read as the same blocks and text are the same bytes
 -- All are about the definitions that the contracts of `stored::read_list` and `storing::write_list` cite. Assumes nothing.
@@ -21,18 +22,17 @@ use Rattle.rooms.specs.Rooms.{capacity, filled, settled, content}
 use Rattle.rooms.proofs.Streams.{done-refused}
 use Rattle.sevens.specs.Sevens.{byteLayout, streamed}
 use Rattle.sevens.proofs.Streamed.{answer-streamed, encode-streamed}
-use Rattle.pages.specs.Pages.{Piece, none, blocks, textOf, records, roomy, textCapacity}
-use Rattle.pages.proofs.Blocks.{length-records}
+use Rattle.blocks.specs.Pages.{Piece, none, blocks, textOf, records, blockWords, roomy, textCapacity}
+use Rattle.blocks.proofs.Blocks.{length-records}
 use Rattle.stored.specs.declared.Counts.{Counts}
-use Rattle.stored.specs.declared.Answer.{Answer}
 use Rattle.stored.specs.declared.Answer.the-variants.{Read}
 use Rattle.stored.specs.Stored.{stored, placed, answered, storedAnswer, storedBlocks, storedText}
-use Rattle.putting.specs.Blocks.{listBytes}
+use Rattle.storing.specs.Bytes.{listBytes}
 use Rattle.storing.specs.Good.{Good}
-use Rattle.lists.specs.Lists.{listStream}
+use Rattle.storing.specs.Lists.{listStream}
 use Rattle.storing.specs.Storing.{writeAnswer, writeRoom}
 use Rattle.storing.proofs.Writing.{stream-ends, write-good}
-use Rattle.roundtrips.specs.Trips.{Bytes, Words, Small, all}
+use Rattle.roundtrips.specs.Trips.{Bytes, Words, Small, all, Room, countsIn, ReadsAs}
 use Rattle.roundtrips.proofs.Lists.{list-written, Accepted, list-read}
 use Rattle.roundtrips.proofs.Ample.{roomy-all, roomy-whole, roomy-text, small-records, take-filled, Reads, stored-reads}
 
@@ -82,18 +82,6 @@ wrote total ws tx {n} e =
       front = ap (take n) (room-is total ws tx bytes e s) ∙ take-filled total bytes n l;
     }
 
--- room for all: b words and t bytes
-pub record Room (ws tx : List ℕ) (b t : ℕ) : Type 0 where
-  pub blocks : length ws ≤ b
-  pub text : length tx ≤ t
-  pub counts : length tx ≤ 2147483647
-
--- the list s reads as these words and this text
-pub record ReadsAs (s ws tx : List ℕ) (b t : ℕ) : Type 0 where
-  pub answer : storedAnswer b t s ≡ Read (record { blocks = length ws / 13; text = length tx })
-  pub blocks : storedBlocks b t s ≡ filled b ws
-  pub text : storedText b t s ≡ filled t tx
-
 capacity-text : (n t : ℕ) → n ≤ t → n ≤ 2147483647 → n ≤ textCapacity t
 capacity-text n t h k = go (ltb t 2147483647)
   where
@@ -102,34 +90,33 @@ capacity-text n t h k = go (ltb t 2147483647)
     go false = k
 
 module _ (xs : List Piece) (good : Good none xs ≡ true) (small : Small xs) (few : length xs < 4294967296) (b t : ℕ) (room : Room (records 0 xs) (textOf xs) b t) where
-  l : length (records 0 xs) ≡ length xs * 13
+  l : length (records 0 xs) ≡ length xs * blockWords
   l = length-records xs 0
 
   all-placed : placed b t (listBytes xs) ≡ all xs
   unfolding placed
   all-placed =
-      ap (roomy (capacity 13 b) (textCapacity t) none) (list-written xs good small few)
-      ∙ roomy-all xs (capacity 13 b) (textCapacity t) none good (omega (arith, l, room .blocks)) (capacity-text (length (textOf xs)) t (room .text) (room .counts))
+      ap (roomy (capacity blockWords b) (textCapacity t) none) (list-written xs good small few)
+      ∙ roomy-all xs (capacity blockWords b) (textCapacity t) none good (omega (arith, l, room .blocks)) (capacity-text (length (textOf xs)) t (room .text) (room .counts))
 
-  reads-back : ReadsAs (listBytes xs) (records 0 xs) (textOf xs) b t
+  pub list-reads : Reads (listBytes xs) xs b t
+  list-reads = stored-reads (listBytes xs) xs b t all-placed good
+
+  reads-back : ReadsAs (listBytes xs) (countsIn (records 0 xs) (textOf xs)) (records 0 xs) (textOf xs) b t
   reads-back =
-      let r = stored-reads (listBytes xs) xs b t all-placed good in
-      let z : length xs ≡ length (records 0 xs) / 13 = omega (arith, l) in
-      record {
-        answer = r .answer ∙ ap (λ (k : ℕ). Read (record { blocks = k; text = length (textOf xs) })) z;
-        blocks = r .blocks;
-        text = r .text;
-      }
+      let z : length xs ≡ length (records 0 xs) / blockWords = omega (arith, l) in
+      subst (λ (k : ℕ). ReadsAs (listBytes xs) (record { blocks = k; text = length (textOf xs) }) (records 0 xs) (textOf xs) b t) z list-reads
 
 pub written-reads : (total : ℕ) (ws tx : List ℕ) {n : ℕ} → Words ws → writeAnswer total ws tx ≡ Done n → (b t : ℕ) → Room ws tx b t
-    → ReadsAs (take n (writeRoom total ws tx)) ws tx b t
+    → ReadsAs (take n (writeRoom total ws tx)) (countsIn ws tx) ws tx b t
 written-reads total ws tx {n} small e b t room =
     let w = wrote total ws tx e in
     let sm : Small (w .xs) = small-records (w .xs) 0 (subst Words (w .words) small) in
     let ro : Room (records 0 (w .xs)) (textOf (w .xs)) b t = subst (λ (v : List ℕ). Room v (textOf (w .xs)) b t) (w .words) (subst (λ (v : List ℕ). Room ws v b t) (w .text) room) in
-    let r : ReadsAs (listBytes (w .xs)) (records 0 (w .xs)) (textOf (w .xs)) b t = reads-back (w .xs) (w .good) sm (w .few) b t ro in
-    subst (λ (v : List ℕ). ReadsAs v ws tx b t) (sym (w .front))
-    (subst (λ (v : List ℕ). ReadsAs (listBytes (w .xs)) v tx b t) (sym (w .words)) (subst (λ (v : List ℕ). ReadsAs (listBytes (w .xs)) (records 0 (w .xs)) v b t) (sym (w .text)) r))
+    let r = reads-back (w .xs) (w .good) sm (w .few) b t ro in
+    subst (λ (v : List ℕ). ReadsAs v (countsIn ws tx) ws tx b t) (sym (w .front))
+    (subst (λ (v : List ℕ). ReadsAs (listBytes (w .xs)) (countsIn v tx) v tx b t) (sym (w .words))
+    (subst (λ (v : List ℕ). ReadsAs (listBytes (w .xs)) (countsIn (records 0 (w .xs)) v) (records 0 (w .xs)) v b t) (sym (w .text)) r))
 
 -- ---- what the reader accepts
 
@@ -139,7 +126,7 @@ read-done ps (Done n) e = (n, refl)
 read-done ps (Refused r) e = let z : _≡_ {A = ℕ} 0 1 = cc in absurd (omega arith)
 
 module _ (s : List ℕ) (b t : ℕ) (bytes : Bytes s) {c : Counts} (e : storedAnswer b t s ≡ Read c) where
-  q : Stream Piece
+  q : Stream Refusal Piece
   q = placed b t s
 
   done : (n : ℕ) × (answer 0 q ≡ Done n)
@@ -149,7 +136,7 @@ module _ (s : List ℕ) (b t : ℕ) (bytes : Bytes s) {c : Counts} (e : storedAn
   -- every block found room
   whole : q ≡ stored s
   unfolding placed q
-  whole = roomy-whole (stored s) (capacity 13 b) (textCapacity t) none 0 (done .1)
+  whole = roomy-whole (stored s) (capacity blockWords b) (textCapacity t) none 0 (done .1)
 
   accepted : Accepted s (stored s)
   accepted = list-read s bytes 0 (ap (answer 0) (sym whole) ∙ done .1)
@@ -160,7 +147,7 @@ module _ (s : List ℕ) (b t : ℕ) (bytes : Bytes s) {c : Counts} (e : storedAn
 
   small-text : length (textOf xs) ≤ textCapacity t
   unfolding placed q xs
-  small-text = subst (λ (z : Stream Piece). length (textOf (items z)) ≤ textCapacity t) whole (roomy-text (stored s) (capacity 13 b) (textCapacity t) none 0 (done .1))
+  small-text = subst (λ (z : Stream Refusal Piece). length (textOf (items z)) ≤ textCapacity t) whole (roomy-text (stored s) (capacity blockWords b) (textCapacity t) none 0 (done .1))
 
   reads : Reads s xs b t
   unfolding xs q
@@ -170,8 +157,8 @@ module _ (s : List ℕ) (b t : ℕ) (bytes : Bytes s) {c : Counts} (e : storedAn
   counts = let z : Read c ≡ Read (record { blocks = length xs; text = length (textOf xs) }) = sym e ∙ reads .answer in (cc, cc)
 
   -- the blocks and the text that the rooms hold
-  words : take (c .blocks * 13) (storedBlocks b t s) ≡ records 0 xs
-  words = ap (take (c .blocks * 13)) (reads .blocks) ∙ take-filled b (records 0 xs) (c .blocks * 13) (length-records xs 0 ∙ ap (λ (n : ℕ). n * 13) (sym (counts .0)))
+  words : take (c .blocks * blockWords) (storedBlocks b t s) ≡ records 0 xs
+  words = ap (take (c .blocks * blockWords)) (reads .blocks) ∙ take-filled b (records 0 xs) (c .blocks * blockWords) (length-records xs 0 ∙ ap (λ (n : ℕ). n * blockWords) (sym (counts .0)))
 
   texts : take (c .text) (storedText b t s) ≡ textOf xs
   texts = ap (take (c .text)) (reads .text) ∙ take-filled t (textOf xs) (c .text) (sym (counts .1))
@@ -185,8 +172,8 @@ module _ (s : List ℕ) (b t : ℕ) (bytes : Bytes s) {c : Counts} (e : storedAn
 
   -- the list is written back as it was
   pub record Writes (total : ℕ) : Type 0 where
-    pub answer : writeAnswer total (take (c .blocks * 13) (storedBlocks b t s)) (take (c .text) (storedText b t s)) ≡ Done (length s)
-    pub room : writeRoom total (take (c .blocks * 13) (storedBlocks b t s)) (take (c .text) (storedText b t s)) ≡ filled total s
+    pub answer : writeAnswer total (take (c .blocks * blockWords) (storedBlocks b t s)) (take (c .text) (storedText b t s)) ≡ Done (length s)
+    pub room : writeRoom total (take (c .blocks * blockWords) (storedBlocks b t s)) (take (c .text) (storedText b t s)) ≡ filled total s
 
   pub read-writes : (total : ℕ) → length s ≤ total → Writes total
   unfolding xs
@@ -200,18 +187,18 @@ module _ (s : List ℕ) (b t : ℕ) (bytes : Bytes s) {c : Counts} (e : storedAn
 
 -- "one meaning has one stored form"
 pub one-form : (s s′ : List ℕ) (b t b′ t′ : ℕ) → Bytes s → Bytes s′ → {c : Counts} → storedAnswer b t s ≡ Read c → storedAnswer b′ t′ s′ ≡ Read c
-    → take (c .blocks * 13) (storedBlocks b t s) ≡ take (c .blocks * 13) (storedBlocks b′ t′ s′) → take (c .text) (storedText b t s) ≡ take (c .text) (storedText b′ t′ s′)
+    → take (c .blocks * blockWords) (storedBlocks b t s) ≡ take (c .blocks * blockWords) (storedBlocks b′ t′ s′) → take (c .text) (storedText b t s) ≡ take (c .text) (storedText b′ t′ s′)
     → s ≡ s′
 one-form s s′ b t b′ t′ by by′ {c} e e′ p r =
     let total : ℕ = length s + length s′ in
     let x = read-writes s b t by e total (omega arith) in
     let y = read-writes s′ b′ t′ by′ e′ total (omega arith) in
-    let ws : List ℕ = take (c .blocks * 13) (storedBlocks b t s) in
+    let ws : List ℕ = take (c .blocks * blockWords) (storedBlocks b t s) in
     let tx : List ℕ = take (c .text) (storedText b t s) in
     let a : writeAnswer total ws tx ≡ Done (length s′) = subst (λ (v : List ℕ). writeAnswer total v tx ≡ Done (length s′)) (sym p)
-    (subst (λ (v : List ℕ). writeAnswer total (take (c .blocks * 13) (storedBlocks b′ t′ s′)) v ≡ Done (length s′)) (sym r) (y .answer)) in
+    (subst (λ (v : List ℕ). writeAnswer total (take (c .blocks * blockWords) (storedBlocks b′ t′ s′)) v ≡ Done (length s′)) (sym r) (y .answer)) in
     let f : writeRoom total ws tx ≡ filled total s′ = subst (λ (v : List ℕ). writeRoom total v tx ≡ filled total s′) (sym p)
-    (subst (λ (v : List ℕ). writeRoom total (take (c .blocks * 13) (storedBlocks b′ t′ s′)) v ≡ filled total s′) (sym r) (y .room)) in
+    (subst (λ (v : List ℕ). writeRoom total (take (c .blocks * blockWords) (storedBlocks b′ t′ s′)) v ≡ filled total s′) (sym r) (y .room)) in
     let d : Done (length s) ≡ Done (length s′) = sym (x .answer) ∙ a in
     let l : length s ≡ length s′ = cc in
     sym (take-filled total s (length s) refl) ∙ ap (take (length s)) (sym (x .room) ∙ f) ∙ take-filled total s′ (length s) (sym l)

@@ -6,10 +6,11 @@ use Prim.Native.Nat.{ℕ, zero, suc}
 use lib.ListN.{getD, drop}
 use lib.Dec.{eqb}
 use Rattle.tokens.specs.declared.Property.{Property}
-use Rattle.items.specs.declared.Item.{Item}
-use Rattle.items.specs.declared.Item.the-variants.{Text, Opening, Closing, LineBreak, Ignorable, Word, Unknown}
-use Rattle.items.specs.Items.{itemOf, itemAt, shownOf, shownAll, numberAt}
+use Rattle.tokens.specs.declared.item.Item.{Item}
+use Rattle.tokens.specs.declared.item.Item.the-variants.{Text, Opening, Closing, LineBreak, Ignorable, Word, Unknown}
+use Rattle.tokens.specs.Items.{itemOf, itemAt, shownOf, shownAll, numberAt}
 use Rattle.runs.specs.Runs.{isUnit, runLength, numberOf, runNumbers, numbersOf}
+use Rattle.tokens.specs.Tokens.{tokenWords}
 
 -- a `u` word's number stands in its record
 module _ (src : List ℕ) (w p n : ℕ) (num : Property) where
@@ -35,9 +36,9 @@ unit-number src ws h =
 pub run-numbers : (src : List ℕ) (n : ℕ) (ws : List ℕ) → numbersOf (runLength (shownAll src n ws)) ws ≡ runNumbers (shownAll src n ws)
 unfolding shownAll runLength runNumbers numbersOf
 run-numbers src zero ws = refl
-run-numbers src (suc n) ws = go (isUnit (shownOf src (itemAt ws))) refl (run-numbers src n (drop 6 ws))
+run-numbers src (suc n) ws = go (isUnit (shownOf src (itemAt ws))) refl (run-numbers src n (drop tokenWords ws))
   where
-    go : (u : Bool) → isUnit (shownOf src (itemAt ws)) ≡ u → numbersOf (runLength (shownAll src n (drop 6 ws))) (drop 6 ws) ≡ runNumbers (shownAll src n (drop 6 ws))
-        → numbersOf (cond u (suc (runLength (shownAll src n (drop 6 ws)))) zero) ws ≡ cond u (numberOf (shownOf src (itemAt ws)) ∷ runNumbers (shownAll src n (drop 6 ws))) []
-    go true e ih = ap (λ (m : Property). m ∷ numbersOf (runLength (shownAll src n (drop 6 ws))) (drop 6 ws)) (unit-number src ws e) ∙ ap (λ (ns : List Property). numberOf (shownOf src (itemAt ws)) ∷ ns) ih
+    go : (u : Bool) → isUnit (shownOf src (itemAt ws)) ≡ u → numbersOf (runLength (shownAll src n (drop tokenWords ws))) (drop tokenWords ws) ≡ runNumbers (shownAll src n (drop tokenWords ws))
+        → numbersOf (cond u (suc (runLength (shownAll src n (drop tokenWords ws)))) zero) ws ≡ cond u (numberOf (shownOf src (itemAt ws)) ∷ runNumbers (shownAll src n (drop tokenWords ws))) []
+    go true e ih = ap (λ (m : Property). m ∷ numbersOf (runLength (shownAll src n (drop tokenWords ws))) (drop tokenWords ws)) (unit-number src ws e) ∙ ap (λ (ns : List Property). numberOf (shownOf src (itemAt ws)) ∷ ns) ih
     go false e ih = refl

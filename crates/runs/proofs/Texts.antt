@@ -17,9 +17,9 @@ use Rattle.answers.specs.declared.Refusal.{Refusal}
 use Rattle.answers.specs.declared.Why.the-variants.{TextRoom}
 use Rattle.answers.specs.Answers.{refusal}
 use Rattle.tokens.specs.declared.Property.{Property}
-use Rattle.tokens.specs.Tokens.{valueOf}
-use Rattle.items.specs.Items.{numberAt}
-use Rattle.items.proofs.Items.{rest as restWords, words-less}
+use Rattle.tokens.specs.Tokens.{valueOf, tokenWords}
+use Rattle.tokens.specs.Items.{numberAt}
+use Rattle.tokens.proofs.Items.{rest as restWords, words-less}
 use Rattle.utf8.specs.declared.Encoded.{Encoded}
 use Rattle.utf8.specs.Utf8.{written, encodedOf}
 use Rattle.utf8.proofs.Utf8.{encoded-length, encoded-bytes}
@@ -28,12 +28,12 @@ use Rattle.units.specs.declared.Gave.{Gave}
 use Rattle.units.specs.Units.{units, utf8All, values, step, before, runText}
 use Rattle.units.proofs.Units.{Fit, fit-before, fit-step, rest, text-start, text-step, text-end, text-values, text-flushed}
 use Rattle.styles.specs.declared.Style.{Style}
-use Rattle.pages.specs.declared.Page.{Page}
-use Rattle.pages.specs.declared.Laid.{Laid}
-use Rattle.pages.specs.declared.Laid.the-variants.{On, Full}
-use Rattle.pages.specs.Pages.{textCapacity}
-use Rattle.pages.specs.Laying.{Laying, on, off, told, startOf, appendOf, appendTo, addOf, ReadyBlocks, Ready, Still}
-use Rattle.pages.proofs.Laying.{append-none, append-append}
+use Rattle.blocks.specs.declared.Page.{Page}
+use Rattle.blocks.specs.declared.Laid.{Laid}
+use Rattle.blocks.specs.declared.Laid.the-variants.{On, Full}
+use Rattle.blocks.specs.Pages.{textCapacity}
+use Rattle.blocks.specs.Laying.{Laying, on, off, told, startOf, appendOf, appendTo, addOf, ReadyBlocks, Ready, Still}
+use Rattle.blocks.proofs.Laying.{append-none, append-append}
 use Rattle.runs.specs.Runs.{numbersOf, some, saidOf, Appends, runLaid}
 use Rattle.runs.proofs.Loops.{numbers-none, numbers-some}
 
@@ -89,14 +89,14 @@ within-kept h g e k = rw k (within h g e)
 
 -- what was told of a run, and what is left: the text of what is left, appended here, is the text of the whole, appended there
 pub record Telling (skip : ℕ) (s : List ℕ) (count : ℕ) (page : Page) (text₀ t : List ℕ) (n : ℕ) (run : Run) (p : Page) (text : List ℕ) : Type 0 where
-  pub words : n * 6 ≤ length t
+  pub words : n * tokenWords ≤ length t
   pub fit : Fit run
   pub room : p .text ≤ textCapacity (length text)
   pub long : length text ≡ length text₀
   pub still : (w : ℕ) → ReadyBlocks page w → ReadyBlocks p w
   pub left : (b : List ℕ) → appendOf p (utf8All (rest skip run (numbersOf n t))) b text ≡ appendOf page (runText skip (numbersOf count s)) b text₀
 
-pub tell-start : (skip : ℕ) (s : List ℕ) (count : ℕ) (page : Page) (text : List ℕ) {run : Run} → run ≡ before → count * 6 ≤ length s
+pub tell-start : (skip : ℕ) (s : List ℕ) (count : ℕ) (page : Page) (text : List ℕ) {run : Run} → run ≡ before → count * tokenWords ≤ length s
     → page .text ≤ textCapacity (length text) → Telling skip s count page text s count run page text
 tell-start skip s count page text e h g = record {
   words = h;
@@ -123,15 +123,15 @@ module _ {skip : ℕ} {s : List ℕ} {count : ℕ} {page : Page} {text₀ t : Li
   module _ (z : 0 < n) {num : Property} (e : num ≡ numberAt t) (small : valueOf num < 4294967296) {g : Gave} (q : g ≡ step skip run num)
       {r : Laid} {text′ : List ℕ} (h : Appends p (saidOf (g .lost) 65533 ++ saidOf (g .some) (g .value)) text r text′) where
     -- the text of the token, and the text behind it
-    told-one : (b : List ℕ) → appendTo (told r b text′) (utf8All (rest skip (g .run) (numbersOf (n - 1) (restWords t 6)))) ≡ appendOf page (runText skip (numbersOf count s)) b text₀
+    told-one : (b : List ℕ) → appendTo (told r b text′) (utf8All (rest skip (g .run) (numbersOf (n - 1) (restWords t tokenWords)))) ≡ appendOf page (runText skip (numbersOf count s)) b text₀
     told-one b =
-        let more : List ℕ = utf8All (rest skip (g .run) (numbersOf (n - 1) (restWords t 6))) in
+        let more : List ℕ = utf8All (rest skip (g .run) (numbersOf (n - 1) (restWords t tokenWords))) in
         let v : List ℕ = saidOf (g .lost) 65533 ++ saidOf (g .some) (g .value) in
         let a : utf8All (rest skip run (numbersOf n t)) ≡ v ++ more =
         ap (λ (ns : List Property). utf8All (rest skip run ns)) (numbers-some n t z)
-        ∙ ap (λ (m : Property). utf8All (rest skip run (m ∷ numbersOf (n - 1) (restWords t 6)))) (sym e)
-        ∙ text-step skip num (numbersOf (n - 1) (restWords t 6)) (l .fit)
-        ∙ ap (λ (m : Gave). utf8All (values m) ++ utf8All (rest skip (m .run) (numbersOf (n - 1) (restWords t 6)))) (sym q)
+        ∙ ap (λ (m : Property). utf8All (rest skip run (m ∷ numbersOf (n - 1) (restWords t tokenWords)))) (sym e)
+        ∙ text-step skip num (numbersOf (n - 1) (restWords t tokenWords)) (l .fit)
+        ∙ ap (λ (m : Gave). utf8All (values m) ++ utf8All (rest skip (m .run) (numbersOf (n - 1) (restWords t tokenWords)))) (sym q)
         ∙ ap (λ (bs : List ℕ). bs ++ more) (text-values skip run num small g q) in
         ap (λ (m : Laying). appendTo m more) (h .lays b)
         ∙ append-append p v more b text (l .room)
@@ -141,7 +141,7 @@ module _ {skip : ℕ} {s : List ℕ} {count : ℕ} {page : Page} {text₀ t : Li
     pub tell-full : {k : Refusal} → r ≡ Full k → Appends page (runText skip (numbersOf count s)) text₀ (Full k) text′
     tell-full {k} f = record { lays = λ b. rw f at (told-one b); stays = λ w y. omega arith }
 
-    pub tell-more : {p′ : Page} → r ≡ On p′ → length text′ ≡ length text → Telling skip s count page text₀ (restWords t 6) (n - 1) (g .run) p′ text′
+    pub tell-more : {p′ : Page} → r ≡ On p′ → length text′ ≡ length text → Telling skip s count page text₀ (restWords t tokenWords) (n - 1) (g .run) p′ text′
     tell-more {p′} f m = record {
       words = words-less n t (l .words);
       fit = rw q (fit-step skip num (l .fit));

@@ -9,17 +9,18 @@ use Rattle.tokens.specs.declared.Property.{Property}
 use Rattle.tokens.specs.declared.Property.the-variants.{None}
 use Rattle.tokens.specs.Tokens.{Shown, tokenWords}
 use Rattle.tokens.specs.Tokens
-use Rattle.items.specs.Items.{numberAt}
+use Rattle.tokens.specs.Items.{numberAt}
 use Rattle.utf8.specs.Utf8.{written}
 use Rattle.units.specs.Units.{units}
 use Rattle.styles.specs.declared.Style.{Style}
-use Rattle.pages.specs.declared.Page.{Page}
-use Rattle.pages.specs.declared.Laid.{Laid}
-use Rattle.pages.specs.Laying.{Laying, on, told, appendOf, addOf, ReadyBlocks, Still}
+use Rattle.blocks.specs.declared.Page.{Page}
+use Rattle.blocks.specs.declared.Laid.{Laid}
+use Rattle.blocks.specs.Laying.{Laying, on, told, appendOf, addOf, ReadyBlocks, Still}
+use Rattle.tokens.specs.WordNumbers as words
 
 -- whether a token is a `u` word: number 2 of the names
 abbrev pub isUnit : Shown → Bool
-isUnit (Shown.word w num) = eqb w 2
+isUnit (Shown.word w num) = eqb w words.unicode
 isUnit (Shown.text p bs) = false
 isUnit Shown.opening = false
 isUnit Shown.closing = false

@@ -6,15 +6,17 @@
 //   run_text    the text of a run
 //   lay_run     the same in its block; a run without a unit starts none
 use answers::Refusal;
-use items::Item;
-use items::item_at;
-use items::number_at;
-use pages::Laid;
-use pages::Page;
-use pages::append;
-use pages::start;
+use blocks::Laid;
+use blocks::Page;
+use blocks::append;
+use blocks::start;
 use styles::Style;
 use tokens::Property;
+use tokens::TOKEN_WORDS;
+use tokens::item::Item;
+use tokens::item::item_at;
+use tokens::item::number_at;
+use tokens::words;
 use units::Gave;
 use units::Run;
 use units::step;
@@ -23,17 +25,18 @@ ghost use mathlib.Core.Path.{_≡_};
 ghost use mathlib.Core.List.{List, _++_};
 ghost use Prim.Native.Nat.{ℕ, _*_, _≤_, _<_};
 ghost use lib.ListN.{length};
-ghost use Rattle.items.specs.Items.{shownOf, shownAll};
+ghost use Rattle.tokens.specs.Items.{shownOf, shownAll};
 ghost use Rattle.units.specs.Units.{units as unitsOf, unitOf, values, runText};
-ghost use Rattle.pages.specs.Pages.{textCapacity};
-ghost use Rattle.pages.specs.Laying.{told, Ready, Still};
+ghost use Rattle.blocks.specs.Pages.{textCapacity};
+ghost use Rattle.blocks.specs.Laying.{told, Ready, Still};
 ghost use Rattle.runs.specs.Runs.{isUnit, runLength, numbersOf, some as someOf, saidOf, Appends, runLaid};
+ghost use Rattle.tokens.specs.Tokens.{tokenWords};
 
 fn is_unit(i: Item) -> bool
     ensures { λ r. ⌜ ((src : List ℕ) → r ≡ isUnit (shownOf src i)) ⌝ }
 {
     match i {
-        Item::Word(w, _) => w == 2,
+        Item::Word(w, _) => w == words::UNICODE,
         Item::Text(_, _) => false,
         Item::Opening => false,
         Item::Closing => false,
@@ -45,7 +48,7 @@ fn is_unit(i: Item) -> bool
 
 // How many `u` tokens stand in front.
 pub fn run_length(s: &[u32], count: usize) -> usize
-    requires { ⌜ count * 6 ≤ length (now s) ⌝ }
+    requires { ⌜ count * tokenWords ≤ length (now s) ⌝ }
     ensures { λ r. ⌜ ((src : List ℕ) → r ≡ runLength (shownAll src count (now (s .entry)))) × (r ≤ count) ⌝ }
 {
     let mut t = s;
@@ -55,7 +58,7 @@ pub fn run_length(s: &[u32], count: usize) -> usize
         if !is_unit(i) {
             return count - n;
         }
-        t = &t[6..];
+        t = &t[TOKEN_WORDS..];
         n -= 1;
     }
     count
@@ -73,7 +76,7 @@ fn gives(number: Property) -> bool
 
 // Whether one of the first `count` tokens' numbers gives a unit.
 fn has_unit(s: &[u32], count: usize) -> bool
-    requires { ⌜ count * 6 ≤ length (now s) ⌝ }
+    requires { ⌜ count * tokenWords ≤ length (now s) ⌝ }
     ensures { λ r. ⌜ r ≡ someOf (unitsOf (numbersOf count (now (s .entry)))) ⌝ }
 {
     let mut t = s;
@@ -83,7 +86,7 @@ fn has_unit(s: &[u32], count: usize) -> bool
         if gives(number) {
             return true;
         }
-        t = &t[6..];
+        t = &t[TOKEN_WORDS..];
         n -= 1;
     }
     false
@@ -116,7 +119,7 @@ fn say(p: Page, lost: bool, some: bool, value: u32, text: &mut [u8]) -> Laid
 
 // The text of the first `count` tokens, which are `u` words.
 fn run_text(s: &[u32], count: usize, skip: u32, page: Page, text: &mut [u8]) -> Laid
-    requires { ⌜ (count * 6 ≤ length (now s)) × (page .text ≤ textCapacity (length (now text))) ⌝ }
+    requires { ⌜ (count * tokenWords ≤ length (now s)) × (page .text ≤ textCapacity (length (now text))) ⌝ }
     ensures { λ r. ⌜ Appends page (runText skip (numbersOf count (now (s .entry)))) (now (text .entry)) r (now (text .exit)) ⌝ }
 {
     let mut t = s;
@@ -127,7 +130,7 @@ fn run_text(s: &[u32], count: usize, skip: u32, page: Page, text: &mut [u8]) -> 
         let number = number_at(t);
         let g = step(skip, run, number);
         let said = say(p, g.lost, g.some, g.value, text);
-        t = &t[6..];
+        t = &t[TOKEN_WORDS..];
         n -= 1;
         run = g.run;
         match said {
@@ -152,7 +155,7 @@ pub fn lay_run(
     blocks: &mut [u32],
     text: &mut [u8],
 ) -> Laid
-    requires { ⌜ (count * 6 ≤ length (now s)) × Ready page (length (now blocks)) (length (now text)) ⌝ }
+    requires { ⌜ (count * tokenWords ≤ length (now s)) × Ready page (length (now blocks)) (length (now text)) ⌝ }
     ensures { λ r. ⌜ told r (now (blocks .exit)) (now (text .exit)) ≡ runLaid page style (numbersOf count (now (s .entry))) (runText skip (numbersOf count (now (s .entry)))) (now (blocks .entry)) (now (text .entry)) ⌝ }
     ensures { λ r. ⌜ Still r (length (now (blocks .entry))) (length (now (text .entry))) ⌝ }
 {

@@ -1,9 +1,8 @@
--- 01's sample letters, as one list under one statement: each is computed through the whole of the definitions. Assumes nothing.
+-- The letters of specs/Letters, each list under one statement: each letter is computed through the whole of the definitions. Assumes nothing.
 use mathlib.Core.Path.{_≡_, refl}
 use mathlib.Core.List.{List, [], _∷_}
 use mathlib.Core.Bool.{Bool, true, _&&_}
 use Prim.Native.Nat.{ℕ}
-use Prim.Native.String.{String}
 use lib.ListN.{length}
 use lib.Dec.{eqb}
 use Rattle.answers.specs.Answers.{Found, found, refused}
@@ -11,51 +10,27 @@ use Rattle.bytes.specs.Bytes.{lead, body, any}
 use Rattle.bytes.specs.Texts.{bytesOf}
 use Rattle.names.specs.Names.{sameBytes, placeIn, wordNumber}
 use Rattle.numbers.specs.Numbers.{hexDigit, hexPair, digitsFrom, digits, decimal}
-use Rattle.rooms.specs.Streams.{andThen, each, answer, items}
+use Rattle.rooms.specs.Streams.{andThen, each, answer, items, ended}
 use Rattle.rooms.specs.Rooms.{settled, tableLimit}
 use Rattle.slices.specs.Slices.{split, slices}
-use Rattle.tokens.specs.Tokens.{recordOf}
+use Rattle.tokens.specs.Tokens.{recordOf, shownBy}
 use Rattle.tokenize.specs.Tokenize.{mark, plain, hexValue, hexEscape, lineBreakAnd, shownWord, numbered, named, bareLength, wordTail, word, other, escaped, tokens}
 use Rattle.cutter.specs.Cutting.{located, last, allSlices, trimmed, tokenStream, cutAnswer}
 use Rattle.utf8.specs.Utf8.{utf8, written}
 use Rattle.units.specs.Units.{unitOf, units, later, kept, decode, utf8All, runText}
 use Rattle.walk.specs.Walk.{aimFrom, extent, walkFrom}
-use Rattle.rows.specs.Rows.{fontWords, tableWords, hasKey, inserted, stored}
+use Rattle.fonts.specs.Rows.{fontRecord, tableWords, hasKey, inserted, stored}
 use Rattle.fonts.specs.Fonts.{named as fontNamed, fontWord, fontToken, fontsFrom, fonts}
 use Rattle.colours.specs.Colours.{colourWordOf, colourToken, coloursFrom, colours}
 use Rattle.header.specs.Header.{tablesFrom}
-use Rattle.styles.specs.declared.Reading.the-variants.{Plain}
+use Rattle.readings.specs.declared.Reading.the-variants.{Plain}
 use Rattle.styles.specs.Styles.{flagged, fitted, alignment, spacing, measured, character, change, flagsNumber, styleOf}
-use Rattle.pages.specs.Pages.{blocksFrom, blocks, textOf, records, roomy}
-use Rattle.acts.specs.Body.{gather, asks, bodyFrom}
+use Rattle.blocks.specs.Pages.{blockRecord, blocksFrom, blocks, textOf, records, roomy}
+use Rattle.body.specs.Body.{gather, asks, bodyFrom}
+use Rattle.parser.specs.declared.Answer.the-variants.{Read}
 use Rattle.parser.specs.Parsing.{Sizes, Letter, placed, bodied, answerNumber}
-use Rattle.reader.specs.Reading.{shownBy, letterOf, answered}
-
--- a letter; its answer; its text; its fonts' words; how many blocks it has
-record Sample : Type 0 where
-  letter : String
-  number : ℕ
-  text : List ℕ
-  fonts : List ℕ
-  blocks : ℕ
-
-samples : List Sample
-samples =
-    record { letter = "{}"; number = 0; text = []; fonts = []; blocks = 0 }
-    ∷ record { letter = ""; number = 8; text = []; fonts = []; blocks = 0 }
-    ∷ record { letter = "{\\u8212 \\'97}"; number = 0; text = 226 ∷ 128 ∷ 148 ∷ []; fonts = []; blocks = 1 }
-    ∷ record { letter = "{\\'e9\\'e8}"; number = 0; text = 195 ∷ 169 ∷ []; fonts = []; blocks = 1 }
-    ∷ record { letter = "{\\u-3913 }"; number = 0; text = 239 ∷ 130 ∷ 183 ∷ []; fonts = []; blocks = 1 }
-    ∷ record { letter = "{\\u-10179 \\u-8704 }"; number = 0; text = 240 ∷ 159 ∷ 152 ∷ 128 ∷ []; fonts = []; blocks = 1 }
-    ∷ record { letter = "{\\u-10179 }"; number = 0; text = 239 ∷ 191 ∷ 189 ∷ []; fonts = []; blocks = 1 }
-    ∷ record { letter = "{\\u8217?}"; number = 0; text = []; fonts = []; blocks = 0 }
-    ∷ record { letter = "{a}}"; number = 0; text = bytesOf "a"; fonts = []; blocks = 1 }
-    ∷ record { letter = "{a}}}"; number = 14; text = []; fonts = []; blocks = 0 }
-    ∷ record { letter = "{a\\~b}"; number = 0; text = bytesOf "a"; fonts = []; blocks = 1 }
-    ∷ record { letter = "{a{\\*x}b}"; number = 0; text = bytesOf "ab"; fonts = []; blocks = 1 }
-    ∷ record { letter = "{\\\\{a}}"; number = 0; text = bytesOf "\\{a"; fonts = []; blocks = 1 }
-    ∷ record { letter = "{\\fonttbl{\\f1 Arial;}}"; number = 0; text = []; fonts = 0 ∷ 0 ∷ 0 ∷ 1 ∷ 14 ∷ 5 ∷ []; blocks = 0 }
-    ∷ []
+use Rattle.reader.specs.Reading.{letterOf, answered, readAnswer, blockRoom, textRoom}
+use Rattle.samples.specs.Letters.{Sample, samples, telling, crowded, cramped, listed, listedCounts, listedBlocks, listedText}
 
 -- rooms enough for each
 room : Sizes
@@ -67,10 +42,45 @@ says s (found l) =
     eqb 0 (s .number) && (sameBytes (textOf (l .pieces)) (s .text) && (sameBytes (tableWords (l .tables .fonts)) (s .fonts) && eqb (length (blocks (l .pieces))) (s .blocks)))
 says s (refused r) = eqb (answerNumber (answered [] (refused r))) (s .number)
 
-holds : List Sample → Bool
-holds [] = true
-holds (s ∷ ss) = says s (letterOf Plain (bytesOf (s .letter)) room) && holds ss
+holds : Sizes → List Sample → Bool
+holds z [] = true
+holds z (s ∷ ss) = says s (letterOf Plain (bytesOf (s .letter)) z) && holds z ss
 
-sample-letters : holds samples ≡ true
-unfolding holds says samples room letterOf shownBy bodied placed roomy bodyFrom asks gather blocks blocksFrom textOf records tableWords fontWords walkFrom extent aimFrom tablesFrom fonts fontsFrom fontToken fontWord stored inserted hasKey fontNamed colours coloursFrom colourToken colourWordOf tableLimit runText utf8All decode kept later units unitOf utf8 written change styleOf flagsNumber flagged fitted alignment spacing measured character cutAnswer tokenStream trimmed allSlices last located settled answer items each andThen split slices lead body any tokens escaped other word wordTail bareLength named numbered shownWord lineBreakAnd hexEscape hexValue plain mark wordNumber placeIn sameBytes hexDigit hexPair digitsFrom digits decimal recordOf
+sample-letters : holds room samples ≡ true
+unfolding holds says samples room letterOf shownBy bodied placed roomy bodyFrom asks gather blocks blocksFrom textOf records tableWords fontRecord walkFrom extent aimFrom tablesFrom fonts fontsFrom fontToken fontWord stored inserted hasKey fontNamed colours coloursFrom colourToken colourWordOf tableLimit runText utf8All decode kept later units unitOf utf8 written change styleOf flagsNumber flagged fitted alignment spacing measured character cutAnswer tokenStream trimmed allSlices last located settled ended items each andThen split slices lead body any tokens escaped other word wordTail bareLength named numbered shownWord lineBreakAnd hexEscape hexValue plain mark wordNumber placeIn sameBytes hexDigit hexPair digitsFrom digits decimal recordOf
 sample-letters = refl
+
+telling-letters : holds room telling ≡ true
+unfolding holds says telling room letterOf shownBy bodied placed roomy bodyFrom asks gather blocks blocksFrom textOf records tableWords fontRecord walkFrom extent aimFrom tablesFrom fonts fontsFrom fontToken fontWord stored inserted hasKey fontNamed colours coloursFrom colourToken colourWordOf tableLimit runText utf8All decode kept later units unitOf utf8 written change styleOf flagsNumber flagged fitted alignment spacing measured character cutAnswer tokenStream trimmed allSlices last located settled ended items each andThen split slices lead body any tokens escaped other word wordTail bareLength named numbered shownWord lineBreakAnd hexEscape hexValue plain mark wordNumber placeIn sameBytes hexDigit hexPair digitsFrom digits decimal recordOf
+telling-letters = refl
+
+-- no room, and room for tokens alone
+nowhere : Sizes
+nowhere = record { tokens = 0; fonts = 0; colours = 0; blocks = 0; text = 0 }
+
+tokens-alone : Sizes
+tokens-alone = record { tokens = 96; fonts = 0; colours = 0; blocks = 0; text = 0 }
+
+crowded-letters : holds nowhere crowded ≡ true
+unfolding holds says crowded nowhere letterOf shownBy bodied placed roomy bodyFrom asks gather blocks blocksFrom textOf records tableWords fontRecord walkFrom extent aimFrom tablesFrom fonts fontsFrom fontToken fontWord stored inserted hasKey fontNamed colours coloursFrom colourToken colourWordOf tableLimit runText utf8All decode kept later units unitOf utf8 written change styleOf flagsNumber flagged fitted alignment spacing measured character cutAnswer tokenStream trimmed allSlices last located settled ended items each andThen split slices lead body any tokens escaped other word wordTail bareLength named numbered shownWord lineBreakAnd hexEscape hexValue plain mark wordNumber placeIn sameBytes hexDigit hexPair digitsFrom digits decimal recordOf
+crowded-letters = refl
+
+cramped-letters : holds tokens-alone cramped ≡ true
+unfolding holds says cramped tokens-alone letterOf shownBy bodied placed roomy bodyFrom asks gather blocks blocksFrom textOf records tableWords fontRecord walkFrom extent aimFrom tablesFrom fonts fontsFrom fontToken fontWord stored inserted hasKey fontNamed colours coloursFrom colourToken colourWordOf tableLimit runText utf8All decode kept later units unitOf utf8 written change styleOf flagsNumber flagged fitted alignment spacing measured character cutAnswer tokenStream trimmed allSlices last located settled ended items each andThen split slices lead body any tokens escaped other word wordTail bareLength named numbered shownWord lineBreakAnd hexEscape hexValue plain mark wordNumber placeIn sameBytes hexDigit hexPair digitsFrom digits decimal recordOf
+cramped-letters = refl
+
+-- the sample listing, in rooms that its records fill
+just : Sizes
+just = record { tokens = 36; fonts = 0; colours = 0; blocks = 26; text = 2 }
+
+listing-answer : readAnswer Plain (bytesOf listed) just ≡ Read listedCounts
+unfolding readAnswer listed listedCounts just letterOf shownBy bodied placed roomy bodyFrom asks gather blocks blocksFrom textOf records tableWords fontRecord walkFrom extent aimFrom tablesFrom fonts fontsFrom fontToken fontWord stored inserted hasKey fontNamed colours coloursFrom colourToken colourWordOf tableLimit runText utf8All decode kept later units unitOf utf8 written change styleOf flagsNumber flagged fitted alignment spacing measured character cutAnswer tokenStream trimmed allSlices last located settled ended items each andThen split slices lead body any tokens escaped other word wordTail bareLength named numbered shownWord lineBreakAnd hexEscape hexValue plain mark wordNumber placeIn sameBytes hexDigit hexPair digitsFrom digits decimal recordOf
+listing-answer = refl
+
+listing-blocks : blockRoom Plain (bytesOf listed) just ≡ listedBlocks
+unfolding blockRoom blockRecord listed listedBlocks just letterOf shownBy bodied placed roomy bodyFrom asks gather blocks blocksFrom textOf records tableWords fontRecord walkFrom extent aimFrom tablesFrom fonts fontsFrom fontToken fontWord stored inserted hasKey fontNamed colours coloursFrom colourToken colourWordOf tableLimit runText utf8All decode kept later units unitOf utf8 written change styleOf flagsNumber flagged fitted alignment spacing measured character cutAnswer tokenStream trimmed allSlices last located settled ended items each andThen split slices lead body any tokens escaped other word wordTail bareLength named numbered shownWord lineBreakAnd hexEscape hexValue plain mark wordNumber placeIn sameBytes hexDigit hexPair digitsFrom digits decimal recordOf
+listing-blocks = refl
+
+listing-text : textRoom Plain (bytesOf listed) just ≡ listedText
+unfolding textRoom listed listedText just letterOf shownBy bodied placed roomy bodyFrom asks gather blocks blocksFrom textOf records tableWords fontRecord walkFrom extent aimFrom tablesFrom fonts fontsFrom fontToken fontWord stored inserted hasKey fontNamed colours coloursFrom colourToken colourWordOf tableLimit runText utf8All decode kept later units unitOf utf8 written change styleOf flagsNumber flagged fitted alignment spacing measured character cutAnswer tokenStream trimmed allSlices last located settled ended items each andThen split slices lead body any tokens escaped other word wordTail bareLength named numbered shownWord lineBreakAnd hexEscape hexValue plain mark wordNumber placeIn sameBytes hexDigit hexPair digitsFrom digits decimal recordOf
+listing-text = refl

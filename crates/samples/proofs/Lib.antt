@@ -1,3 +1,3 @@
--- Letters: 01's sample letters. Fonts: the font tables of telling token lists.
+-- Letters: the letters of specs/Letters, computed. Fonts: the token lists of specs/Fonts, computed.
 mod Letters
 mod Fonts

@@ -1,4 +1,6 @@
 // Letters and token lists, computed through the definitions. This crate holds theorems and no code.
 //
-//   proofs/Letters   01's fourteen sample letters
-//   proofs/Fonts     the font tables of telling token lists
+//   specs/Letters   01's fourteen sample letters, its sample listing, letters that tell its easy errors and the order of refusals
+//   specs/Fonts     telling token lists, and the fonts that each must give
+//
+// proofs/ computes each through the definitions.

@@ -28,6 +28,7 @@ use Rattle.sevens.proofs.Bits.{group-bits, mark-bits}
 use Rattle.sevens.proofs.Tests.{or-some}
 use Rattle.sevens.proofs.Sevens.{Whole, isCut, not-cut, whole-is, fewer}
 use Rattle.sevens.proofs.Sevens.{groups-last, groups-more, high-low, high-high, value-low}
+use Rattle.rooms.specs.Streams.{byRefusal}
 
 -- ---- reading
 
@@ -176,8 +177,8 @@ put-past room n b h = put-out 1 room n (b ∷ []) (omega arith)
 -- who writes g has then written v
 abbrev Follows : ℕ → ℕ → List ℕ → ℕ → List ℕ → List ℕ → Type 0
 Follows n v room₀ at room g =
-    (r : Outcome) (room′ : List ℕ) → Wrote byteLayout at room (streamed g) r room′
-    → Wrote byteLayout n room₀ (streamed (written v)) r room′
+    (r : Outcome) (room′ : List ℕ) → Wrote byteLayout byRefusal at room (streamed g) r room′
+    → Wrote byteLayout byRefusal n room₀ (streamed (written v)) r room′
 
 -- k groups with the high bit may be left
 pub record Putting (n v : ℕ) (room₀ : List ℕ) (at rest : ℕ) (room : List ℕ) : Type 0 where
@@ -192,7 +193,7 @@ putting-start n v room h = record { k = 4; place = refl; small = omega arith; sa
 
 module _ (n v : ℕ) (room₀ : List ℕ) (at rest : ℕ) (room : List ℕ) (p : Putting n v room₀ at rest room)
     (b : ℕ) (room′ : List ℕ) (q : room′ ≡ put 1 room at (b ∷ [])) where
-  pub putting-done : rest < 128 → b ≡ rest → Wrote byteLayout n room₀ (streamed (written v)) (Done (at + 1)) room′
+  pub putting-done : rest < 128 → b ≡ rest → Wrote byteLayout byRefusal n room₀ (streamed (written v)) (Done (at + 1)) room′
   unfolding streamed
   putting-done h e =
       p .left (Done (at + 1)) room′

@@ -9,6 +9,7 @@ use Rattle.rooms.specs.Rooms.{Layout}
 use Rattle.rooms.specs.Streams.{Stream, end, _▸_}
 use Rattle.sevens.specs.declared.Numeral.{Numeral}
 use Rattle.sevens.specs.declared.Numeral.the-variants.{Is, Bad, Short}
+use Rattle.answers.specs.declared.Refusal.{Refusal}
 
 -- the groups of a number: at most k, and then what is left as the last one
 unfoldable pub groups : ℕ → ℕ → List ℕ
@@ -50,6 +51,6 @@ abbrev pub byteLayout : Layout ℕ
 byteLayout = record { width = 1; words = λ b. b ∷ [] }
 
 -- a list as a stream that ends
-unfoldable pub streamed : List ℕ → Stream ℕ
+unfoldable pub streamed : List ℕ → Stream Refusal ℕ
 streamed [] = end
 streamed (b ∷ s) = b ▸ streamed s

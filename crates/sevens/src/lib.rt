@@ -10,6 +10,7 @@ ghost use mathlib.Core.List.{[], _∷_};
 ghost use Prim.Native.Nat.{_≤_, _<_};
 ghost use Rattle.rooms.specs.Rooms.{Wrote, put as putWords};
 ghost use Rattle.sevens.specs.Sevens.{written, numberOf, byteLayout, streamed};
+ghost use Rattle.rooms.specs.Streams.{byRefusal};
 
 pub enum Numeral {
     Is(u32, usize),
@@ -83,7 +84,7 @@ pub fn put_byte(room: &mut [u8], n: usize, b: u8)
 // A number's bytes from place n of a room on. The next place.
 pub fn put_number(v: u32, room: &mut [u8], n: usize) -> usize
     requires { ⌜ n ≤ 9223372036854775807 ⌝ }
-    ensures { λ r. ⌜ Wrote byteLayout n (now (room .entry)) (streamed (written v)) (Outcome.Done r) (now (room .exit)) ⌝ }
+    ensures { λ r. ⌜ Wrote byteLayout byRefusal n (now (room .entry)) (streamed (written v)) (Outcome.Done r) (now (room .exit)) ⌝ }
 {
     let mut rest = v;
     let mut at = n;

@@ -12,8 +12,8 @@ use Rattle.slices.specs.Slices.{startsSlice, upTo, sliceLength}
 use Rattle.bytes.specs.Bytes.{isSpecial, any, lead}
 use Rattle.bytes.proofs.Runs.{or-left, or-right}
 use borrow.Author.Tests.{ne-eqb}
-use Rattle.eights.specs.Eights.{packed, marked, isPlain}
-use Rattle.eights.proofs.Marking.{unmarked, some-marked, lead-plain, lead-special}
+use Rattle.slices.specs.Eights.{packed, marked, isPlain}
+use Rattle.slices.proofs.Marking.{unmarked, some-marked, lead-plain, lead-special}
 use Rattle.slices.proofs.Slices.{lastByte, lastByte-at}
 
 pub end-none : (s : List ℕ) → length s ≡ 0 → 0 ≡ sliceLength s

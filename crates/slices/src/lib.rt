@@ -1,13 +1,15 @@
 // Slices: where a letter is cut apart (01, Cutting; the loop of `Lexer::scan` in the crate).
-use eights::first_mark;
-use eights::marks_of;
+mod eights;
+
+use crate::eights::first_mark;
+use crate::eights::marks_of;
 ghost use mathlib.Core.Path.{_≡_};
 ghost use Prim.Native.Nat.{_+_, _-_, _≤_, _<_};
 ghost use lib.ListN.{length, getD, drop};
 ghost use Rattle.slices.specs.Slices.{startsSlice, upTo, sliceLength};
 
 // Whether b starts a new slice behind the byte `before`.
-pub fn starts_slice(before: u8, b: u8) -> bool
+fn starts_slice(before: u8, b: u8) -> bool
     ensures { λ r. ⌜ r ≡ startsSlice before b ⌝ }
 {
     bytes::is_special(b) & (before != b'\\')

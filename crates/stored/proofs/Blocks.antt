@@ -14,9 +14,9 @@ use Rattle.rooms.specs.Streams.{end, stop}
 use Rattle.sevens.specs.declared.Numeral.{Numeral}
 use Rattle.sevens.specs.declared.Numeral.the-variants.{Is as Numbered, Bad as BadNumber, Short}
 use Rattle.sevens.specs.Sevens.{numberOf}
-use Rattle.pages.specs.Pages.{Last, none}
-use Rattle.entries.specs.Entries.{entry}
-use Rattle.entries.proofs.Entries.{part}
+use Rattle.blocks.specs.Pages.{Last, none}
+use Rattle.stored.specs.Entries.{entry}
+use Rattle.stored.proofs.Entries.{part}
 use Rattle.stored.specs.Stored.{over, entered, blocksFrom, stored}
 
 pub blocks-next : (n j : ℕ) (l : Last) (t : List ℕ) → n ≡ suc j → blocksFrom n l t ≡ entered (entry l t) t (blocksFrom j)

@@ -11,17 +11,17 @@ use Rattle.answers.specs.declared.Refusal.{Refusal}
 use Rattle.answers.specs.declared.Why.the-variants.{StoredLong}
 use Rattle.answers.specs.Answers.{refusal}
 use Rattle.styles.specs.declared.Style.{Style}
-use Rattle.pages.specs.declared.Page.{Page}
-use Rattle.pages.specs.declared.Laid.{Laid}
-use Rattle.pages.specs.declared.Laid.the-variants.{On, Full}
-use Rattle.pages.specs.Pages.{none, last}
-use Rattle.pages.specs.Laying.{on, off, told, blank, addOf, layAll, Ready, Still}
-use Rattle.pages.proofs.Laying.{lay-off, ready-blank}
+use Rattle.blocks.specs.declared.Page.{Page}
+use Rattle.blocks.specs.declared.Laid.{Laid}
+use Rattle.blocks.specs.declared.Laid.the-variants.{On, Full}
+use Rattle.blocks.specs.Pages.{none, last}
+use Rattle.blocks.specs.Laying.{on, off, told, blank, addOf, layAll, Ready, Still}
+use Rattle.blocks.proofs.Laying.{lay-off, ready-blank}
 use Rattle.fields.specs.Fields.{lastOf}
-use Rattle.entries.specs.declared.Entry.{Entry}
-use Rattle.entries.specs.declared.Entry.the-variants.{Is, Bad}
-use Rattle.entries.specs.Entries.{entry}
-use Rattle.entries.proofs.Entries.{part}
+use Rattle.stored.specs.declared.entry.Entry.{Entry}
+use Rattle.stored.specs.declared.entry.Entry.the-variants.{Is, Bad}
+use Rattle.stored.specs.Entries.{entry}
+use Rattle.stored.proofs.Entries.{part}
 use Rattle.stored.specs.Stored.{entered, blocksFrom}
 use Rattle.stored.proofs.Blocks.{blocks-next, blocks-over, over-some, over-none}
 

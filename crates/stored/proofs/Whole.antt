@@ -14,15 +14,15 @@ use Rattle.rooms.specs.Streams.{Stream, items, answer}
 use Rattle.sevens.specs.declared.Numeral.{Numeral}
 use Rattle.sevens.specs.declared.Numeral.the-variants.{Is as Numbered, Bad as BadNumber, Short}
 use Rattle.sevens.specs.Sevens.{numberOf}
-use Rattle.pages.specs.declared.Page.{Page}
-use Rattle.pages.specs.declared.Laid.{Laid}
-use Rattle.pages.specs.declared.Laid.the-variants.{On, Full}
-use Rattle.pages.specs.Pages.{Piece, none, blocks}
-use Rattle.pages.specs.Laying.{Laying, on, off, told, blank, blockCount, lastPut, layAll}
-use Rattle.pages.proofs.Settling.{lay-refuses, lay-joins, Joined, Filled, joined-filled}
+use Rattle.blocks.specs.declared.Page.{Page}
+use Rattle.blocks.specs.declared.Laid.{Laid}
+use Rattle.blocks.specs.declared.Laid.the-variants.{On, Full}
+use Rattle.blocks.specs.Pages.{Piece, none, blocks, blockWords}
+use Rattle.blocks.specs.Laying.{Laying, on, off, told, blank, blockCount, lastPut, layAll}
+use Rattle.blocks.proofs.Settling.{lay-refuses, lay-joins, Joined, Filled, joined-filled}
 use Rattle.stored.specs.declared.Answer.{Answer}
 use Rattle.stored.specs.declared.Answer.the-variants.{Read, Refuses}
-use Rattle.stored.specs.Stored.{blocksFrom, stored, placed, storedAnswer, storedBlocks, storedText}
+use Rattle.stored.specs.Stored.{blocksFrom, stored, placed, storedAnswer, storedBlocks, storedText, ReadsList}
 use Rattle.stored.proofs.Blocks.{stored-is, stored-bad, stored-short}
 
 module _ (s : List ℕ) {x : Numeral} (d : x ≡ numberOf s) (b t : List ℕ) where
@@ -39,16 +39,10 @@ module _ (s : List ℕ) {x : Numeral} (d : x ≡ numberOf s) (b t : List ℕ) wh
   unfolding layAll
   lay-short e f = rw (f, stored-short s d e)
 
--- the answer, and what the two rooms hold
-pub record Whole (s b t : List ℕ) (r : Answer) (b′ t′ : List ℕ) : Type 0 where
-  pub answer : r ≡ storedAnswer (length b) (length t) s
-  pub blocks : b′ ≡ storedBlocks (length b) (length t) s
-  pub text : t′ ≡ storedText (length b) (length t) s
-
 module _ (s b t : List ℕ) (l : Laid) (b₁ t₁ : List ℕ) (h : told l b₁ t₁ ≡ layAll (on blank b t) (stored s)) where
   pub list-full : {k : Refusal} → l ≡ Full k → {r : Answer} {b₂ t₂ : List ℕ} → r ≡ Refuses k → b₂ ≡ replicate (length b₁) 0
       → t₂ ≡ replicate (length t₁) 0
-      → length b₁ ≡ length b → length t₁ ≡ length t → Whole s b t r b₂ t₂
+      → length b₁ ≡ length b → length t₁ ≡ length t → ReadsList s b t r b₂ t₂
   unfolding storedAnswer storedBlocks storedText placed
   list-full {k} e f g i lb lt =
       let a : answer 0 (placed (length b) (length t) s) ≡ Refused k = lay-refuses (stored s) b t (sym h ∙ ap (λ (m : Laid). told m b₁ t₁) e) in
@@ -60,11 +54,11 @@ module _ (s b t : List ℕ) (l : Laid) (b₁ t₁ : List ℕ) (h : told l b₁ t
     joined = lay-joins (stored s) b t (sym h ∙ ap (λ (m : Laid). told m b₁ t₁) e)
 
     pub list-laid : {n : ℕ} {b₂ b₃ t₂ : List ℕ} → b₂ ≡ lastPut p b₁ → n ≡ blockCount p
-        → b₃ ≡ take (n * 13) b₂ ++ replicate (length b₂ - n * 13) 0
-        → t₂ ≡ take (p .text) t₁ ++ replicate (length t₁ - p .text) 0 → Whole s b t (Read (record { blocks = n; text = p .text })) b₃ t₂
+        → b₃ ≡ take (n * blockWords) b₂ ++ replicate (length b₂ - n * blockWords) 0
+        → t₂ ≡ take (p .text) t₁ ++ replicate (length t₁ - p .text) 0 → ReadsList s b t (Read (record { blocks = n; text = p .text })) b₃ t₂
     unfolding storedAnswer storedBlocks storedText
     list-laid {n} {b₂} {b₃} {t₂} g q u v =
-        let st : Stream Piece = placed (length b) (length t) s in
+        let st : Stream Refusal Piece = placed (length b) (length t) s in
         let i : Filled st b t n (p .text) b₃ t₂ = joined-filled joined g q u v in
         record {
           answer = rw (joined .done) (ap (λ (m : ℕ). Read (record { blocks = m; text = p .text })) (i .counted)

@@ -3,25 +3,29 @@
 //   Answer     how many blocks and bytes of text were read, or a refusal
 //   read_list  the whole: each room holds its records and zeros, or zeros alone
 //
-// `read_list` is total. It reads blocks by `entries::block_at`.
+// `read_list` is total. It reads blocks by `crate::entry::block_at`.
+pub mod check;
+mod entry;
+
+use crate::entry::Entry;
+use crate::entry::block_at;
 use answers::Refusal;
 use answers::Why;
-use entries::Entry;
-use entries::block_at;
-use pages::BLOCK_WORDS;
-use pages::Laid;
-use pages::Page;
-use pages::add;
-use pages::finish;
+use blocks::BLOCK_WORDS;
+use blocks::Laid;
+use blocks::Page;
+use blocks::add;
+use blocks::finish;
 use rooms::clear_bytes_from;
 use rooms::clear_from;
+use rooms::wide;
 use sevens::Numeral;
 use sevens::number_at;
 ghost use mathlib.Core.Path.{_≡_};
 ghost use lib.ListN.{length, replicate};
-ghost use Rattle.pages.specs.Pages.{none};
-ghost use Rattle.pages.specs.Laying.{told, on, layAll, blank as blankPage, Still};
-ghost use Rattle.stored.specs.Stored.{blocksFrom, stored, storedAnswer, storedBlocks, storedText};
+ghost use Rattle.blocks.specs.Pages.{none};
+ghost use Rattle.blocks.specs.Laying.{told, on, layAll, blank as blankPage, Still};
+ghost use Rattle.stored.specs.Stored.{blocksFrom, stored, ReadsList};
 ghost use Rattle.stored.specs.Stored.{answerNumber, answerCounts};
 
 // How many blocks, and how many bytes of text.
@@ -35,13 +39,7 @@ pub enum Answer {
     Refuses(Refusal),
 }
 
-fn wide(x: u32) -> usize
-    ensures { λ r. ⌜ r ≡ x ⌝ }
-{
-    x as usize
-}
-
-// Lays k blocks onto a page. The last block's record is left to `pages::finish`.
+// Lays k blocks onto a page. The last block's record is left to `blocks::finish`.
 fn lay_blocks(list: &[u8], k: usize, blocks: &mut [u32], text: &mut [u8]) -> Laid
     ensures { λ r. ⌜ told r (now (blocks .exit)) (now (text .exit))
         ≡ layAll (on blankPage (now (blocks .entry)) (now (text .entry))) (blocksFrom k none (now (list .entry))) ⌝ }
@@ -109,11 +107,7 @@ fn refuse(refusal: Refusal, blocks: &mut [u32], text: &mut [u8]) -> Answer
 
 // Reads a stored list.
 pub fn read_list(list: &[u8], blocks: &mut [u32], text: &mut [u8]) -> Answer
-    ensures answer { λ r. ⌜ r ≡ storedAnswer (length (now (blocks .entry))) (length (now (text .entry))) (now (list .entry)) ⌝ }
-    ensures block_room { λ _. ⌜ now (blocks .exit)
-        ≡ storedBlocks (length (now (blocks .entry))) (length (now (text .entry))) (now (list .entry)) ⌝ }
-    ensures text_room { λ _. ⌜ now (text .exit)
-        ≡ storedText (length (now (blocks .entry))) (length (now (text .entry))) (now (list .entry)) ⌝ }
+    ensures { λ r. ⌜ ReadsList (now (list .entry)) (now (blocks .entry)) (now (text .entry)) r (now (blocks .exit)) (now (text .exit)) ⌝ }
 {
     let laid = lay_list(list, blocks, text);
     match laid {

@@ -6,14 +6,14 @@ use Prim.Native.Nat.{ℕ}
 use lib.Dec.{eqb}
 use lib.ListN.{length}
 use Rattle.answers.specs.Answers.{outcomeNumber, outcomeCount}
-use Rattle.rooms.specs.Streams.{andThen, answer}
+use Rattle.rooms.specs.Streams.{andThen, answer, ended}
 use Rattle.rooms.specs.Rooms.{filled, encode, settled, content}
 use Rattle.sevens.specs.Sevens.{groups, streamed}
 use Rattle.wellformed.specs.WellFormed.{behind, goesOn}
 use Rattle.fields.specs.Fields.{folded, inRange, styleNumbers}
-use Rattle.fitting.specs.Fitting.{fits}
-use Rattle.putting.specs.Blocks.{numbersBytes, blockBytes}
-use Rattle.lists.specs.Lists.{piecesFrom, bytesOf, listStream}
+use Rattle.storing.specs.Fitting.{fits}
+use Rattle.storing.specs.Bytes.{numbersBytes, blockBytes}
+use Rattle.storing.specs.Lists.{piecesFrom, bytesOf, listStream}
 use Rattle.storing.specs.Storing.{writeAnswer, writeRoom}
 
 -- words and a text, a room's bytes, the answer's number, and the list; the count is its length, and the room's rest is zero
@@ -79,5 +79,5 @@ every [] = true
 every (c ∷ cs) = right c && every cs
 
 cases-right : every cases ≡ true
-unfolding cases written refused row right every sameBytes andThen answer encode settled content groups streamed behind goesOn folded inRange styleNumbers numbersBytes blockBytes fits piecesFrom bytesOf listStream writeAnswer writeRoom
+unfolding cases written refused row right every sameBytes andThen ended encode settled content groups streamed behind goesOn folded inRange styleNumbers numbersBytes blockBytes fits piecesFrom bytesOf listStream writeAnswer writeRoom
 cases-right = refl

@@ -1,5 +1,10 @@
--- Settling: what was written, and the room at the end. Cases: small lists, computed. Cited above: Writing, what is written,
--- and of which blocks; Tight, any two permitted results coincide.
+-- Laws that the crates above cite: Fitting, of a record's tests; Putting, of a block's bytes; Lists, of the whole list; Writing, what is
+-- written, and of which blocks; Tight, that one result is permitted. For this crate alone: Rows, of the loop over the records; Settling, of
+-- the room at the end; Cases, small lists, computed.
+pub mod Lists
+mod Rows
+pub mod Putting
+pub mod Fitting
 mod Settling
 mod Cases
 pub mod Writing

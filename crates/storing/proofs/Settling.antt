@@ -15,14 +15,14 @@ use Rattle.answers.specs.declared.Why.the-variants.{OutputRoom}
 use Rattle.answers.specs.declared.Outcome.{Outcome}
 use Rattle.answers.specs.declared.Outcome.the-variants.{Done, Refused}
 use Rattle.answers.specs.Answers.{refusal, outcomeCount}
-use Rattle.rooms.specs.Streams.{Stream, count}
+use Rattle.rooms.specs.Streams.{Stream, count, byRefusal}
 use Rattle.rooms.specs.Rooms.{Wrote, encode, settled, content}
 use Rattle.rooms.proofs.Streams.{answer-count, done-refused}
 use Rattle.rooms.proofs.Rooms.{length-encode, putAll-front, settled-fits, settled-over}
 use Rattle.rooms.proofs.Clearing.{cleared, filled-front}
 use Rattle.sevens.specs.Sevens.{byteLayout}
-use Rattle.putting.proofs.Putting.{wrote-length}
-use Rattle.lists.specs.Lists.{listStream}
+use Rattle.storing.proofs.Putting.{wrote-length}
+use Rattle.storing.specs.Lists.{listStream}
 use Rattle.storing.specs.Storing.{writeAnswer, writeRoom}
 
 pub settle-fits : (o : Outcome) (total : ℕ) → outcomeCount o ≤ total → o ≡ settled byteLayout (refusal OutputRoom) total o
@@ -48,7 +48,7 @@ settled-done (Done n) total m = go (leb n (total / 1)) refl
     go false e d = absurd (done-refused (sym d))
 settled-done (Refused r) total m = λ d. absurd (done-refused (sym d))
 
-module _ (ws tx : List ℕ) {room room′ : List ℕ} {o r : Outcome} (w : Wrote byteLayout 0 room (listStream ws tx) o room′)
+module _ (ws tx : List ℕ) {room room′ : List ℕ} {o r : Outcome} (w : Wrote byteLayout byRefusal 0 room (listStream ws tx) o room′)
     (e : r ≡ settled byteLayout (refusal OutputRoom) (length room′) o) where
   pub settle-answer : r ≡ writeAnswer (length room) ws tx
   unfolding writeAnswer
@@ -61,7 +61,7 @@ module _ (ws tx : List ℕ) {room room′ : List ℕ} {o r : Outcome} (w : Wrote
     done-room : r ≡ Done n → room″ ≡ content byteLayout (length room) (Done n) (listStream ws tx)
     unfolding content
     done-room d =
-        let s : Stream ℕ = listStream ws tx in
+        let s : Stream Refusal ℕ = listStream ws tx in
         let q = settled-done o (length room′) n (sym e ∙ d) in
         let c : n ≡ count s = answer-count s 0 n (sym (w .says) ∙ q .0) ∙ omega arith in
         let k : n ≡ count s * 1 = omega arith in

@@ -18,7 +18,7 @@ use Rattle.answers.specs.declared.Why.the-variants.{StoredField, OutputRoom}
 use Rattle.answers.specs.declared.Outcome.the-variants.{Done}
 use Rattle.answers.specs.Answers.{refusal}
 use Rattle.bytes.proofs.Runs.{and-left, and-right}
-use Rattle.rooms.specs.Streams.{Stream, end, stop, andThen, answer}
+use Rattle.rooms.specs.Streams.{Stream, end, stop, andThen, answer, ended}
 use Rattle.rooms.specs.Rooms.{filled, settled, content}
 use Rattle.rooms.proofs.Streams.{answer-then, done-refused}
 use Rattle.rooms.proofs.Rooms.{settled-fits}
@@ -26,15 +26,16 @@ use Rattle.sevens.specs.Sevens.{written, byteLayout, streamed}
 use Rattle.sevens.proofs.Streamed.{answer-streamed, streamed-append, encode-streamed}
 use Rattle.wellformed.specs.WellFormed.{isUtf8}
 use Rattle.fields.specs.Fields.{inRange}
-use Rattle.pages.specs.Pages.{Piece, piece, Last, none, last, starts, textOf, blockRecord, records}
-use Rattle.pages.proofs.Blocks.{length-records}
-use Rattle.fitting.specs.Fitting.{styleAt, placeAt, lengthAt, fits}
-use Rattle.fitting.proofs.Fitting.{Fit, fits-fit, fit-all}
-use Rattle.putting.specs.Blocks.{blockBytes, blocksBytes, listBytes}
-use Rattle.lists.specs.Lists.{piecesFrom, bytesOf, whole, listStream}
-use Rattle.lists.proofs.Lists.{list-is}
+use Rattle.blocks.specs.Pages.{Piece, piece, Last, none, last, starts, textOf, blockRecord, records, blockWords}
+use Rattle.blocks.proofs.Blocks.{length-records}
+use Rattle.storing.specs.Fitting.{styleAt, placeAt, lengthAt, fits}
+use Rattle.storing.proofs.Fitting.{Fit, fits-fit, fit-all}
+use Rattle.storing.specs.Bytes.{blockBytes, blocksBytes, listBytes}
+use Rattle.storing.specs.Lists.{piecesFrom, bytesOf, whole, listStream}
+use Rattle.storing.proofs.Lists.{list-is}
 use Rattle.storing.specs.Storing.{writeAnswer, writeRoom}
 use Rattle.storing.specs.Good.{Good}
+use Rattle.answers.specs.declared.Refusal.{Refusal}
 
 -- ---- good blocks
 
@@ -82,12 +83,12 @@ good-count (x ∷ xs) l h =
 module _ (k : ℕ) (l : Last) (p : ℕ) (ws tx : List ℕ) where
   row-more : fits l p ws tx ≡ true → bytesOf (piecesFrom (suc k) l p ws tx)
       ≡ andThen (streamed (blockBytes (piece (styleAt ws) (take (lengthAt ws) (drop p tx)))))
-      (bytesOf (piecesFrom k (last (styleAt ws)) (p + lengthAt ws) (drop 13 ws) tx))
+      (bytesOf (piecesFrom k (last (styleAt ws)) (p + lengthAt ws) (drop blockWords ws) tx))
   unfolding piecesFrom bytesOf
   row-more f = rw f
 
   row-stop : fits l p ws tx ≡ false → (m n : ℕ) → answer m (bytesOf (piecesFrom (suc k) l p ws tx)) ≡ Done n → ⊥
-  unfolding piecesFrom bytesOf answer
+  unfolding piecesFrom bytesOf ended
   row-stop f m n e = done-refused (sym (rw f at e))
 
 blocks-cons : (x : Piece) (xs : List Piece)
@@ -109,7 +110,7 @@ module _ (x : Piece) (p : ℕ) (ws : List ℕ) where
   unfolding blockRecord
   record-length = refl
 
-  record-rest : drop 13 (blockRecord (x .style) p (length (x .bytes)) ++ ws) ≡ ws
+  record-rest : drop blockWords (blockRecord (x .style) p (length (x .bytes)) ++ ws) ≡ ws
   unfolding blockRecord
   record-rest = refl
 
@@ -144,7 +145,7 @@ rows-good (x ∷ xs) l p tx z e d h =
     ∙ blocks-cons x xs
 
 -- the count, and then the blocks
-list-as : (ws tx : List ℕ) (xs : List Piece) → whole ws ≡ true → length ws / 13 ≡ length xs
+list-as : (ws tx : List ℕ) (xs : List Piece) → whole ws ≡ true → length ws / blockWords ≡ length xs
     → bytesOf (piecesFrom (length xs) none 0 ws tx) ≡ streamed (blocksBytes xs) → listStream ws tx ≡ streamed (listBytes xs)
 unfolding listBytes
 list-as ws tx xs w k q = list-is ws tx w ∙ rw (k, q) (sym (streamed-append (written (length xs)) (blocksBytes xs)))
@@ -153,10 +154,10 @@ pub stream-good : (xs : List Piece) → Good none xs ≡ true → length (textOf
     → listStream (records 0 xs) (textOf xs) ≡ streamed (listBytes xs)
 stream-good xs h s =
     let ws : List ℕ = records 0 xs in
-    let l : length ws ≡ length xs * 13 = length-records xs 0 in
-    let k : length ws / 13 ≡ length xs = omega arith in
-    let few : length ws / 13 ≤ 4294967295 = omega (arith, good-count xs none h) in
-    let w : whole ws ≡ true = rw (eq-eqb (length ws % 13) 0 (omega arith), le-leb (length ws / 13) 4294967295 few) in
+    let l : length ws ≡ length xs * blockWords = length-records xs 0 in
+    let k : length ws / blockWords ≡ length xs = omega arith in
+    let few : length ws / blockWords ≤ 4294967295 = omega (arith, good-count xs none h) in
+    let w : whole ws ≡ true = rw (eq-eqb (length ws % blockWords) 0 (omega arith), le-leb (length ws / blockWords) 4294967295 few) in
     list-as ws (textOf xs) xs w k (rows-good xs none 0 (textOf xs) s (omega arith) refl h)
 
 -- ---- and back
@@ -174,9 +175,9 @@ items-split (suc n) i ws h =
     drop-cons ws i 0 (omega arith)
     ∙ ap (λ (l : List ℕ). getD ws i 0 ∷ l) (items-split n (suc i) ws (omega arith) ∙ rw e)
 
-record-split : (ws : List ℕ) → 13 ≤ length ws → ws ≡ blockRecord (styleAt ws) (placeAt ws) (lengthAt ws) ++ drop 13 ws
+record-split : (ws : List ℕ) → blockWords ≤ length ws → ws ≡ blockRecord (styleAt ws) (placeAt ws) (lengthAt ws) ++ drop blockWords ws
 unfolding itemsFrom blockRecord
-record-split ws h = items-split 13 0 ws h
+record-split ws h = items-split blockWords 0 ws h
 
 -- the blocks that words and a text are, behind a block l and p bytes of the text
 abbrev Rows : ℕ → Last → ℕ → List ℕ → List ℕ → Type 0
@@ -190,7 +191,7 @@ no-words (w ∷ ws) h = absurd (omega arith)
 
 rows-none : (l : Last) (p : ℕ) (ws tx : List ℕ) (m n : ℕ) → length ws ≡ 0
     → answer m (bytesOf (piecesFrom 0 l p ws tx)) ≡ Done n → Rows 0 l p ws tx
-unfolding piecesFrom bytesOf answer records textOf Good blocksBytes streamed
+unfolding piecesFrom bytesOf ended records textOf Good blocksBytes streamed
 rows-none l p ws tx m n z = go (eqb p (length tx)) refl
   where
     go : (t : Bool) → eqb p (length tx) ≡ t → answer m (bytesOf (cond t end (stop (refusal StoredField)))) ≡ Done n
@@ -200,8 +201,8 @@ rows-none l p ws tx m n z = go (eqb p (length tx)) refl
         ([], refl, no-words ws z, rw q (drop-length tx), refl, rw e)
     go false e a = absurd (done-refused (sym a))
 
-rows-some : (k : ℕ) (l : Last) (p : ℕ) (ws tx : List ℕ) → length ws ≡ suc k * 13 → fits l p ws tx ≡ true
-    → Rows k (last (styleAt ws)) (p + lengthAt ws) (drop 13 ws) tx → Rows (suc k) l p ws tx
+rows-some : (k : ℕ) (l : Last) (p : ℕ) (ws tx : List ℕ) → length ws ≡ suc k * blockWords → fits l p ws tx ≡ true
+    → Rows k (last (styleAt ws)) (p + lengthAt ws) (drop blockWords ws) tx → Rows (suc k) l p ws tx
 unfolding records textOf
 rows-some k l p ws tx z f q =
     let w : Fit l p ws tx = fits-fit l p ws tx f in
@@ -217,7 +218,7 @@ rows-some k l p ws tx z f q =
     } in
     let r : ws ≡ blockRecord (styleAt ws) p (length b) ++ records (p + length b) (q .0) =
     record-split ws (omega arith)
-    ∙ ap (λ (i : ℕ). blockRecord (styleAt ws) i (lengthAt ws) ++ drop 13 ws) (w .here)
+    ∙ ap (λ (i : ℕ). blockRecord (styleAt ws) i (lengthAt ws) ++ drop blockWords ws) (w .here)
     ∙ ap (λ (i : List ℕ). blockRecord (styleAt ws) p (lengthAt ws) ++ i) (q .2)
     ∙ ap (λ (i : ℕ). blockRecord (styleAt ws) p i ++ records (p + i) (q .0)) (sym c) in
     let t : drop p tx ≡ b ++ textOf (q .0) =
@@ -231,20 +232,20 @@ rows-some k l p ws tx z f q =
       row-more k l p ws tx f ∙ ap (andThen (streamed (blockBytes x))) (q .5) ∙ blocks-cons x (q .0),
     )
 
-rows-ends : (k : ℕ) (l : Last) (p : ℕ) (ws tx : List ℕ) (m n : ℕ) → length ws ≡ k * 13
+rows-ends : (k : ℕ) (l : Last) (p : ℕ) (ws tx : List ℕ) (m n : ℕ) → length ws ≡ k * blockWords
     → answer m (bytesOf (piecesFrom k l p ws tx)) ≡ Done n → Rows k l p ws tx
 rows-ends zero l p ws tx m n z a = rows-none l p ws tx m n (omega arith) a
 rows-ends (suc k) l p ws tx m n z a =
-    go (fits l p ws tx) refl (rows-ends k (last (styleAt ws)) (p + lengthAt ws) (drop 13 ws) tx)
+    go (fits l p ws tx) refl (rows-ends k (last (styleAt ws)) (p + lengthAt ws) (drop blockWords ws) tx)
   where
     go : (t : Bool) → fits l p ws tx ≡ t
-        → ((m n : ℕ) → length (drop 13 ws) ≡ k * 13
-        → answer m (bytesOf (piecesFrom k (last (styleAt ws)) (p + lengthAt ws) (drop 13 ws) tx)) ≡ Done n
-        → Rows k (last (styleAt ws)) (p + lengthAt ws) (drop 13 ws) tx)
+        → ((m n : ℕ) → length (drop blockWords ws) ≡ k * blockWords
+        → answer m (bytesOf (piecesFrom k (last (styleAt ws)) (p + lengthAt ws) (drop blockWords ws) tx)) ≡ Done n
+        → Rows k (last (styleAt ws)) (p + lengthAt ws) (drop blockWords ws) tx)
         → Rows (suc k) l p ws tx
     go true f ih =
         let b : List ℕ = blockBytes (piece (styleAt ws) (take (lengthAt ws) (drop p tx))) in
-        let s : Stream ℕ = bytesOf (piecesFrom k (last (styleAt ws)) (p + lengthAt ws) (drop 13 ws) tx) in
+        let s : Stream Refusal ℕ = bytesOf (piecesFrom k (last (styleAt ws)) (p + lengthAt ws) (drop blockWords ws) tx) in
         let e : answer (m + length b) s ≡ Done n =
         sym (answer-then s (streamed b) m (m + length b) (answer-streamed b m))
         ∙ ap (answer m) (sym (row-more k l p ws tx f))
@@ -253,11 +254,11 @@ rows-ends (suc k) l p ws tx m n z a =
     go false f ih = absurd (row-stop k l p ws tx f m n a)
 
 list-whole : (ws tx : List ℕ) {n : ℕ} → answer 0 (listStream ws tx) ≡ Done n → whole ws ≡ true
-unfolding listStream answer
+unfolding listStream ended
 list-whole ws tx {n} = go (whole ws)
   where
     go : (t : Bool)
-        → answer 0 (cond t (andThen (streamed (written (length ws / 13))) (bytesOf (piecesFrom (length ws / 13) none 0 ws tx)))
+        → answer 0 (cond t (andThen (streamed (written (length ws / blockWords))) (bytesOf (piecesFrom (length ws / blockWords) none 0 ws tx)))
         (stop (refusal StoredField))) ≡ Done n
         → t ≡ true
     go true a = refl
@@ -267,16 +268,16 @@ pub stream-ends : (ws tx : List ℕ) {n : ℕ} → answer 0 (listStream ws tx) �
     → (xs : List Piece) × (Good none xs ≡ true) × (ws ≡ records 0 xs) × (tx ≡ textOf xs) × (length xs < 4294967296)
     × (listStream ws tx ≡ streamed (listBytes xs))
 stream-ends ws tx {n} a =
-    let k : ℕ = length ws / 13 in
+    let k : ℕ = length ws / blockWords in
     let m : ℕ = 0 + length (written k) in
     let w : whole ws ≡ true = list-whole ws tx a in
-    let s : Stream ℕ = bytesOf (piecesFrom k none 0 ws tx) in
+    let s : Stream Refusal ℕ = bytesOf (piecesFrom k none 0 ws tx) in
     let b : answer m s ≡ Done n =
     sym (answer-then s (streamed (written k)) 0 m (answer-streamed (written k) 0))
     ∙ ap (answer 0) (sym (list-is ws tx w))
     ∙ a in
-    let z : length ws % 13 ≡ 0 = eqb-true (length ws % 13) 0 (and-left (eqb (length ws % 13) 0) (leb k 4294967295) w) in
-    let f : k ≤ 4294967295 = leb-true k 4294967295 (and-right (eqb (length ws % 13) 0) (leb k 4294967295) w) in
+    let z : length ws % blockWords ≡ 0 = eqb-true (length ws % blockWords) 0 (and-left (eqb (length ws % blockWords) 0) (leb k 4294967295) w) in
+    let f : k ≤ 4294967295 = leb-true k 4294967295 (and-right (eqb (length ws % blockWords) 0) (leb k 4294967295) w) in
     let q : Rows k none 0 ws tx = rows-ends k none 0 ws tx m n (omega arith) b in
     let d : bytesOf (piecesFrom (length (q .0)) none 0 ws tx) ≡ streamed (blocksBytes (q .0)) =
     ap (λ (i : ℕ). bytesOf (piecesFrom i none 0 ws tx)) (q .4) ∙ q .5 in
@@ -290,7 +291,7 @@ module _ (xs : List Piece) (total : ℕ) (h : Good none xs ≡ true) (s : length
   unfolding writeAnswer
   good-answer =
       let z : 0 + length (listBytes xs) ≡ length (listBytes xs) = omega arith in
-      ap (λ (y : Stream ℕ). settled byteLayout (refusal OutputRoom) total (answer 0 y)) (stream-good xs h s)
+      ap (λ (y : Stream Refusal ℕ). settled byteLayout (refusal OutputRoom) total (answer 0 y)) (stream-good xs h s)
       ∙ ap (settled byteLayout (refusal OutputRoom) total) (answer-streamed (listBytes xs) 0)
       ∙ ap (λ (n : ℕ). settled byteLayout (refusal OutputRoom) total (Done n)) z
       ∙ settled-fits byteLayout (refusal OutputRoom) total (length (listBytes xs)) (omega arith)

@@ -6,7 +6,7 @@ use lib.ListN.{length}
 use lib.Dec.{ltb}
 use Rattle.wellformed.specs.WellFormed.{isUtf8}
 use Rattle.fields.specs.Fields.{inRange}
-use Rattle.pages.specs.Pages.{Piece, Last, last, starts}
+use Rattle.blocks.specs.Pages.{Piece, Last, last, starts}
 
 -- whether blocks may stand one after the other, behind a block l
 unfoldable pub Good : Last → List Piece → Bool

@@ -4,18 +4,21 @@
 //   write_list   the whole: 24 before 25; the room holds the list and zeros, or zeros alone
 //   settle       25, where the room is too small
 //
-// `write_list` is total. `lists::put_list` goes on past a full room, so that 24 comes before 25.
+// `write_list` is total. `crate::list::put_list` goes on past a full room, so that 24 comes before 25.
+mod block;
+mod list;
+mod record;
+
+use crate::list::put_list;
 use answers::Outcome;
 use answers::Refusal;
 use answers::Why;
-use lists::put_list;
 use rooms::clear_bytes_from;
 ghost use mathlib.Core.Path.{_≡_};
-ghost use lib.ListN.{length};
 ghost use Rattle.answers.specs.Answers.{refusal};
 ghost use Rattle.rooms.specs.Rooms.{settled};
 ghost use Rattle.sevens.specs.Sevens.{byteLayout};
-ghost use Rattle.storing.specs.Storing.{writeAnswer, writeRoom};
+ghost use Rattle.storing.specs.Storing.{WritesList};
 
 // 25, where more was written than the room's total.
 fn settle(outcome: Outcome, total: usize) -> Outcome
@@ -29,9 +32,7 @@ fn settle(outcome: Outcome, total: usize) -> Outcome
 
 // Writes blocks and their text as a stored list.
 pub fn write_list(blocks: &[u32], text: &[u8], room: &mut [u8]) -> Outcome
-    ensures answer { λ r. ⌜ r ≡ writeAnswer (length (now (room .entry))) (now (blocks .entry)) (now (text .entry)) ⌝ }
-    ensures content { λ _. ⌜ now (room .exit)
-        ≡ writeRoom (length (now (room .entry))) (now (blocks .entry)) (now (text .entry)) ⌝ }
+    ensures { λ r. ⌜ WritesList (now (blocks .entry)) (now (text .entry)) (now (room .entry)) r (now (room .exit)) ⌝ }
 {
     let outcome = put_list(blocks, text, room);
     let answer = settle(outcome, room.len());

@@ -19,7 +19,7 @@ use Rattle.tokens.specs.Tokens.{valueOf}
 use Rattle.styles.specs.declared.Painter.{Painter}
 use Rattle.styles.specs.declared.Paragraph.{Paragraph}
 use Rattle.styles.specs.declared.State.{State}
-use Rattle.styles.specs.declared.Reading.{Reading}
+use Rattle.readings.specs.declared.Reading.{Reading}
 use Rattle.styles.specs.declared.Change.{Change}
 use Rattle.styles.specs.declared.Change.the-variants.{To, Says, Refuses}
 use Rattle.styles.specs.Styles.{freshPainter, freshParagraph, painted, ruled, skipping, isFlag, flagging, isFitted, fitting, isAligned, aligning, lined, spacing, measured, isCharacter, character, ending, change}
@@ -51,9 +51,9 @@ module _ (s : State) (v : ℕ) {x : State} where
   unfolding spacing
   space-negative a b e q f = rw (ne-eqb v 1000 a, ne-eqb v 2147483648 b, le-ltb v 2147483648 e, ← q, f)
 
-pub space-never : (s : State) (v : ℕ) {r : Refusal} → v ≡ 2147483648 → r ≡ refusal LineSpacing → Refuses r ≡ spacing s v
+pub space-never : (s : State) (v : ℕ) → v ≡ 2147483648 → Refuses LineSpacing ≡ spacing s v
 unfolding spacing
-space-never s v e f = rw (e, f)
+space-never s v e = rw e
 
 module _ (rd : Reading) (s : State) (w : ℕ) (num : Property) where
   pub change-flag : {x : State} → isFlag w ≡ true → x ≡ flagging s w num → To x ≡ change rd s w num

@@ -6,7 +6,6 @@ use mathlib.Core.Bool.{Bool, true, false, cond, _&&_}
 use lib.ListN.{getD}
 use lib.Dec.{leb, ltb, eqb}
 use Rattle.answers.specs.declared.Why.the-variants.{NumberField, LineSpacing}
-use Rattle.answers.specs.Answers.{refusal}
 use Rattle.tokens.specs.declared.Property.{Property}
 use Rattle.tokens.specs.declared.Property.the-variants.{None, Value}
 use Rattle.tokens.specs.Tokens.{valueOf}
@@ -15,10 +14,11 @@ use Rattle.styles.specs.declared.Painter.{Painter}
 use Rattle.styles.specs.declared.Paragraph.{Paragraph}
 use Rattle.styles.specs.declared.State.{State}
 use Rattle.styles.specs.declared.Style.{Style}
-use Rattle.styles.specs.declared.Reading.{Reading}
-use Rattle.styles.specs.declared.Reading.the-variants.{Plain, Paragraphs}
+use Rattle.readings.specs.declared.Reading.{Reading}
+use Rattle.readings.specs.declared.Reading.the-variants.{Plain, Paragraphs}
 use Rattle.styles.specs.declared.Change.{Change}
 use Rattle.styles.specs.declared.Change.the-variants.{To, Says, Refuses}
+use Rattle.tokens.specs.WordNumbers as words
 
 -- "A fresh state has size 12, everything else zero or off, and skip count 1."
 abbrev pub freshFlags : Flags
@@ -58,17 +58,17 @@ isOn (Value v) = eqb v 1
 
 -- a flag word; "`ulnone` is off". i b ul ulnone super sub scaps strike are numbers 12 to 19
 abbrev pub isFlag : ℕ → Bool
-isFlag w = leb 12 w && leb w 19
+isFlag w = leb words.italic w && leb w words.strikethrough
 
 unfoldable pub flagged : Flags → ℕ → Bool → Flags
 flagged f w b = record {
-  bold = cond (eqb w 13) b (f .bold);
-  italic = cond (eqb w 12) b (f .italic);
-  underline = cond (eqb w 14) b (cond (eqb w 15) false (f .underline));
-  superscript = cond (eqb w 16) b (f .superscript);
-  subscript = cond (eqb w 17) b (f .subscript);
-  smallcaps = cond (eqb w 18) b (f .smallcaps);
-  strike = cond (eqb w 19) b (f .strike);
+  bold = cond (eqb w words.bold) b (f .bold);
+  italic = cond (eqb w words.italic) b (f .italic);
+  underline = cond (eqb w words.underline) b (cond (eqb w words.underlineNone) false (f .underline));
+  superscript = cond (eqb w words.superscript) b (f .superscript);
+  subscript = cond (eqb w words.subscript) b (f .subscript);
+  smallcaps = cond (eqb w words.smallcaps) b (f .smallcaps);
+  strike = cond (eqb w words.strikethrough) b (f .strike);
 }
 
 abbrev pub flagging : State → ℕ → Property → State
@@ -82,26 +82,26 @@ flagging s w num =
 
 -- "`cf`, `f`, `fs` take the number or 0 and fit 0 to 65,535"; f fs cf are numbers 9 to 11
 abbrev pub isFitted : ℕ → Bool
-isFitted w = leb 9 w && leb w 11
+isFitted w = leb words.fontNumber w && leb w words.colourNumber
 
 unfoldable pub fitted : Painter → ℕ → ℕ → Painter
 fitted p w v = record {
-  colour = cond (eqb w 11) v (p .colour);
-  font = cond (eqb w 9) v (p .font);
-  size = cond (eqb w 10) v (p .size);
+  colour = cond (eqb w words.colourNumber) v (p .colour);
+  font = cond (eqb w words.fontNumber) v (p .font);
+  size = cond (eqb w words.fontSize) v (p .size);
   flags = p .flags;
 }
 
 -- 12: "a number does not fit its field"
 abbrev pub fitting : State → ℕ → ℕ → Change
-fitting s w v = cond (leb v 65535) (To (painted s (fitted (s .painter) w v))) (Refuses (refusal NumberField))
+fitting s w v = cond (leb v 65535) (To (painted s (fitted (s .painter) w v))) (Refuses NumberField)
 
 -- "`ql qr qc qj` align.": "alignment (0 left, 1 right, 2 centre, 3 justified)"; ql qr qj qc are numbers 26 to 29
 abbrev pub isAligned : ℕ → Bool
-isAligned w = leb 26 w && leb w 29
+isAligned w = leb words.leftAligned w && leb w words.center
 
 unfoldable pub alignment : ℕ → ℕ
-alignment w = cond (eqb w 26) 0 (cond (eqb w 27) 1 (cond (eqb w 28) 3 2))
+alignment w = cond (eqb w words.leftAligned) 0 (cond (eqb w words.rightAligned) 1 (cond (eqb w words.justify) 3 2))
 
 abbrev pub aligning : State → ℕ → State
 aligning s w =
@@ -133,7 +133,7 @@ lined s k v =
 unfoldable pub spacing : State → ℕ → Change
 spacing s v =
     cond (eqb v 1000) (To (lined s 0 0))
-    (cond (eqb v 2147483648) (Refuses (refusal LineSpacing))
+    (cond (eqb v 2147483648) (Refuses LineSpacing)
     (cond (ltb v 2147483648) (To (lined s 1 v))
     (To (lined s 1 (4294967296 - v)))))
 
@@ -141,20 +141,20 @@ spacing s v =
 unfoldable pub measured : Paragraph → ℕ → ℕ → Paragraph
 measured p w v = record {
   alignment = p .alignment;
-  before = cond (eqb w 33) v (p .before);
-  after = cond (eqb w 34) v (p .after);
+  before = cond (eqb w words.spaceBefore) v (p .before);
+  after = cond (eqb w words.spaceAfter) v (p .after);
   kind = p .kind;
   line = p .line;
-  multiplier = cond (eqb w 36) v (p .multiplier);
-  tab = cond (eqb w 25) v (p .tab);
+  multiplier = cond (eqb w words.spaceLineMul) v (p .multiplier);
+  tab = cond (eqb w words.parDefTab) v (p .tab);
 }
 
 -- "The nine names from `emdash` add U+2014, 2013, 2022, 2018, 2019, 201C, 201D, 0009, 000A"; they are numbers 40 to 48
 abbrev pub isCharacter : ℕ → Bool
-isCharacter w = leb 40 w && leb w 48
+isCharacter w = leb words.emdash w && leb w words.line
 
 unfoldable pub character : ℕ → ℕ
-character w = getD (8212 ∷ 8211 ∷ 8226 ∷ 8216 ∷ 8217 ∷ 8220 ∷ 8221 ∷ 9 ∷ 10 ∷ []) (w - 40) 0
+character w = getD (8212 ∷ 8211 ∷ 8226 ∷ 8216 ∷ 8217 ∷ 8220 ∷ 8221 ∷ 9 ∷ 10 ∷ []) (w - words.emdash) 0
 
 -- "Paragraph reading: the same, but `par` adds U+000A."
 abbrev pub ending : Reading → State → Change
@@ -169,11 +169,11 @@ change rd s w num =
     (cond (isFitted w) (fitting s w (valueOf num))
     (cond (isCharacter w) (Says (character w))
     (cond (isAligned w) (To (aligning s w))
-    (cond (eqb w 35) (spacing s (valueOf num))
-    (cond (eqb w 23) (To (painted s freshPainter))
-    (cond (eqb w 21) (To (ruled s freshParagraph))
-    (cond (eqb w 20) (ending rd s)
-    (cond (eqb w 3) (To (skipping s (valueOf num)))
+    (cond (eqb w words.spaceBetweenLine) (spacing s (valueOf num))
+    (cond (eqb w words.plain) (To (painted s freshPainter))
+    (cond (eqb w words.pard) (To (ruled s freshParagraph))
+    (cond (eqb w words.par) (ending rd s)
+    (cond (eqb w words.unicodeIgnoreCount) (To (skipping s (valueOf num)))
     (To (ruled s (measured (s .paragraph) w (valueOf num))))))))))))
 
 -- "flags (1 bold, 2 italic, 4 underline, 8 super, 16 sub, 32 scaps, 64 strike)"

@@ -6,9 +6,10 @@
 //   apply_word                  a word's effect: another state, a character to write, or a refusal
 //
 // Signed numbers stand in two's complement. Every function is total.
-use answers::Refusal;
 use answers::Why;
+use readings::Reading;
 use tokens::Property;
+use tokens::words;
 ghost use mathlib.Core.Path.{_≡_};
 ghost use Prim.Native.Nat.{_≤_, _<_};
 ghost use Rattle.styles.specs.Styles.{freshFlags, freshPainter, freshParagraph, fresh as freshState, isOn, flagged, flagging, fitted, fitting, alignment as alignmentOf, aligning, lined, spacing, measured, character as characterOf, ending as endingOf, change as changeOf, bit as bitOf, flagsNumber, styleOf, sameStyle};
@@ -31,7 +32,7 @@ pub struct Painter {
     pub flags: Flags,
 }
 
-// Alignment: 0 left, 1 right, 2 centre, 3 justified. The space between lines: kind 0 automatic, 1 the value `line`.
+// The space between lines: kind 0 automatic, 1 the value `line`.
 pub struct Paragraph {
     pub alignment: u32,
     pub before: u32,
@@ -63,16 +64,10 @@ pub struct Style {
     pub tab: u32,
 }
 
-// Plain as the crate; in paragraph reading `par` adds a line feed.
-pub enum Reading {
-    Plain,
-    Paragraphs,
-}
-
 pub enum Change {
     To(State),
     Says(u32),
-    Refuses(Refusal),
+    Refuses(Why),
 }
 
 impl Flags {
@@ -108,11 +103,19 @@ impl Painter {
 }
 
 impl Paragraph {
+    pub const LEFT: u32 = 0;
+
+    pub const RIGHT: u32 = 1;
+
+    pub const CENTRE: u32 = 2;
+
+    pub const JUSTIFIED: u32 = 3;
+
     pub fn fresh() -> Paragraph
         ensures { λ r. ⌜ r ≡ freshParagraph ⌝ }
     {
         Paragraph {
-            alignment: 0,
+            alignment: Paragraph::LEFT,
             before: 0,
             after: 0,
             kind: 0,
@@ -154,35 +157,35 @@ fn flag(f: Flags, w: u32, on: bool) -> Flags
     ensures { λ r. ⌜ r ≡ flagged f w on ⌝ }
 {
     let mut r = f;
-    if w == 12 {
+    if w == words::ITALIC {
         r.italic = on;
         return r;
     }
-    if w == 13 {
+    if w == words::BOLD {
         r.bold = on;
         return r;
     }
-    if w == 14 {
+    if w == words::UNDERLINE {
         r.underline = on;
         return r;
     }
-    if w == 15 {
+    if w == words::UNDERLINE_NONE {
         r.underline = false;
         return r;
     }
-    if w == 16 {
+    if w == words::SUPERSCRIPT {
         r.superscript = on;
         return r;
     }
-    if w == 17 {
+    if w == words::SUBSCRIPT {
         r.subscript = on;
         return r;
     }
-    if w == 18 {
+    if w == words::SMALLCAPS {
         r.smallcaps = on;
         return r;
     }
-    if w == 19 {
+    if w == words::STRIKETHROUGH {
         r.strike = on;
         return r;
     }
@@ -207,15 +210,15 @@ fn fit(p: Painter, w: u32, v: u32) -> Painter
     ensures { λ r. ⌜ r ≡ fitted p w v ⌝ }
 {
     let mut r = p;
-    if w == 9 {
+    if w == words::FONT_NUMBER {
         r.font = v;
         return r;
     }
-    if w == 10 {
+    if w == words::FONT_SIZE {
         r.size = v;
         return r;
     }
-    if w == 11 {
+    if w == words::COLOUR_NUMBER {
         r.colour = v;
         return r;
     }
@@ -233,23 +236,23 @@ fn fit_word(s: State, w: u32, v: u32) -> Change
         r.painter = changed;
         return Change::To(r);
     }
-    Change::Refuses(Refusal::of(Why::NumberField))
+    Change::Refuses(Why::NumberField)
 }
 
 // One of ql qr qj qc, 26 to 29.
 fn alignment(w: u32) -> u32
     ensures { λ r. ⌜ r ≡ alignmentOf w ⌝ }
 {
-    if w == 26 {
-        return 0;
+    if w == words::LEFT_ALIGNED {
+        return Paragraph::LEFT;
     }
-    if w == 27 {
-        return 1;
+    if w == words::RIGHT_ALIGNED {
+        return Paragraph::RIGHT;
     }
-    if w == 28 {
-        return 3;
+    if w == words::JUSTIFY {
+        return Paragraph::JUSTIFIED;
     }
-    2
+    Paragraph::CENTRE
 }
 
 fn align(s: State, w: u32) -> State
@@ -278,7 +281,7 @@ fn space(s: State, v: u32) -> Change
         return Change::To(line(s, 0, 0));
     }
     if v == 2147483648 {
-        return Change::Refuses(Refusal::of(Why::LineSpacing));
+        return Change::Refuses(Why::LineSpacing);
     }
     if v < 2147483648 {
         return Change::To(line(s, 1, v));
@@ -292,19 +295,19 @@ fn measure(p: Paragraph, w: u32, v: u32) -> Paragraph
     ensures { λ r. ⌜ r ≡ measured p w v ⌝ }
 {
     let mut r = p;
-    if w == 25 {
+    if w == words::PAR_DEF_TAB {
         r.tab = v;
         return r;
     }
-    if w == 33 {
+    if w == words::SPACE_BEFORE {
         r.before = v;
         return r;
     }
-    if w == 34 {
+    if w == words::SPACE_AFTER {
         r.after = v;
         return r;
     }
-    if w == 36 {
+    if w == words::SPACE_LINE_MUL {
         r.multiplier = v;
         return r;
     }
@@ -316,28 +319,28 @@ fn character(w: u32) -> u32
     requires { ⌜ (40 ≤ w) × (w ≤ 48) ⌝ }
     ensures { λ r. ⌜ r ≡ characterOf w ⌝ }
 {
-    if w == 40 {
+    if w == words::EMDASH {
         return 0x2014;
     }
-    if w == 41 {
+    if w == words::ENDASH {
         return 0x2013;
     }
-    if w == 42 {
+    if w == words::BULLET {
         return 0x2022;
     }
-    if w == 43 {
+    if w == words::LEFT_SINGLE_QUOTE {
         return 0x2018;
     }
-    if w == 44 {
+    if w == words::RIGHT_SINGLE_QUOTE {
         return 0x2019;
     }
-    if w == 45 {
+    if w == words::LEFT_DOUBLE_QUOTE {
         return 0x201C;
     }
-    if w == 46 {
+    if w == words::RIGHT_DOUBLE_QUOTE {
         return 0x201D;
     }
-    if w == 47 {
+    if w == words::TAB {
         return 0x9;
     }
     0xA
@@ -356,37 +359,37 @@ fn ending(reading: Reading, s: State) -> Change
 pub fn apply_word(reading: Reading, s: State, w: u32, number: Property) -> Change
     ensures { λ r. ⌜ r ≡ changeOf reading s w number ⌝ }
 {
-    if (12 <= w) & (w <= 19) {
+    if (words::ITALIC <= w) & (w <= words::STRIKETHROUGH) {
         return Change::To(flag_word(s, w, number));
     }
     let v = number.value();
-    if (9 <= w) & (w <= 11) {
+    if (words::FONT_NUMBER <= w) & (w <= words::COLOUR_NUMBER) {
         return fit_word(s, w, v);
     }
-    if (40 <= w) & (w <= 48) {
+    if (words::EMDASH <= w) & (w <= words::LINE) {
         return Change::Says(character(w));
     }
-    if (26 <= w) & (w <= 29) {
+    if (words::LEFT_ALIGNED <= w) & (w <= words::CENTER) {
         return Change::To(align(s, w));
     }
-    if w == 35 {
+    if w == words::SPACE_BETWEEN_LINE {
         return space(s, v);
     }
     let mut r = s;
-    if w == 23 {
+    if w == words::PLAIN {
         let painter = Painter::fresh();
         r.painter = painter;
         return Change::To(r);
     }
-    if w == 21 {
+    if w == words::PARD {
         let paragraph = Paragraph::fresh();
         r.paragraph = paragraph;
         return Change::To(r);
     }
-    if w == 20 {
+    if w == words::PAR {
         return ending(reading, s);
     }
-    if w == 3 {
+    if w == words::UNICODE_IGNORE_COUNT {
         r.skip = v;
         return Change::To(r);
     }

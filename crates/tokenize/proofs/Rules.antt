@@ -10,7 +10,6 @@ use lib.ListN.{length, getD, take, drop, length-take, length-drop}
 use lib.Seq.{take-all}
 use lib.Dec.{eqb}
 use Rattle.answers.specs.declared.Why.the-variants.{HexShort, HexBad, NumberBad}
-use Rattle.answers.specs.Answers.{refusal}
 use Rattle.bytes.specs.declared.Class.the-variants.{White, WordEnd, InWord, Space, Numeral}
 use Rattle.bytes.specs.Bytes.{isLetter, inClass, lead, body}
 use Rattle.numbers.specs.declared.Number.{Number}
@@ -24,6 +23,7 @@ use Rattle.tokens.specs.declared.Record.{Record}
 use Rattle.tokens.specs.Tokens.{Shown, wordRecord, unknownRecord, recordOf}
 use Rattle.tokens.specs.Tokens
 use Rattle.tokenize.specs.Tokenize.{isMark, isEscape, mark, plain, hexValue, hexEscape, lineBreakAnd, shownWord, numbered, named, bareLength, wordTail, word, other, escaped, tokens}
+use Rattle.answers.specs.declared.Why.{Why}
 
 -- the bytes from a place on, as the code has them
 abbrev pub part : ℕ → List ℕ → List ℕ
@@ -105,7 +105,7 @@ module _ (p : ℕ) (w : List ℕ) (k : ℕ) (q : k ≡ body (inClass Numeral) w)
     unfolding named
     named-at = rw (← q, ne-eqb k (length w) f, e, part-drop k w)
 
-    pub named-bad : r ≡ Bad → named p w ≡ stop (refusal NumberBad)
+    pub named-bad : r ≡ Bad → named p w ≡ stop NumberBad
     unfolding numbered
     named-bad b = named-at ∙ ap (numbered p (take k w)) b
 
@@ -124,7 +124,7 @@ module _ (p : ℕ) (s : List ℕ) (k e : ℕ) (q : k ≡ lead (inClass InWord) s
       word-parts ∙ ap (andThen (named p (take e s))) t
 
 -- the hexadecimal escape
-pub hex-short : (p : ℕ) (s : List ℕ) → length s < 2 → hexEscape p s ≡ stop (refusal HexShort)
+pub hex-short : (p : ℕ) (s : List ℕ) → length s < 2 → hexEscape p s ≡ stop HexShort
 unfolding hexEscape
 hex-short p [] h = refl
 hex-short p (a ∷ []) h = refl
@@ -138,7 +138,7 @@ module _ (p : ℕ) where
   hex-at (a ∷ b ∷ s) h = rw (part-drop 2 (a ∷ b ∷ s))
 
   module _ (s : List ℕ) (h : 2 ≤ length s) (r : Number) (q : r ≡ hexPair (getD s 0 0) (getD s 1 0)) where
-    pub hex-bad : r ≡ Bad → hexEscape p s ≡ stop (refusal HexBad)
+    pub hex-bad : r ≡ Bad → hexEscape p s ≡ stop HexBad
     unfolding hexValue
     hex-bad b = hex-at s h ∙ ap (λ (v : Number). hexValue v (plain (p + 4) (part 2 s))) (sym q ∙ b)
 
@@ -157,7 +157,7 @@ escaped-none p [] h = refl
 escaped-none p (b ∷ s) h = absurd (omega arith)
 
 module _ (p : ℕ) where
-  abbrev choice : Bool → Bool → List ℕ → Stream Shown
+  abbrev choice : Bool → Bool → List ℕ → Stream Why Shown
   choice l t s =
       cond l (word p s)
       (cond t (Shown.text (p + 1) s ▸ end)
@@ -218,7 +218,7 @@ tokens-none p [] h = refl
 tokens-none p (b ∷ s) h = absurd (omega arith)
 
 module _ (p : ℕ) where
-  abbrev pick : Bool → List ℕ → Stream Shown
+  abbrev pick : Bool → List ℕ → Stream Why Shown
   pick t s = cond t (andThen (mark (getD s 0 0)) (tokens (p + 1) (part 1 s))) (cond (eqb (getD s 0 0) 92) (escaped p (part 1 s)) (plain p s))
 
   tokens-at : (s : List ℕ) → (length s ≡ 0 → ⊥) → tokens p s ≡ pick (isMark (getD s 0 0)) s

@@ -6,21 +6,22 @@ use Prim.Native.Nat.{ℕ, _+_, _≤_}
 use native.Mathlib.Omega.{arith}
 use lib.ListN.{length, take, drop}
 use lib.Dec.{eqb, ltb}
-use Rattle.answers.specs.declared.Outcome.{Outcome}
-use Rattle.answers.specs.declared.Outcome.the-variants.{Done}
+use Rattle.answers.specs.declared.Written.{Written}
+use Rattle.answers.specs.declared.Written.the-variants.{Done}
 use Rattle.bytes.specs.declared.Class.the-variants.{White, WordEnd, InWord, Space, Numeral}
 use Rattle.bytes.specs.Bytes.{isLetter, inClass, lead, body}
 use Rattle.numbers.specs.declared.Number.{Number}
 use Rattle.numbers.specs.declared.Number.the-variants.{Is, Bad}
 use Rattle.numbers.specs.Numbers.{hexPair, decimal}
-use Rattle.rooms.specs.Streams.{Stream, count}
+use Rattle.rooms.specs.Streams.{Stream, count, byName}
 use Rattle.rooms.specs.Rooms.{Wrote}
-use Rattle.rooms.proofs.Streams.{count-then, answer-count}
+use Rattle.rooms.proofs.Streams.{count-then, ended-count, name-apart}
 use Rattle.tokens.specs.Tokens.{Shown, shownLayout}
 use Rattle.tokenize.specs.Tokenize.{isMark, isEscape, mark, plain, hexValue, hexEscape, lineBreakAnd, numbered, named, bareLength, wordTail, word, other, escaped, tokens}
+use Rattle.answers.specs.declared.Why.{Why}
 
 -- a bound on both is a bound on a choice
-either : (t : Bool) (a b : Stream Shown) (k : ℕ) → count a ≤ k → count b ≤ k → count (cond t a b) ≤ k
+either : (t : Bool) (a b : Stream Why Shown) (k : ℕ) → count a ≤ k → count b ≤ k → count (cond t a b) ≤ k
 either true a b k p q = p
 either false a b k p q = q
 
@@ -32,7 +33,7 @@ count-plain : (p : ℕ) (s : List ℕ) → count (plain p s) ≤ 1
 unfolding plain count
 count-plain p s = either (eqb (lead (inClass White) s) (length s)) _ _ 1 (omega arith) (omega arith)
 
-count-hexValue : (v : Number) (rest : Stream Shown) → count rest ≤ 1 → count (hexValue v rest) ≤ 2
+count-hexValue : (v : Number) (rest : Stream Why Shown) → count rest ≤ 1 → count (hexValue v rest) ≤ 2
 unfolding hexValue count
 count-hexValue (Is v) rest h = omega arith
 count-hexValue Bad rest h = omega arith
@@ -93,11 +94,11 @@ count-tokens p (b ∷ s) =
     (either (eqb b 92) _ _ _ (omega (arith, count-escaped p s)) (omega (arith, count-plain p (b ∷ s))))
 
 -- the next place in the room, where a function has written and answered
-pub named-next : (p : ℕ) (w : List ℕ) {n m : ℕ} {r : Outcome} {room room′ : List ℕ} → Wrote shownLayout n room (named p w) r room′ → r ≡ Done m → m ≤ n + 1
-named-next p w {n} {m} v d = omega (arith, answer-count (named p w) n m (sym (v .says) ∙ d), count-named p w)
+pub named-next : (p : ℕ) (w : List ℕ) {n m : ℕ} {r : Written} {room room′ : List ℕ} → Wrote shownLayout byName n room (named p w) r room′ → r ≡ Done m → m ≤ n + 1
+named-next p w {n} {m} v d = omega (arith, ended-count name-apart (named p w) n m (sym (v .says) ∙ d), count-named p w)
 
-pub mark-next : (b : ℕ) {n m : ℕ} {room room′ : List ℕ} → Wrote shownLayout n room (mark b) (Done m) room′ → m ≤ n + 1
-mark-next b {n} {m} v = omega (arith, answer-count (mark b) n m (sym (v .says)), count-mark b)
+pub mark-next : (b : ℕ) {n m : ℕ} {room room′ : List ℕ} → Wrote shownLayout byName n room (mark b) (Done m) room′ → m ≤ n + 1
+mark-next b {n} {m} v = omega (arith, ended-count name-apart (mark b) n m (sym (v .says)), count-mark b)
 
-pub tokens-next : (p : ℕ) (s : List ℕ) {n m : ℕ} {r : Outcome} {room room′ : List ℕ} → Wrote shownLayout n room (tokens p s) r room′ → r ≡ Done m → m ≤ n + length s
-tokens-next p s {n} {m} v d = omega (arith, answer-count (tokens p s) n m (sym (v .says) ∙ d), count-tokens p s)
+pub tokens-next : (p : ℕ) (s : List ℕ) {n m : ℕ} {r : Written} {room room′ : List ℕ} → Wrote shownLayout byName n room (tokens p s) r room′ → r ≡ Done m → m ≤ n + length s
+tokens-next p s {n} {m} v d = omega (arith, ended-count name-apart (tokens p s) n m (sym (v .says) ∙ d), count-tokens p s)

@@ -6,7 +6,6 @@ use mathlib.Core.Bool.{Bool, cond, _||_}
 use lib.ListN.{length, getD, take, drop}
 use lib.Dec.{ltb, eqb}
 use Rattle.answers.specs.declared.Why.the-variants.{HexShort, HexBad, NumberBad}
-use Rattle.answers.specs.Answers.{refusal}
 use Rattle.bytes.specs.declared.Class.the-variants.{White, WordEnd, InWord, Space, Numeral}
 use Rattle.bytes.specs.Bytes.{isLetter, inClass, lead, body}
 use Rattle.numbers.specs.declared.Number.{Number}
@@ -18,17 +17,19 @@ use Rattle.tokens.specs.declared.Property.{Property}
 use Rattle.tokens.specs.declared.Property.the-variants.{None, Value}
 use Rattle.tokens.specs.Tokens.{Shown}
 use Rattle.tokens.specs.Tokens
+use Rattle.tokens.specs.WordNumbers as words
+use Rattle.answers.specs.declared.Why.{Why}
 
 -- "`{`, `}` or a raw line feed"
 abbrev pub isMark : ℕ → Bool
 isMark b = (eqb b 123 || eqb b 125) || eqb b 10
 
 -- "an opening, a closing, or no token"
-unfoldable pub mark : ℕ → Stream Shown
+unfoldable pub mark : ℕ → Stream Why Shown
 mark b = cond (eqb b 123) (Shown.opening ▸ end) (cond (eqb b 125) (Shown.closing ▸ end) end)
 
 -- "Such a plain tail is one text token, spaces kept, unless it is all white space: then none."
-unfoldable pub plain : ℕ → List ℕ → Stream Shown
+unfoldable pub plain : ℕ → List ℕ → Stream Why Shown
 plain p s = cond (eqb (lead (inClass White) s) (length s)) end (Shown.text p s ▸ end)
 
 -- "`\{`, `\}`, `\\`"
@@ -36,29 +37,29 @@ abbrev pub isEscape : ℕ → Bool
 isEscape b = (eqb b 123 || eqb b 125) || eqb b 92
 
 -- "`\'`: word `u` with the byte's value; the rest as a plain tail"; 3 and 4 of the answer numbers
-unfoldable pub hexValue : Number → Stream Shown → Stream Shown
-hexValue (Is v) rest = Shown.word 2 (Value v) ▸ rest
-hexValue Bad rest = stop (refusal HexBad)
+unfoldable pub hexValue : Number → Stream Why Shown → Stream Why Shown
+hexValue (Is v) rest = Shown.word words.unicode (Value v) ▸ rest
+hexValue Bad rest = stop HexBad
 
-unfoldable pub hexEscape : ℕ → List ℕ → Stream Shown
-hexEscape p [] = stop (refusal HexShort)
-hexEscape p (a ∷ []) = stop (refusal HexShort)
+unfoldable pub hexEscape : ℕ → List ℕ → Stream Why Shown
+hexEscape p [] = stop HexShort
+hexEscape p (a ∷ []) = stop HexShort
 hexEscape p (a ∷ b ∷ s) = hexValue (hexPair a b) (plain (p + 4) s)
 
 -- "`\` line feed: a line break token; the rest likewise."
-unfoldable pub lineBreakAnd : ℕ → List ℕ → Stream Shown
+unfoldable pub lineBreakAnd : ℕ → List ℕ → Stream Why Shown
 lineBreakAnd p s = Shown.lineBreak ▸ plain (p + 2) s
 
 -- a word by its name: "49 is unknown", and shows "its backslash, without its number"
 unfoldable pub shownWord : ℕ → List ℕ → Property → Shown
-shownWord p name num = cond (ltb (wordNumber name) 49) (Shown.word (wordNumber name) num) (Shown.unknown p (92 ∷ name) num)
+shownWord p name num = cond (ltb (wordNumber name) words.unknown) (Shown.word (wordNumber name) num) (Shown.unknown p (92 ∷ name) num)
 
 -- "Digits and minus signs at its end are the number."; 5 of the answer numbers
-unfoldable pub numbered : ℕ → List ℕ → Number → Stream Shown
+unfoldable pub numbered : ℕ → List ℕ → Number → Stream Why Shown
 numbered p name (Is v) = shownWord p name (Value v) ▸ end
-numbered p name Bad = stop (refusal NumberBad)
+numbered p name Bad = stop NumberBad
 
-unfoldable pub named : ℕ → List ℕ → Stream Shown
+unfoldable pub named : ℕ → List ℕ → Stream Why Shown
 named p w =
     let k = body (inClass Numeral) w in
     cond (eqb k (length w)) (shownWord p w None ▸ end) (numbered p (take k w) (decimal (drop k w)))
@@ -69,24 +70,24 @@ bareLength w = cond (eqb (getD w (length w - 1) 0) 59) (length w - 1) (length w)
 
 -- "All after it is one text token if not empty, even if all spaces": if all of it is white space that ends a word, and
 -- else as a plain tail (docs/DIFFERENCES.md, 2)
-unfoldable pub wordTail : ℕ → List ℕ → Stream Shown
+unfoldable pub wordTail : ℕ → List ℕ → Stream Why Shown
 wordTail p [] = end
 wordTail p (b ∷ s) =
     cond (ltb (lead (inClass WordEnd) (b ∷ s)) (length (b ∷ s))) (plain p (b ∷ s)) (Shown.text p (b ∷ s) ▸ end)
 
 -- "`\` and a to z: the word runs to the first white space, which vanishes." (docs/DIFFERENCES.md, 1)
-unfoldable pub word : ℕ → List ℕ → Stream Shown
+unfoldable pub word : ℕ → List ℕ → Stream Why Shown
 word p s =
     let k = lead (inClass InWord) s in
     andThen (named p (take (bareLength (take k s)) s)) (wordTail (p + 1 + (k + 1)) (drop (k + 1) s))
 
 -- "`\` and spaces only: a text token of the whole slice. `\` and any other byte: nothing, tail lost."
-unfoldable pub other : ℕ → List ℕ → Stream Shown
+unfoldable pub other : ℕ → List ℕ → Stream Why Shown
 other p s = cond (ltb (lead (inClass Space) s) (length s)) end (Shown.text p (92 ∷ s) ▸ end)
 
 -- a slice that begins with a backslash, by the byte behind that: a word, "one text token, the slice without its first
 -- byte", `\'`, `\` line feed, "`\*`: an ignorable mark; its tail is lost.", and the rest
-unfoldable pub escaped : ℕ → List ℕ → Stream Shown
+unfoldable pub escaped : ℕ → List ℕ → Stream Why Shown
 escaped p [] = other p []
 escaped p (b ∷ s) =
     cond (isLetter b) (word p (b ∷ s))
@@ -97,7 +98,7 @@ escaped p (b ∷ s) =
     (other p (b ∷ s))))))
 
 -- a slice by its first byte: "what follows that byte is cut again by these rules."; "Other: a plain tail."
-unfoldable pub tokens : ℕ → List ℕ → Stream Shown
+unfoldable pub tokens : ℕ → List ℕ → Stream Why Shown
 tokens p [] = end
 tokens p (b ∷ s) =
     let again = tokens (p + 1) s in

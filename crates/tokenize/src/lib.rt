@@ -9,9 +9,10 @@
 // Each function writes its records from place n of the room on, and answers the next place or a refusal. The table of
 // names is lent by the caller, who takes it once. A slice stands at `place` of a source of at most 65,536 bytes, and
 // so far at most one record was written for each byte before it.
-use answers::Outcome;
-use answers::Refusal;
+pub mod quick;
+
 use answers::Why;
+use answers::Written;
 use bytes::Class;
 use bytes::body_of;
 use bytes::is_letter;
@@ -23,6 +24,7 @@ use numbers::hex_pair;
 use tokens::Property;
 use tokens::Record;
 use tokens::put;
+use tokens::words;
 ghost use mathlib.Core.Path.{_≡_};
 ghost use Prim.Native.Nat.{_+_, _≤_, _<_};
 ghost use lib.ListN.{length};
@@ -30,9 +32,10 @@ ghost use Rattle.names.specs.Names.{rows};
 ghost use Rattle.rooms.specs.Rooms.{Wrote};
 ghost use Rattle.tokens.specs.Tokens.{shownLayout, textRecord, recordOf};
 ghost use Rattle.tokenize.specs.Tokenize.{isMark, isEscape, plain as plainOf, wordTail, bareLength, shownWord, named as namedOf, word as wordOf, hexEscape, lineBreakAnd, other as otherOf, escaped as escapedOf, mark as markOf, tokens as tokensOf};
+ghost use Rattle.rooms.specs.Streams.{byName};
 
 // `{`, `}` or a line feed.
-pub fn is_mark(b: u8) -> bool
+fn is_mark(b: u8) -> bool
     ensures { λ r. ⌜ r ≡ isMark b ⌝ }
 {
     (b == b'{') | (b == b'}') | (b == b'\n')
@@ -53,33 +56,33 @@ fn text(place: usize, length: usize) -> Record
 }
 
 // A plain tail: one text token, unless it is all white space.
-pub fn plain(s: &[u8], place: usize, room: &mut [u32], n: usize) -> Outcome
+fn plain(s: &[u8], place: usize, room: &mut [u32], n: usize) -> Written
     requires { ⌜ (place + length (now s) ≤ 65536) × (n ≤ place) ⌝ }
-    ensures { λ r. ⌜ Wrote shownLayout n (now (room .entry)) (plainOf place (now (s .entry))) r (now (room .exit)) ⌝ }
+    ensures { λ r. ⌜ Wrote shownLayout byName n (now (room .entry)) (plainOf place (now (s .entry))) r (now (room .exit)) ⌝ }
 {
     let k = lead_of(s, Class::White);
     if k == s.len() {
-        return Outcome::Done(n);
+        return Written::Done(n);
     }
     put(room, n, text(place, s.len()));
-    Outcome::Done(n + 1)
+    Written::Done(n + 1)
 }
 
 // What follows a word and the white space that ends it: text even if it is all such white space. A tail of other white
 // space, that is with a byte 11 in it, is lost, as in the crate.
-pub fn word_tail(s: &[u8], place: usize, room: &mut [u32], n: usize) -> Outcome
+fn word_tail(s: &[u8], place: usize, room: &mut [u32], n: usize) -> Written
     requires { ⌜ (place + length (now s) ≤ 65536) × (n ≤ place) ⌝ }
-    ensures { λ r. ⌜ Wrote shownLayout n (now (room .entry)) (wordTail place (now (s .entry))) r (now (room .exit)) ⌝ }
+    ensures { λ r. ⌜ Wrote shownLayout byName n (now (room .entry)) (wordTail place (now (s .entry))) r (now (room .exit)) ⌝ }
 {
     if s.len() == 0 {
-        return Outcome::Done(n);
+        return Written::Done(n);
     }
     let white = lead_of(s, Class::WordEnd);
     if white < s.len() {
         return plain(s, place, room, n);
     }
     put(room, n, text(place, s.len()));
-    Outcome::Done(n + 1)
+    Written::Done(n + 1)
 }
 
 // The length without one semicolon at the end.
@@ -99,12 +102,12 @@ fn bare_length(w: &[u8]) -> usize
 }
 
 // The record of a word whose backslash stands at `place`.
-pub fn word_record(name: &[u8], property: Property, place: usize, names: &Table) -> Record
+fn word_record(name: &[u8], property: Property, place: usize, names: &Table) -> Record
     requires { ⌜ (place + (1 + length (now name)) ≤ 65536) × (now names ≡ rows) ⌝ }
     ensures { λ r. ⌜ r ≡ recordOf (shownWord place (now (name .entry)) property) ⌝ }
 {
     let w = names::number_of(names, name);
-    if w < 49 {
+    if w < words::UNKNOWN {
         return Record::word(w, property);
     }
     let length = 1 + name.len();
@@ -112,42 +115,42 @@ pub fn word_record(name: &[u8], property: Property, place: usize, names: &Table)
 }
 
 // A word behind its backslash at `place`: its name, and the number that ends it.
-fn named(w: &[u8], place: usize, names: &Table, room: &mut [u32], n: usize) -> Outcome
+fn named(w: &[u8], place: usize, names: &Table, room: &mut [u32], n: usize) -> Written
     requires { ⌜ (place + (1 + length (now w)) ≤ 65536) × (n ≤ place) × (now names ≡ rows) ⌝ }
-    ensures { λ r. ⌜ Wrote shownLayout n (now (room .entry)) (namedOf place (now (w .entry))) r (now (room .exit)) ⌝ }
+    ensures { λ r. ⌜ Wrote shownLayout byName n (now (room .entry)) (namedOf place (now (w .entry))) r (now (room .exit)) ⌝ }
 {
     let k = body_of(w, Class::Numeral);
     if k == w.len() {
         put(room, n, word_record(w, Property::None, place, names));
-        return Outcome::Done(n + 1);
+        return Written::Done(n + 1);
     }
     let number = decimal_of(&w[k..]);
     match number {
-        Number::Bad => Outcome::Refused(Refusal::of(Why::NumberBad)),
+        Number::Bad => Written::Refused(Why::NumberBad),
         Number::Is(v) => {
             put(
                 room,
                 n,
                 word_record(&w[..k], Property::Value(v), place, names),
             );
-            Outcome::Done(n + 1)
+            Written::Done(n + 1)
         }
     }
 }
 
 // A word and the text behind it; s follows the backslash at `place`.
-pub fn word(s: &[u8], place: usize, names: &Table, room: &mut [u32], n: usize) -> Outcome
+fn word(s: &[u8], place: usize, names: &Table, room: &mut [u32], n: usize) -> Written
     requires { ⌜ (place + (1 + length (now s)) ≤ 65536) × (n ≤ place) × (now names ≡ rows) ⌝ }
-    ensures { λ r. ⌜ Wrote shownLayout n (now (room .entry)) (wordOf place (now (s .entry))) r (now (room .exit)) ⌝ }
+    ensures { λ r. ⌜ Wrote shownLayout byName n (now (room .entry)) (wordOf place (now (s .entry))) r (now (room .exit)) ⌝ }
 {
     let k = lead_of(s, Class::InWord);
     let e = bare_length(&s[..k]);
     let first = named(&s[..e], place, names, room, n);
     match first {
-        Outcome::Refused(refusal) => Outcome::Refused(refusal),
-        Outcome::Done(m) => {
+        Written::Refused(why) => Written::Refused(why),
+        Written::Done(m) => {
             if k == s.len() {
-                return Outcome::Done(m);
+                return Written::Done(m);
             }
             let next = k + 1;
             word_tail(&s[next..], place + 1 + next, room, m)
@@ -156,49 +159,49 @@ pub fn word(s: &[u8], place: usize, names: &Table, room: &mut [u32], n: usize) -
 }
 
 // `\'` at `place`, and s behind it: two hexadecimal digits, and a plain tail.
-fn hex_escape(s: &[u8], place: usize, room: &mut [u32], n: usize) -> Outcome
+fn hex_escape(s: &[u8], place: usize, room: &mut [u32], n: usize) -> Written
     requires { ⌜ (place + (2 + length (now s)) ≤ 65536) × (n ≤ place) ⌝ }
-    ensures { λ r. ⌜ Wrote shownLayout n (now (room .entry)) (hexEscape place (now (s .entry))) r (now (room .exit)) ⌝ }
+    ensures { λ r. ⌜ Wrote shownLayout byName n (now (room .entry)) (hexEscape place (now (s .entry))) r (now (room .exit)) ⌝ }
 {
     if s.len() < 2 {
-        return Outcome::Refused(Refusal::of(Why::HexShort));
+        return Written::Refused(Why::HexShort);
     }
     let value = hex_pair(s[0], s[1]);
     match value {
-        Number::Bad => Outcome::Refused(Refusal::of(Why::HexBad)),
+        Number::Bad => Written::Refused(Why::HexBad),
         Number::Is(v) => {
-            put(room, n, Record::word(2, Property::Value(v)));
+            put(room, n, Record::word(words::UNICODE, Property::Value(v)));
             plain(&s[2..], place + 4, room, n + 1)
         }
     }
 }
 
 // A line break, and s behind it, which follows the backslash and line feed at `place`.
-fn line_break(s: &[u8], place: usize, room: &mut [u32], n: usize) -> Outcome
+fn line_break(s: &[u8], place: usize, room: &mut [u32], n: usize) -> Written
     requires { ⌜ (place + (2 + length (now s)) ≤ 65536) × (n ≤ place) ⌝ }
-    ensures { λ r. ⌜ Wrote shownLayout n (now (room .entry)) (lineBreakAnd place (now (s .entry))) r (now (room .exit)) ⌝ }
+    ensures { λ r. ⌜ Wrote shownLayout byName n (now (room .entry)) (lineBreakAnd place (now (s .entry))) r (now (room .exit)) ⌝ }
 {
     put(room, n, Record::bare(3));
     plain(s, place + 2, room, n + 1)
 }
 
 // A backslash and spaces alone are text; a backslash and any other byte give nothing.
-fn other(s: &[u8], place: usize, room: &mut [u32], n: usize) -> Outcome
+fn other(s: &[u8], place: usize, room: &mut [u32], n: usize) -> Written
     requires { ⌜ (place + (1 + length (now s)) ≤ 65536) × (n ≤ place) ⌝ }
-    ensures { λ r. ⌜ Wrote shownLayout n (now (room .entry)) (otherOf place (now (s .entry))) r (now (room .exit)) ⌝ }
+    ensures { λ r. ⌜ Wrote shownLayout byName n (now (room .entry)) (otherOf place (now (s .entry))) r (now (room .exit)) ⌝ }
 {
     let k = lead_of(s, Class::Space);
     if k < s.len() {
-        return Outcome::Done(n);
+        return Written::Done(n);
     }
     put(room, n, text(place, 1 + s.len()));
-    Outcome::Done(n + 1)
+    Written::Done(n + 1)
 }
 
 // What a backslash at `place` makes of s, the bytes behind it.
-fn escaped(s: &[u8], place: usize, names: &Table, room: &mut [u32], n: usize) -> Outcome
+fn escaped(s: &[u8], place: usize, names: &Table, room: &mut [u32], n: usize) -> Written
     requires { ⌜ (place + (1 + length (now s)) ≤ 65536) × (n ≤ place) × (now names ≡ rows) ⌝ }
-    ensures { λ r. ⌜ Wrote shownLayout n (now (room .entry)) (escapedOf place (now (s .entry))) r (now (room .exit)) ⌝ }
+    ensures { λ r. ⌜ Wrote shownLayout byName n (now (room .entry)) (escapedOf place (now (s .entry))) r (now (room .exit)) ⌝ }
 {
     if s.len() == 0 {
         return other(s, place, room, n);
@@ -209,7 +212,7 @@ fn escaped(s: &[u8], place: usize, names: &Table, room: &mut [u32], n: usize) ->
     }
     if is_escape(b) {
         put(room, n, text(place + 1, s.len()));
-        return Outcome::Done(n + 1);
+        return Written::Done(n + 1);
     }
     if b == b'\'' {
         return hex_escape(&s[1..], place, room, n);
@@ -219,15 +222,15 @@ fn escaped(s: &[u8], place: usize, names: &Table, room: &mut [u32], n: usize) ->
     }
     if b == b'*' {
         put(room, n, Record::bare(4));
-        return Outcome::Done(n + 1);
+        return Written::Done(n + 1);
     }
     other(s, place, room, n)
 }
 
 // An opening or a closing bracket has a token, a line feed none. The next place in the room.
-pub fn mark(b: u8, room: &mut [u32], n: usize) -> usize
+fn mark(b: u8, room: &mut [u32], n: usize) -> usize
     requires { ⌜ n < 65536 ⌝ }
-    ensures { λ r. ⌜ Wrote shownLayout n (now (room .entry)) (markOf b) (Outcome.Done r) (now (room .exit)) ⌝ }
+    ensures { λ r. ⌜ Wrote shownLayout byName n (now (room .entry)) (markOf b) (Written.Done r) (now (room .exit)) ⌝ }
 {
     if b == b'{' {
         put(room, n, Record::bare(1));
@@ -241,26 +244,26 @@ pub fn mark(b: u8, room: &mut [u32], n: usize) -> usize
 }
 
 // The tokens of a slice that stands at `place`.
-pub fn tokenize(s: &[u8], place: usize, names: &Table, room: &mut [u32], n: usize) -> Outcome
+fn tokenize(s: &[u8], place: usize, names: &Table, room: &mut [u32], n: usize) -> Written
     requires { ⌜ (place + length (now s) ≤ 65536) × (n ≤ place) × (now names ≡ rows) ⌝ }
-    ensures { λ r. ⌜ Wrote shownLayout n (now (room .entry)) (tokensOf place (now (s .entry))) r (now (room .exit)) ⌝ }
+    ensures { λ r. ⌜ Wrote shownLayout byName n (now (room .entry)) (tokensOf place (now (s .entry))) r (now (room .exit)) ⌝ }
 {
     if s.len() == 0 {
-        return Outcome::Done(n);
+        return Written::Done(n);
     }
     let b = s[0];
     if is_mark(b) {
         let m = mark(b, room, n);
         if s.len() == 1 {
-            return Outcome::Done(m);
+            return Written::Done(m);
         }
         let rest = tokenize(&s[1..], place + 1, names, room, m);
         match rest {
-            Outcome::Refused(refusal) => {
-                return Outcome::Refused(refusal);
+            Written::Refused(why) => {
+                return Written::Refused(why);
             }
-            Outcome::Done(k) => {
-                return Outcome::Done(k);
+            Written::Done(k) => {
+                return Written::Done(k);
             }
         }
     }

@@ -11,24 +11,25 @@ use native.Mathlib.Numerals.{towards-suc}
 use lib.ListN.{length, set}
 use lib.Seq.{sets}
 use Rattle.rooms.specs.Rooms.{capacity, put}
-use Rattle.rooms.specs.Streams.{Stream, end, _▸_}
+use Rattle.rooms.specs.Streams.{Stream, end, _▸_, byName}
 use Rattle.rooms.specs.Rooms.{Wrote}
 use Rattle.rooms.proofs.Rooms.{put-in, wrote-one, wrote-more}
-use Rattle.answers.specs.declared.Outcome.{Outcome}
-use Rattle.answers.specs.declared.Outcome.the-variants.{Done}
+use Rattle.answers.specs.declared.Written.{Written}
+use Rattle.answers.specs.declared.Written.the-variants.{Done}
 use Rattle.tokens.specs.declared.Property.{Property}
 use Rattle.tokens.specs.declared.Record.{Record}
 use Rattle.tokens.specs.Tokens.{Shown, Token, tokenWords, recordWords, bareRecord, textRecord, wordRecord, recordOf, shownLayout, tokenLayout}
 use Rattle.tokens.specs.Tokens
+use Rattle.answers.specs.declared.Why.{Why}
 
 module _ (room : List ℕ) (n : ℕ) (t : Record) where
   six : (a : ℕ) → set (set (set (set (set (set room a (t .kind)) (a + 1) (t .word)) (a + 2) (t .has)) (a + 3) (t .number)) (a + 4) (t .place)) (a + 5) (t .length) ≡ sets room a (recordWords t)
   six a = simp towards-suc
 
   pub put-six : n < capacity tokenWords (length room)
-      → set (set (set (set (set (set room (n * 6) (t .kind)) (n * 6 + 1) (t .word)) (n * 6 + 2) (t .has)) (n * 6 + 3) (t .number)) (n * 6 + 4) (t .place)) (n * 6 + 5) (t .length)
+      → set (set (set (set (set (set room (n * tokenWords) (t .kind)) (n * tokenWords + 1) (t .word)) (n * tokenWords + 2) (t .has)) (n * tokenWords + 3) (t .number)) (n * tokenWords + 4) (t .place)) (n * tokenWords + 5) (t .length)
       ≡ put tokenWords room n (recordWords t)
-  put-six h = six (n * 6) ∙ put-in tokenWords room n (recordWords t) h
+  put-six h = six (n * tokenWords) ∙ put-in tokenWords room n (recordWords t) h
 
 -- a record is as wide as its layout says
 pub token-sized : (t : Token) → length (tokenLayout .words t) ≡ tokenLayout .width
@@ -59,10 +60,10 @@ module _ {r : Record} where
   unfolding recordOf
   ignorable-record e = e
 
-  module _ {x : Stream Shown} {n : ℕ} {room room′ : List ℕ} {t : Shown} where
-    pub wrote-token : x ≡ t ▸ end → r ≡ recordOf t → room′ ≡ put tokenWords room n (recordWords r) → Wrote shownLayout n room x (Done (n + 1)) room′
+  module _ {x : Stream Why Shown} {n : ℕ} {room room′ : List ℕ} {t : Shown} where
+    pub wrote-token : x ≡ t ▸ end → r ≡ recordOf t → room′ ≡ put tokenWords room n (recordWords r) → Wrote shownLayout byName n room x (Done (n + 1)) room′
     wrote-token e q h = wrote-one shownLayout e (h ∙ ap (λ (z : Record). put tokenWords room n (recordWords z)) q)
 
-    pub wrote-token-and : {y : Stream Shown} {q : Outcome} {room″ : List ℕ} → x ≡ t ▸ y → r ≡ recordOf t → room′ ≡ put tokenWords room n (recordWords r)
-        → Wrote shownLayout (n + 1) room′ y q room″ → Wrote shownLayout n room x q room″
+    pub wrote-token-and : {y : Stream Why Shown} {q : Written} {room″ : List ℕ} → x ≡ t ▸ y → r ≡ recordOf t → room′ ≡ put tokenWords room n (recordWords r)
+        → Wrote shownLayout byName (n + 1) room′ y q room″ → Wrote shownLayout byName n room x q room″
     wrote-token-and e q h w = wrote-more shownLayout e (h ∙ ap (λ (z : Record). put tokenWords room n (recordWords z)) q) w

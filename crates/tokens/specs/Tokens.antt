@@ -6,6 +6,7 @@ use Rattle.rooms.specs.Rooms.{Layout}
 use Rattle.tokens.specs.declared.Property.{Property}
 use Rattle.tokens.specs.declared.Property.the-variants.{None, Value}
 use Rattle.tokens.specs.declared.Record.{Record}
+use Rattle.tokens.specs.WordNumbers as words
 
 -- "kind (0 text, 1 open, 2 close, 3 line break, 4 ignorable, 5 word)": what a token shows. A text has its source place and
 -- its bytes; a word its number and property; an unknown word its source place and bytes, "from its backslash, without its
@@ -24,6 +25,11 @@ pub record Token : Type 0 where
   pub place : ℕ
   pub length : ℕ
   pub shows : Shown
+
+-- what tokens show
+unfoldable pub shownBy : List Token → List Shown
+shownBy [] = []
+shownBy (t ∷ ts) = t .shows ∷ shownBy ts
 
 -- "1 if a number is present, that number modulo 2^32"
 abbrev pub hasOf : Property → ℕ
@@ -47,7 +53,7 @@ wordRecord w num = record { kind = 5; word = w; has = hasOf num; number = valueO
 
 -- "and for an unknown word", whose number is 49
 abbrev pub unknownRecord : ℕ → ℕ → Property → Record
-unknownRecord p n num = record { kind = 5; word = 49; has = hasOf num; number = valueOf num; place = p; length = n }
+unknownRecord p n num = record { kind = 5; word = words.unknown; has = hasOf num; number = valueOf num; place = p; length = n }
 
 -- the record of what a token shows
 unfoldable pub recordOf : Shown → Record

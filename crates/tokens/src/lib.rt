@@ -5,6 +5,9 @@
 //   put        writes a record at its place in a room
 //
 // The definitions say more of a token than its six words do: they keep the slice that it was cut from.
+pub mod item;
+pub mod words;
+
 ghost use mathlib.Core.Path.{_≡_};
 ghost use Rattle.rooms.specs.Rooms.{put as putWords};
 ghost use Rattle.tokens.specs.Tokens.{tokenWords, recordWords, hasOf, valueOf, bareRecord, textRecord, wordRecord, unknownRecord};
@@ -100,7 +103,7 @@ impl Record {
         let number = property.value();
         Record {
             kind: 5,
-            word: 49,
+            word: words::UNKNOWN,
             has: has,
             number: number,
             place: place,

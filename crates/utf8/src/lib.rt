@@ -11,7 +11,7 @@ pub struct Encoded {
 }
 
 // At most 0x10FFFF, and no surrogate.
-pub fn is_scalar(c: u32) -> bool
+fn is_scalar(c: u32) -> bool
     ensures { λ r. ⌜ r ≡ isScalar c ⌝ }
 {
     (c <= 0x10FFFF) & !((0xD800 <= c) & (c <= 0xDFFF))

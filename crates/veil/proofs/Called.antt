@@ -15,9 +15,9 @@ use Rattle.answers.specs.Answers.{Found, found, refused}
 use Rattle.rooms.specs.Rooms.{filled}
 use Rattle.rooms.specs.Streams.{items}
 use Rattle.cutter.specs.Cutting.{tokenStream, cutAnswer}
-use Rattle.rows.specs.Rows.{Font, fontWords, tableWords}
-use Rattle.styles.specs.declared.Reading.{Reading}
-use Rattle.pages.specs.Pages.{Piece, blocks, textOf, records}
+use Rattle.fonts.specs.Rows.{Font, fontRecord, tableWords}
+use Rattle.readings.specs.declared.Reading.{Reading}
+use Rattle.blocks.specs.Pages.{Piece, blocks, textOf, records}
 use Rattle.parser.specs.declared.Counts.{Counts}
 use Rattle.parser.specs.declared.Answer.{Answer}
 use Rattle.parser.specs.declared.Answer.the-variants.{Read}
@@ -25,7 +25,7 @@ use Rattle.parser.specs.Parsing.{Sizes, Letter}
 use Rattle.reader.specs.Reading.{cut, letterOf, answered, readAnswer, holding, fontRoom, colourRoom, blockRoom}
 use Rattle.parser.specs.Parsing.{answerNumber, answerCounts}
 use Rattle.reader.specs.Reading.{textRoom}
-use Rattle.reader.proofs.Whole.{Reads}
+use Rattle.reader.specs.Reading.{Reads}
 use Rattle.veil.specs.Veil.{veil, Alike}
 use Rattle.veil.specs.Said.{Named, nameIn, namesIn, Content, Said, refuses, says, saidBy, said, SameRooms, fontsAt}
 use Rattle.veil.specs.Said.{unplaced}
@@ -36,7 +36,7 @@ use Rattle.veil.proofs.Hidden.{said-own, hidden-stays-hidden}
 -- ---- a font table in its room
 
 fonts-at : (src : List ℕ) (fs : List Font) (ws : List ℕ) → fontsAt src (length fs) (tableWords fs ++ ws) ≡ namesIn src fs
-unfolding fontsAt namesIn tableWords fontWords
+unfolding fontsAt namesIn tableWords fontRecord
 fonts-at src [] ws = refl
 fonts-at src (f ∷ fs) ws = ap (λ (l : List Named). nameIn src f ∷ l) (fonts-at src fs ws)
 
@@ -50,12 +50,12 @@ pairs [] = []
 pairs (x ∷ xs) = x .key ∷ length (x .name) ∷ pairs xs
 
 length-table : (fs : List Font) → length (tableWords fs) ≡ words (ownNames fs)
-unfolding words ownNames tableWords fontWords
+unfolding words ownNames tableWords fontRecord
 length-table [] = refl
 length-table (f ∷ fs) = rw (length-table fs)
 
 table-unplaced : (fs : List Font) (ws : List ℕ) → unplaced (tableWords fs ++ ws) ≡ pairs (ownNames fs) ++ unplaced ws
-unfolding unplaced pairs ownNames tableWords fontWords
+unfolding unplaced pairs ownNames tableWords fontRecord
 table-unplaced [] ws = refl
 table-unplaced (f ∷ fs) ws = ap (λ (l : List ℕ). f .key ∷ length (f .name) ∷ l) (table-unplaced fs ws)
 
@@ -192,7 +192,7 @@ module _ (rd : Reading) (a b : List ℕ) (z y : Sizes) (same : SameRooms z y) {n
   same-calls e p q =
       let f : saidBy a (letterOf rd a z) ≡ saidBy b (letterOf rd b y) = hidden-stays-hidden rd a b z y same u v e in
       let o : sayOf (letterOf rd a z) ≡ sayOf (letterOf rd b y) = sym (said-own rd a z u) ∙ f ∙ said-own rd b y v in
-      rw (p .answer, p .font-room, p .colour-room, p .block-room, p .text-room, q .answer, q .font-room, q .colour-room, q .block-room, q .text-room)
+      rw (p .answer, p .fonts, p .colours, p .blocks, p .text, q .answer, q .fonts, q .colours, q .blocks, q .text)
       (same-letters a b z y same (letterOf rd a z) (letterOf rd b y) f o)
 
   pub alike-calls : Alike a b → {r q : Answer} {tk fs cs bs tx uk gs ds es ux : List ℕ}

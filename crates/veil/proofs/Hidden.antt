@@ -14,12 +14,12 @@ use Rattle.answers.specs.Answers.{refusal}
 use Rattle.rooms.specs.Streams.{items, answer}
 use Rattle.rooms.specs.Rooms.{settled}
 use Rattle.rooms.proofs.Streams.{done-refused}
-use Rattle.tokens.specs.Tokens.{Shown, tokenLayout}
+use Rattle.tokens.specs.Tokens.{Shown, tokenLayout, shownBy}
 use Rattle.cutter.specs.Cutting.{tokenStream, cutAnswer}
 use Rattle.walk.specs.Walk.{Step, walk}
-use Rattle.styles.specs.declared.Reading.{Reading}
+use Rattle.readings.specs.declared.Reading.{Reading}
 use Rattle.parser.specs.Parsing.{Sizes}
-use Rattle.reader.specs.Reading.{shownBy, cut, letterOf}
+use Rattle.reader.specs.Reading.{cut, letterOf}
 use Rattle.veil.specs.Veil.{veil, Alike}
 use Rattle.veil.specs.Said.{saidBy, said, SameRooms}
 use Rattle.veil.specs.Promise.{Promise, LiteralPromise}

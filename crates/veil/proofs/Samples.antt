@@ -9,14 +9,14 @@ use Rattle.bytes.specs.Bytes.{lead, body, any}
 use Rattle.bytes.specs.Texts.{bytesOf}
 use Rattle.names.specs.Names.{sameBytes, placeIn, wordNumber}
 use Rattle.numbers.specs.Numbers.{hexDigit, hexPair, digitsFrom, digits, decimal}
-use Rattle.rooms.specs.Streams.{andThen, each, answer, items}
+use Rattle.rooms.specs.Streams.{andThen, each, answer, items, ended}
 use Rattle.rooms.specs.Rooms.{settled}
 use Rattle.slices.specs.Slices.{split, slices}
 use Rattle.tokenize.specs.Tokenize.{mark, plain, hexValue, hexEscape, lineBreakAnd, shownWord, numbered, named, bareLength}
 use Rattle.tokenize.specs.Tokenize.{wordTail, word, other as otherBytes, escaped, tokens}
 use Rattle.cutter.specs.Cutting.{located, last, allSlices, trimmed, tokenStream, cutAnswer}
 use Rattle.walk.specs.Walk.{aimFrom}
-use Rattle.styles.specs.declared.Reading.{Reading}
+use Rattle.readings.specs.declared.Reading.{Reading}
 use Rattle.parser.specs.Parsing.{Sizes}
 use Rattle.veil.specs.Veil.{part, parts, pieces, join, shown, mask, veil, behind, own, endsBare, Ignored, Alike, same}
 use Rattle.veil.specs.Veil.{other}
@@ -59,12 +59,12 @@ Cut [] = Unit {0}
 Cut (s ∷ ss) = ((cutAnswer (bytesOf (s .letter)) 600 ≡ Done (s .count)) × (veil (bytesOf (s .letter)) ≡ veil base)) × Cut ss
 
 samples-cut : Cut samples
-unfolding samples sample base veil pieces join mask parts part shown aimFrom cutAnswer tokenStream trimmed allSlices last located settled answer items each andThen split slices lead body any tokens escaped otherBytes word wordTail bareLength named numbered shownWord lineBreakAnd hexEscape hexValue plain mark wordNumber placeIn sameBytes hexDigit hexPair digitsFrom digits decimal
+unfolding samples sample base veil pieces join mask parts part shown aimFrom cutAnswer tokenStream trimmed allSlices last located settled ended items each andThen split slices lead body any tokens escaped otherBytes word wordTail bareLength named numbered shownWord lineBreakAnd hexEscape hexValue plain mark wordNumber placeIn sameBytes hexDigit hexPair digitsFrom digits decimal
 samples-cut =
     ((refl, refl), ((refl, refl), ((refl, refl), ((refl, refl), ((refl, refl), ((refl, refl), ((refl, refl), ((refl, refl), ((refl, refl), ((refl, refl), ((refl, refl), ((refl, refl), tt))))))))))))
 
 base-cut : cutAnswer base 600 ≡ Done 7
-unfolding base cutAnswer tokenStream trimmed allSlices last located settled answer items each andThen split slices lead body any tokens escaped otherBytes word wordTail bareLength named numbered shownWord lineBreakAnd hexEscape hexValue plain mark wordNumber placeIn sameBytes hexDigit hexPair digitsFrom digits decimal
+unfolding base cutAnswer tokenStream trimmed allSlices last located settled ended items each andThen split slices lead body any tokens escaped otherBytes word wordTail bareLength named numbered shownWord lineBreakAnd hexEscape hexValue plain mark wordNumber placeIn sameBytes hexDigit hexPair digitsFrom digits decimal
 base-cut = refl
 
 -- they say what it says, whatever the reading and the other rooms
@@ -91,16 +91,16 @@ module _ (rd : Reading) (f c b t : ℕ) where
 
 -- `\*x` and `\*{y}`, each the inside of a group behind `{a`
 first-inside : Ignored (bytesOf "{a") (bytesOf "\\*x")
-unfolding behind own endsBare pieces parts part shown aimFrom cutAnswer tokenStream trimmed allSlices last located settled answer items each andThen split slices lead body any tokens escaped otherBytes word wordTail bareLength named numbered shownWord lineBreakAnd hexEscape hexValue plain mark wordNumber placeIn sameBytes hexDigit hexPair digitsFrom digits decimal
+unfolding behind own endsBare pieces parts part shown aimFrom cutAnswer tokenStream trimmed allSlices last located settled ended items each andThen split slices lead body any tokens escaped otherBytes word wordTail bareLength named numbered shownWord lineBreakAnd hexEscape hexValue plain mark wordNumber placeIn sameBytes hexDigit hexPair digitsFrom digits decimal
 first-inside = record { opened = refl; closed = refl; balanced = refl; reached = refl; hidden = refl }
 
 second-inside : Ignored (bytesOf "{a") (bytesOf "\\*{y}")
-unfolding behind own endsBare pieces parts part shown aimFrom cutAnswer tokenStream trimmed allSlices last located settled answer items each andThen split slices lead body any tokens escaped otherBytes word wordTail bareLength named numbered shownWord lineBreakAnd hexEscape hexValue plain mark wordNumber placeIn sameBytes hexDigit hexPair digitsFrom digits decimal
+unfolding behind own endsBare pieces parts part shown aimFrom cutAnswer tokenStream trimmed allSlices last located settled ended items each andThen split slices lead body any tokens escaped otherBytes word wordTail bareLength named numbered shownWord lineBreakAnd hexEscape hexValue plain mark wordNumber placeIn sameBytes hexDigit hexPair digitsFrom digits decimal
 second-inside = record { opened = refl; closed = refl; balanced = refl; reached = refl; hidden = refl }
 
 -- behind white space, and behind a table and another ignored group
 late-inside : Ignored (bytesOf " \n{{\\fonttbl{\\f0 A;}}{\\*x}a") (bytesOf "\\stylesheet{\\s1 y;}")
-unfolding behind own endsBare pieces parts part shown aimFrom cutAnswer tokenStream trimmed allSlices last located settled answer items each andThen split slices lead body any tokens escaped otherBytes word wordTail bareLength named numbered shownWord lineBreakAnd hexEscape hexValue plain mark wordNumber placeIn sameBytes hexDigit hexPair digitsFrom digits decimal
+unfolding behind own endsBare pieces parts part shown aimFrom cutAnswer tokenStream trimmed allSlices last located settled ended items each andThen split slices lead body any tokens escaped otherBytes word wordTail bareLength named numbered shownWord lineBreakAnd hexEscape hexValue plain mark wordNumber placeIn sameBytes hexDigit hexPair digitsFrom digits decimal
 late-inside = record { opened = refl; closed = refl; balanced = refl; reached = refl; hidden = refl }
 
 two-letters : Alike (bytesOf "{a{\\*x}b}") (bytesOf "{a{\\*{y}}b}")

@@ -20,33 +20,33 @@ use Rattle.numbers.specs.declared.Number.{Number}
 use Rattle.numbers.specs.declared.Number.the-variants.{Is, Bad}
 use Rattle.numbers.specs.Numbers.{hexPair, decimal}
 use Rattle.names.specs.Names.{wordNumber}
-use Rattle.rooms.specs.Streams.{Stream, end, stop, _▸_, andThen, each, items, answer}
+use Rattle.rooms.specs.Streams.{Stream, end, stop, _▸_, andThen, each, items, answer, ended}
 use Rattle.rooms.proofs.Streams.{done-refused}
 use Rattle.slices.specs.Slices.{slices}
 use Rattle.tokens.specs.declared.Property.{Property}
 use Rattle.tokens.specs.declared.Property.the-variants.{None, Value}
-use Rattle.tokens.specs.Tokens.{Shown, Token}
+use Rattle.tokens.specs.Tokens.{Shown, Token, shownBy}
 use Rattle.tokens.specs.Tokens
 use Rattle.tokenize.specs.Tokenize.{isMark, isEscape, mark, plain, hexValue, hexEscape, lineBreakAnd, shownWord, numbered}
 use Rattle.tokenize.specs.Tokenize.{named, bareLength, wordTail, word, other, escaped, tokens}
 use Rattle.cutter.specs.Cutting.{locate, located, last, allSlices, trimStart, trimmed, tokenStream}
-use Rattle.reader.specs.Reading.{shownBy}
 use Rattle.veil.specs.Veil.{flat, part, parts, pieces, shown}
 use Rattle.veil.proofs.Bare.{bare, bareAll, bare-append, side, Flat, none, some}
+use Rattle.answers.specs.declared.Why.{Why}
 
 -- ---- pieces that are no brackets
 
 -- two streams that show the same but for places, stop alike, and show no bracket
-pub data Calm : Stream Shown → Stream Shown → Type 0 where
+pub data Calm : Stream Why Shown → Stream Why Shown → Type 0 where
   ends : Calm end end
-  stops : (r : Refusal) → Calm (stop r) (stop r)
-  more : {t u : Shown} {a b : Stream Shown} → bare t ≡ bare u → side t ≡ flat → Calm a b → Calm (t ▸ a) (u ▸ b)
+  stops : (r : Why) → Calm (stop r) (stop r)
+  more : {t u : Shown} {a b : Stream Why Shown} → bare t ≡ bare u → side t ≡ flat → Calm a b → Calm (t ▸ a) (u ▸ b)
 
-calm-cond : {a b c d : Stream Shown} (x : Bool) → Calm a c → Calm b d → Calm (cond x a b) (cond x c d)
+calm-cond : {a b c d : Stream Why Shown} (x : Bool) → Calm a c → Calm b d → Calm (cond x a b) (cond x c d)
 calm-cond true h k = h
 calm-cond false h k = k
 
-calm-then : {a b c d : Stream Shown} → Calm a c → Calm b d → Calm (andThen a b) (andThen c d)
+calm-then : {a b c d : Stream Why Shown} → Calm a c → Calm b d → Calm (andThen a b) (andThen c d)
 unfolding andThen
 calm-then ends k = k
 calm-then (stops r) k = stops r
@@ -77,7 +77,7 @@ module _ (p q : ℕ) where
   calm-numbered : (name : List ℕ) (n : Number) → Calm (numbered p name n) (numbered q name n)
   unfolding numbered
   calm-numbered name (Is v) = calm-word name (Value v)
-  calm-numbered name Bad = stops (refusal NumberBad)
+  calm-numbered name Bad = stops NumberBad
 
   calm-named : (w : List ℕ) → Calm (named p w) (named q w)
   unfolding named
@@ -94,12 +94,12 @@ calm-worded p q s =
 calm-value : (p q : ℕ) (s : List ℕ) (n : Number) → Calm (hexValue n (plain (p + 4) s)) (hexValue n (plain (q + 4) s))
 unfolding hexValue
 calm-value p q s (Is v) = more refl refl (calm-plain (p + 4) (q + 4) s)
-calm-value p q s Bad = stops (refusal HexBad)
+calm-value p q s Bad = stops HexBad
 
 calm-hex : (p q : ℕ) (s : List ℕ) → Calm (hexEscape p s) (hexEscape q s)
 unfolding hexEscape
-calm-hex p q [] = stops (refusal HexShort)
-calm-hex p q (a ∷ []) = stops (refusal HexShort)
+calm-hex p q [] = stops HexShort
+calm-hex p q (a ∷ []) = stops HexShort
 calm-hex p q (a ∷ b ∷ s) = calm-value p q s (hexPair a b)
 
 calm-other : (p q : ℕ) (s : List ℕ) → Calm (other p s) (other q s)
@@ -121,13 +121,13 @@ pub calm-tokens : (p q b : ℕ) (s : List ℕ) → isMark b ≡ false → Calm (
 unfolding tokens
 calm-tokens p q b s m = rw m (calm-cond (eqb b 92) (calm-escaped p q s) (calm-plain p q (b ∷ s)))
 
-calm-shows : {a b : Stream Shown} → Calm a b → bareAll (items a) ≡ bareAll (items b)
+calm-shows : {a b : Stream Why Shown} → Calm a b → bareAll (items a) ≡ bareAll (items b)
 unfolding items bareAll
 calm-shows ends = refl
 calm-shows (stops r) = refl
 calm-shows (more {t} {u} e l h) = rw (e, calm-shows h)
 
-pub calm-flat : {a b : Stream Shown} → Calm a b → Flat (items a)
+pub calm-flat : {a b : Stream Why Shown} → Calm a b → Flat (items a)
 unfolding items
 calm-flat ends = none
 calm-flat (stops r) = none
@@ -136,25 +136,25 @@ calm-flat (more e l h) = some l (calm-flat h)
 -- ---- streams that end
 
 -- without a refusal
-unfoldable pub whole : {A : Type 0} → Stream A → Bool
+unfoldable pub whole : {E A : Type 0} → Stream E A → Bool
 whole end = true
 whole (stop r) = false
 whole (x ▸ s) = whole s
 
-pub answer-whole : {A : Type 0} (s : Stream A) (n m : ℕ) → answer n s ≡ Done m → whole s ≡ true
-unfolding answer whole
+pub answer-whole : {A : Type 0} (s : Stream Refusal A) (n m : ℕ) → answer n s ≡ Done m → whole s ≡ true
+unfolding ended whole
 answer-whole end n m e = refl
 answer-whole (stop r) n m e = absurd (done-refused (sym e))
 answer-whole (x ▸ s) n m e = answer-whole s (n + 1) m e
 
-module _ {A : Type 0} where
-  items-then : (a b : Stream A) → whole a ≡ true → items (andThen a b) ≡ items a ++ items b
+module _ {E A : Type 0} where
+  items-then : (a b : Stream E A) → whole a ≡ true → items (andThen a b) ≡ items a ++ items b
   unfolding items andThen whole
   items-then end b h = refl
   items-then (stop r) b h = absurd (false≢true h)
   items-then (x ▸ a) b h = ap (λ (l : List A). x ∷ l) (items-then a b h)
 
-  whole-then : (a b : Stream A) → whole (andThen a b) ≡ true → (whole a ≡ true) × (whole b ≡ true)
+  whole-then : (a b : Stream E A) → whole (andThen a b) ≡ true → (whole a ≡ true) × (whole b ≡ true)
   unfolding andThen whole
   whole-then end b h = (refl, h)
   whole-then (stop r) b h = absurd (false≢true h)
@@ -166,7 +166,7 @@ whole-mark : (b : ℕ) → whole (mark b) ≡ true
 unfolding mark whole
 whole-mark b = go (eqb b 123) (eqb b 125)
   where
-    go : (x y : Bool) → whole (cond x (Shown.opening ▸ end) (cond y (Shown.closing ▸ end) end)) ≡ true
+    go : (x y : Bool) → whole {E = Why} (cond x (Shown.opening ▸ end) (cond y (Shown.closing ▸ end) end)) ≡ true
     go true y = refl
     go false true = refl
     go false false = refl
@@ -202,10 +202,10 @@ shown-append [] b = refl
 shown-append (p ∷ a) b = rw (shown-append a b, append-assoc)
 
 -- what the tokens of a stream show
-abbrev sight : Stream Token → List Shown
+abbrev sight : Stream Refusal Token → List Shown
 sight s = bareAll (shownBy (items s))
 
-shown-each : (p n : ℕ) (s : Stream Shown) → shownBy (items (each (locate p n) s)) ≡ items s
+shown-each : (p n : ℕ) (s : Stream Why Shown) → shownBy (items (each refusal (locate p n) s)) ≡ items s
 unfolding shownBy items each
 shown-each p n end = refl
 shown-each p n (stop r) = refl
@@ -240,7 +240,7 @@ unfolding allSlices parts
 slices-show p [] h = unfold items shownBy shown in refl
 slices-show p (s ∷ []) h = last-shows p s h
 slices-show p (s ∷ t ∷ ss) h =
-    let more : Stream Token = allSlices (p + length s) (t ∷ ss) in
+    let more : Stream Refusal Token = allSlices (p + length s) (t ∷ ss) in
     let w = whole-then (located p s) more h in
     ap (λ (l : List Token). bareAll (shownBy l)) (items-then (located p s) more (w .0))
     ∙ ap bareAll (shown-by-append (items (located p s)) (items more))

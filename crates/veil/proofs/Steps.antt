@@ -20,39 +20,40 @@ use Rattle.tokens.specs.declared.Property.{Property}
 use Rattle.tokens.specs.declared.Property.the-variants.{None, Value}
 use Rattle.tokens.specs.Tokens.{Shown}
 use Rattle.tokens.specs.Tokens
-use Rattle.rows.specs.Rows.{Font, Fonts, noFonts, hasKey, inserted, stored}
+use Rattle.fonts.specs.Rows.{Font, Fonts, noFonts, hasKey, inserted, stored, fontWords}
 use Rattle.fonts.specs.Fonts.{named, rekeyed, fontWord, fontToken, nextFont}
-use Rattle.rows.specs.Rows.{tableOf}
+use Rattle.fonts.specs.Rows.{tableOf}
 use Rattle.fonts.specs.Fonts.{fontsFrom, fonts}
-use Rattle.colours.specs.Colours.{Colours, colourToken, nextColour, coloursFrom, tableOf as colourTableOf, noColours, colours}
+use Rattle.colours.specs.Colours.{Colours, colourToken, nextColour, coloursFrom, tableOf as colourTableOf, noColours, colours, colourWords}
 use Rattle.walk.specs.declared.Aim.{Aim}
 use Rattle.walk.specs.declared.Aim.the-variants.{Nothing, Hide, Fonts as ReadFonts, Colours as ReadColours}
 use Rattle.walk.specs.Walk.{aim, Step, kept, hidden, fontTable, colourTable, entered, passedBy, walkFrom, walk}
-use Rattle.entering.specs.Entering.{Tables, withFonts, withColours, readStep}
+use Rattle.header.specs.Entering.{Tables, withFonts, withColours, readStep}
 use Rattle.header.specs.Header.{noTables, nextStep, tablesFrom, tables}
 use Rattle.styles.specs.declared.State.{State}
-use Rattle.styles.specs.declared.Reading.{Reading}
+use Rattle.readings.specs.declared.Reading.{Reading}
 use Rattle.styles.specs.Styles.{fresh}
-use Rattle.pages.specs.Pages.{Piece, blocks, textOf, blockWords, textCapacity, none, roomy}
-use Rattle.acts.specs.Body.{Item, token, run, apart, joined, keptItems, gather, Asked, tokenAsks, bareAsks, asks, statesOf}
-use Rattle.acts.specs.Body.{uttered, bodyFrom, body}
-use Rattle.parser.specs.Parsing.{begun, Sizes, Letter, ended, placed, bodied, headed, walked}
+use Rattle.blocks.specs.Pages.{Piece, blocks, textOf, blockWords, textCapacity, none, roomy}
+use Rattle.body.specs.Body.{Item, token, run, apart, joined, keptItems, gather, Asked, tokenAsks, bareAsks, asks, statesOf}
+use Rattle.body.specs.Body.{uttered, bodyFrom, body}
+use Rattle.parser.specs.Parsing.{begun, Sizes, Letter, letterFrom, placed, bodied, headed, walked}
 use Rattle.veil.specs.Said.{Named, Said, refuses, says}
 use Rattle.veil.proofs.Bare.{bare, bareAll, bareStep, bareSteps}
+use Rattle.answers.specs.declared.Refusal.{Refusal}
 
 -- ---- a letter by its steps, in rooms for so many fonts and colours, and of b words and t bytes
 
 module _ (rd : Reading) (b t : ℕ) (ss : List Step) where
-  abbrev pub laid : Stream Piece
+  abbrev pub laid : Stream Refusal Piece
   laid = roomy (capacity blockWords b) (textCapacity t) none (body rd ss)
 
   abbrev pub finished : Found Tables → Found Letter
-  finished (found h) = ended h laid (answer 0 laid)
+  finished (found h) = letterFrom h laid (answer 0 laid)
   finished (refused r) = refused r
 
 module _ (rd : Reading) (f c b t : ℕ) where
   abbrev pub stepped : List Step → Found Letter
-  stepped ss = finished rd b t ss (tables (tableLimit 3 f) (tableLimit 1 c) ss)
+  stepped ss = finished rd b t ss (tables (tableLimit fontWords f) (tableLimit colourWords c) ss)
 
   -- the look at the first token, at the first step
   abbrev pub first : List Step → Found Letter
@@ -84,7 +85,7 @@ pub begun-steps : (rd : Reading) (z : Sizes) (ts : List Shown)
 unfolding walkFrom
 begun-steps rd z [] = refl
 begun-steps rd z (Shown.opening ∷ ts) =
-    headed-steps rd (z .blocks) (z .text) (Shown.opening ∷ ts) (tables (tableLimit 3 (z .fonts)) (tableLimit 1 (z .colours)) (walk (Shown.opening ∷ ts)))
+    headed-steps rd (z .blocks) (z .text) (Shown.opening ∷ ts) (tables (tableLimit fontWords (z .fonts)) (tableLimit colourWords (z .colours)) (walk (Shown.opening ∷ ts)))
     ∙ sym (first-opening rd (z .fonts) (z .colours) (z .blocks) (z .text) (aim ts) ts (walkFrom (passedBy Shown.opening ts) ts))
 begun-steps rd z (Shown.closing ∷ ts) = refl
 begun-steps rd z (Shown.lineBreak ∷ ts) = refl
@@ -387,7 +388,7 @@ unfolding ownNames bareFonts
 names-bare [] = refl
 names-bare (f ∷ fs) = ap (λ (l : List Named). ownName f ∷ l) (names-bare fs)
 
-ended-bare : (h : Tables) (s : Stream Piece) (o : Outcome) → sayOf (ended (bareTables h) s o) ≡ sayOf (ended h s o)
+ended-bare : (h : Tables) (s : Stream Refusal Piece) (o : Outcome) → sayOf (letterFrom (bareTables h) s o) ≡ sayOf (letterFrom h s o)
 ended-bare h s (Done n) = rw (names-bare (h .fonts))
 ended-bare h s (Refused r) = refl
 
@@ -399,8 +400,8 @@ module _ (rd : Reading) (f c b t : ℕ) where
 
   stepped-bare : (ss : List Step) → sayOf (stepped rd f c b t (bareSteps ss)) ≡ sayOf (stepped rd f c b t ss)
   stepped-bare ss =
-      ap (λ (x : Found Tables). sayOf (finished rd b t (bareSteps ss) x)) (tables-bare (tableLimit 3 f) (tableLimit 1 c) ss)
-      ∙ finished-bare ss (tables (tableLimit 3 f) (tableLimit 1 c) ss)
+      ap (λ (x : Found Tables). sayOf (finished rd b t (bareSteps ss) x)) (tables-bare (tableLimit fontWords f) (tableLimit colourWords c) ss)
+      ∙ finished-bare ss (tables (tableLimit fontWords f) (tableLimit colourWords c) ss)
 
   pub say-bare : (ss : List Step) → sayOf (first rd f c b t (bareSteps ss)) ≡ sayOf (first rd f c b t ss)
   unfolding bareSteps

@@ -12,7 +12,6 @@ use Rattle.cutter.specs.Cutting.{trimmed, tokenStream}
 use Rattle.walk.specs.declared.Aim.{Aim}
 use Rattle.walk.specs.declared.Aim.the-variants.{Nothing, Hide, Fonts, Colours}
 use Rattle.walk.specs.Walk.{aim, walk}
-use Rattle.reader.specs.Reading.{shownBy}
 use Rattle.veil.specs.Veil.{Side, up, down, flat, Mode, going, passing, reading, next, pieces, join, shown, sideOf, cover}
 use Rattle.veil.specs.Veil.{mask, veil}
 use Rattle.veil.proofs.Bare.{bareSteps, bare-walk}
@@ -20,6 +19,7 @@ use Rattle.veil.proofs.Pieces.{fits, Cut, none, mark, run, recut, cut-p
 use Rattle.veil.proofs.Shows.{whole, stream-shows}
 use Rattle.veil.proofs.Walks.{Sorted, none as sorted-none, opens, closes, stays, sorted, Seen, goes, reads, run-side}
 use Rattle.veil.proofs.Walks.{walk-mask}
+use Rattle.tokens.specs.Tokens.{shownBy}
 
 -- where a run ends depends on the next byte alone
 fits-head : (b : ℕ) (t : List ℕ) (c : ℕ) (r s : List ℕ) → fits b t (c ∷ r) ≡ fits b t (c ∷ s)

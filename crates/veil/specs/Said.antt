@@ -6,10 +6,10 @@ use mathlib.Core.List.{List, [], _∷_}
 use lib.ListN.{length, getD, drop}
 use Rattle.answers.specs.declared.Refusal.{Refusal}
 use Rattle.answers.specs.Answers.{Found, found, refused}
-use Rattle.items.specs.Items.{part}
-use Rattle.rows.specs.Rows.{Font, fontWidth}
-use Rattle.styles.specs.declared.Reading.{Reading}
-use Rattle.pages.specs.Pages.{Piece, blocks, textOf}
+use Rattle.tokens.specs.Items.{part}
+use Rattle.fonts.specs.Rows.{Font, fontWords}
+use Rattle.readings.specs.declared.Reading.{Reading}
+use Rattle.blocks.specs.Pages.{Piece, blocks, textOf}
 use Rattle.parser.specs.Parsing.{Sizes, Letter}
 use Rattle.reader.specs.Reading.{letterOf}
 
@@ -64,7 +64,7 @@ fontAt src ws = record { key = getD ws 0 0; name = part src (getD ws 1 0) (getD 
 
 unfoldable pub fontsAt : List ℕ → ℕ → List ℕ → List Named
 fontsAt src zero ws = []
-fontsAt src (suc n) ws = fontAt src ws ∷ fontsAt src n (drop fontWidth ws)
+fontsAt src (suc n) ws = fontAt src ws ∷ fontsAt src n (drop fontWords ws)
 
 -- and a font room without the places: key and name length of each record
 unfoldable pub unplaced : List ℕ → List ℕ

@@ -11,22 +11,22 @@ use borrow.Author.Tests.{eq-eqb, ne-eqb, not-true, not-false}
 use lib.ListN.{length}
 use lib.Dec.{eqb}
 use Rattle.tokens.specs.declared.Property.{Property}
-use Rattle.tokens.specs.Tokens.{Shown}
+use Rattle.tokens.specs.Tokens.{Shown, tokenWords}
 use Rattle.tokens.specs.Tokens
-use Rattle.items.specs.declared.Item.{Item}
-use Rattle.items.specs.declared.Item.the-variants.{LineBreak, Word}
-use Rattle.items.specs.Items.{itemAt, shownOf, shownAll}
-use Rattle.items.proofs.Items.{rest, words-less, shown-none, shown-some}
+use Rattle.tokens.specs.declared.item.Item.{Item}
+use Rattle.tokens.specs.declared.item.Item.the-variants.{LineBreak, Word}
+use Rattle.tokens.specs.Items.{itemAt, shownOf, shownAll}
+use Rattle.tokens.proofs.Items.{rest, words-less, shown-none, shown-some}
 use Rattle.walk.specs.declared.Aim.{Aim}
 use Rattle.walk.specs.declared.Aim.the-variants.{Nothing}
 use Rattle.walk.specs.Walk.{wordAim, aimAt, isBreak, aimFrom, aim, level, extent}
 
 -- what is left, from here, gives the whole result
 pub record Looking (s : List ℕ) (count : ℕ) (t : List ℕ) (n : ℕ) (late : Bool) : Type 0 where
-  pub words : n * 6 ≤ length t
+  pub words : n * tokenWords ≤ length t
   pub left : (src : List ℕ) → aimFrom late (shownAll src n t) ≡ aim (shownAll src count s)
 
-pub look-start : (s : List ℕ) (count : ℕ) → count * 6 ≤ length s → Looking s count s count false
+pub look-start : (s : List ℕ) (count : ℕ) → count * tokenWords ≤ length s → Looking s count s count false
 look-start s count h = record { words = h; left = λ src. refl }
 
 break-goes-on : (late : Bool) (t : Shown) (later : Aim) → isBreak t ≡ true → aimAt late t later ≡ later
@@ -63,7 +63,7 @@ module _ {s : List ℕ} {count : ℕ} {t : List ℕ} {n : ℕ} {late : Bool} (l 
       g src ∙ ap (λ (i : Item). aimAt late (shownOf src i) Nothing) f ∙ a
 
   module _ (z : n ≡ 0 → ⊥) {i : Item} (e : i ≡ itemAt t) {b : Bool} (q : (src : List ℕ) → b ≡ isBreak (shownOf src i)) where
-    first-token : (src : List ℕ) → aimAt late (shownOf src i) (aimFrom true (shownAll src (n - 1) (rest t 6))) ≡ aim (shownAll src count s)
+    first-token : (src : List ℕ) → aimAt late (shownOf src i) (aimFrom true (shownAll src (n - 1) (rest t tokenWords))) ≡ aim (shownAll src count s)
     unfolding aimFrom
     first-token src = rw e (rw (shown-some src n t (omega arith)) at (l .left src))
 
@@ -72,24 +72,24 @@ module _ {s : List ℕ} {count : ℕ} {t : List ℕ} {n : ℕ} {late : Bool} (l 
     look-found f {first} {r} h g src =
         g src
         ∙ ap (λ (j : Item). aimAt late (shownOf src j) Nothing) h
-        ∙ other-decides late (shownOf src i) Nothing (aimFrom true (shownAll src (n - 1) (rest t 6))) (sym (q src) ∙ not-true b f)
+        ∙ other-decides late (shownOf src i) Nothing (aimFrom true (shownAll src (n - 1) (rest t tokenWords))) (sym (q src) ∙ not-true b f)
         ∙ first-token src
 
-    pub look-more : not b ≡ false → Looking s count (rest t 6) (n - 1) true
+    pub look-more : not b ≡ false → Looking s count (rest t tokenWords) (n - 1) true
     look-more f = record {
       words = words-less n t (l .words);
-      left = λ src. sym (break-goes-on late (shownOf src i) (aimFrom true (shownAll src (n - 1) (rest t 6))) (sym (q src) ∙ not-false b f)) ∙ first-token src;
+      left = λ src. sym (break-goes-on late (shownOf src i) (aimFrom true (shownAll src (n - 1) (rest t tokenWords))) (sym (q src) ∙ not-false b f)) ∙ first-token src;
     }
 
 -- what was measured, and what is left
 pub record Measuring (s : List ℕ) (count : ℕ) (t : List ℕ) (n d : ℕ) : Type 0 where
-  pub words : n * 6 ≤ length t
+  pub words : n * tokenWords ≤ length t
   pub few : n ≤ count
   pub some : 0 < d
   pub deep : d ≤ 1 + (count - n)
   pub left : (src : List ℕ) → count - n + extent d (shownAll src n t) ≡ extent 1 (shownAll src count s)
 
-pub measure-start : (s : List ℕ) (count : ℕ) → count * 6 ≤ length s → Measuring s count s count 1
+pub measure-start : (s : List ℕ) (count : ℕ) → count * tokenWords ≤ length s → Measuring s count s count 1
 measure-start s count h = record {
   words = h;
   few = omega arith;
@@ -113,7 +113,7 @@ module _ {s : List ℕ} {count : ℕ} {t : List ℕ} {n d : ℕ} (m : Measuring 
   measure-none z = ((λ src. let e : count - n + 0 ≡ extent 1 (shownAll src count s) = rw (shown-none src n t z) at (m .left src) in omega arith), omega arith)
 
   module _ (z : 0 < n) {i : Item} (e : i ≡ itemAt t) {d′ : ℕ} (q : (src : List ℕ) → d′ ≡ level (shownOf src i) d) where
-    one-more : (src : List ℕ) → count - n + cond (eqb d′ 0) 1 (suc (extent d′ (shownAll src (n - 1) (rest t 6)))) ≡ extent 1 (shownAll src count s)
+    one-more : (src : List ℕ) → count - n + cond (eqb d′ 0) 1 (suc (extent d′ (shownAll src (n - 1) (rest t tokenWords)))) ≡ extent 1 (shownAll src count s)
     unfolding extent
     one-more src = rw (q src, e) (rw (shown-some src n t z) at (m .left src))
 
@@ -122,7 +122,7 @@ module _ {s : List ℕ} {count : ℕ} {t : List ℕ} {n d : ℕ} (m : Measuring 
         let g : n ≤ count = m .few in
         ((λ src. let a : count - n + 1 ≡ extent 1 (shownAll src count s) = rw (eq-eqb d′ 0 f) at (one-more src) in omega arith), omega arith)
 
-    pub measure-more : (d′ ≡ 0 → ⊥) → Measuring s count (rest t 6) (n - 1) d′
+    pub measure-more : (d′ ≡ 0 → ⊥) → Measuring s count (rest t tokenWords) (n - 1) d′
     measure-more f =
         let g : n ≤ count = m .few in
         let h : d ≤ 1 + (count - n) = m .deep in
@@ -132,7 +132,7 @@ module _ {s : List ℕ} {count : ℕ} {t : List ℕ} {n d : ℕ} (m : Measuring 
           some = omega arith;
           deep = let b : d′ ≤ d + 1 = rw (q []) (level-bound (shownOf [] i) d) in omega arith;
           left = λ src.
-              let a : count - n + suc (extent d′ (shownAll src (n - 1) (rest t 6))) ≡ extent 1 (shownAll src count s) = rw (ne-eqb d′ 0 f) at (one-more src) in
+              let a : count - n + suc (extent d′ (shownAll src (n - 1) (rest t tokenWords))) ≡ extent 1 (shownAll src count s) = rw (ne-eqb d′ 0 f) at (one-more src) in
               let b : count - (n - 1) ≡ count - n + 1 = omega arith in
               rw b (omega arith);
         }

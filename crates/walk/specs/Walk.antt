@@ -11,11 +11,12 @@ use Rattle.tokens.specs.Tokens.{Shown}
 use Rattle.tokens.specs.Tokens
 use Rattle.walk.specs.declared.Aim.{Aim}
 use Rattle.walk.specs.declared.Aim.the-variants.{Nothing, Hide, Fonts, Colours}
+use Rattle.tokens.specs.WordNumbers as words
 
 -- "`\*`, or `stylesheet` without a number: pass over .. `fonttbl` or `colortbl` without a number: the same, and read it. Else
 -- go one token on."; late: line breaks stand before the word
 abbrev pub wordAim : ℕ → Property → Bool → Aim
-wordAim w None late = cond (eqb w 7) Hide (cond (eqb w 4) (Fonts late) (cond (eqb w 5) (Colours late) Nothing))
+wordAim w None late = cond (eqb w words.styleSheet) Hide (cond (eqb w words.fontTable) (Fonts late) (cond (eqb w words.colourTable) (Colours late) Nothing))
 wordAim w (Value v) late = Nothing
 
 -- what a token behind a bracket makes of the group; a line break leaves it to those behind

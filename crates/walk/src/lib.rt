@@ -7,15 +7,18 @@
 //
 // Header and body both walk by these two, and so agree on what is passed over. Each token is looked at once by `aim_of` for
 // the bracket before it and once by `extent`: the walk is linear, as the crate's is not.
-use items::Item;
-use items::item_at;
 use tokens::Property;
+use tokens::TOKEN_WORDS;
+use tokens::item::Item;
+use tokens::item::item_at;
+use tokens::words;
 ghost use mathlib.Core.Path.{_≡_};
 ghost use mathlib.Core.List.{List};
 ghost use Prim.Native.Nat.{ℕ, _*_, _≤_, _<_};
 ghost use lib.ListN.{length};
-ghost use Rattle.items.specs.Items.{shownOf, shownAll};
+ghost use Rattle.tokens.specs.Items.{shownOf, shownAll};
 ghost use Rattle.walk.specs.Walk.{wordAim, aimAt, isBreak, aim as aimOf, level as levelOf, extent as extentOf};
+ghost use Rattle.tokens.specs.Tokens.{tokenWords};
 
 pub enum Aim {
     Nothing,
@@ -30,13 +33,13 @@ fn word_aim(w: u32, number: Property, late: bool) -> Aim
     match number {
         Property::Value(_) => Aim::Nothing,
         Property::None => {
-            if w == 7 {
+            if w == words::STYLE_SHEET {
                 return Aim::Hide;
             }
-            if w == 4 {
+            if w == words::FONT_TABLE {
                 return Aim::Fonts(late);
             }
-            if w == 5 {
+            if w == words::COLOUR_TABLE {
                 return Aim::Colours(late);
             }
             Aim::Nothing
@@ -74,7 +77,7 @@ fn is_break(i: Item) -> bool
 
 // What the tokens behind an opening bracket make of its group.
 pub fn aim_of(s: &[u32], count: usize) -> Aim
-    requires { ⌜ count * 6 ≤ length (now s) ⌝ }
+    requires { ⌜ count * tokenWords ≤ length (now s) ⌝ }
     ensures { λ r. ⌜ ((src : List ℕ) → r ≡ aimOf (shownAll src count (now (s .entry)))) ⌝ }
 {
     let mut t = s;
@@ -88,7 +91,7 @@ pub fn aim_of(s: &[u32], count: usize) -> Aim
         if !is_break(i) {
             break i;
         }
-        t = &t[6..];
+        t = &t[TOKEN_WORDS..];
         n -= 1;
         late = true;
     };
@@ -113,7 +116,7 @@ fn level(i: Item, d: usize) -> usize
 
 // How many tokens a group has behind its opening bracket: to the bracket that matches, or to the end.
 pub fn extent(s: &[u32], count: usize) -> usize
-    requires { ⌜ count * 6 ≤ length (now s) ⌝ }
+    requires { ⌜ count * tokenWords ≤ length (now s) ⌝ }
     ensures { λ r. ⌜ ((src : List ℕ) → r ≡ extentOf 1 (shownAll src count (now (s .entry)))) × (r ≤ count) ⌝ }
 {
     let mut t = s;
@@ -122,7 +125,7 @@ pub fn extent(s: &[u32], count: usize) -> usize
     while 0 < n {
         let i = item_at(t);
         d = level(i, d);
-        t = &t[6..];
+        t = &t[TOKEN_WORDS..];
         n -= 1;
         if d == 0 {
             return count - n;

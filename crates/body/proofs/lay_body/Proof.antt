@@ -9,11 +9,11 @@ use Rattle.body.proofs.lay_body.Tie as tie
 use Rattle.body.proofs.lay_body.Reads as reads
 use Rattle.body.proofs.lay_body.Lts as lts
 use Rattle.answers.proofs.Refusal.of.Reads as of-reads
-use Rattle.acts.proofs.bare_token.Reads as bare-token-reads
-use Rattle.acts.proofs.passed.Reads as passed-reads
-use Rattle.acts.proofs.take_token.Reads as take-token-reads
-use Rattle.items.proofs.item_at.Reads as item-at-reads
-use Rattle.pages.proofs.Page.blank.Reads as blank-reads
+use Rattle.body.proofs.act.bare_token.Reads as bare-token-reads
+use Rattle.body.proofs.act.passed.Reads as passed-reads
+use Rattle.body.proofs.act.take_token.Reads as take-token-reads
+use Rattle.tokens.proofs.item.item_at.Reads as item-at-reads
+use Rattle.blocks.proofs.Page.blank.Reads as blank-reads
 use Rattle.styles.proofs.State.fresh.Reads as fresh-reads
 
 abbrev Inv-loop : tie.InvT-loop

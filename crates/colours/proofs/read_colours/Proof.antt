@@ -11,7 +11,7 @@ use Rattle.answers.proofs.Refusal.of.Reads as of-reads
 use Rattle.colours.proofs.colour_word.Reads as colour-word-reads
 use Rattle.colours.proofs.limit_of.Reads as limit-of-reads
 use Rattle.colours.proofs.step.Reads as step-reads
-use Rattle.items.proofs.item_at.Reads as item-at-reads
+use Rattle.tokens.proofs.item.item_at.Reads as item-at-reads
 
 abbrev Inv-loop : tie.InvT-loop
 Inv-loop tokens count room₀ limit t₀ n₀ colour₀ stored₀ room t n colour stored = Loop tokens count room₀ limit room t n colour stored

@@ -10,9 +10,10 @@ use Rattle.cutter.proofs.all_slices.Statement.{statement}
 use Rattle.cutter.proofs.all_slices.Tie as tie
 use Rattle.cutter.proofs.all_slices.Reads as reads
 use Rattle.cutter.proofs.all_slices.Lts as lts
+use Rattle.answers.proofs.Refusal.of.Reads as of-reads
 use Rattle.cutter.proofs.last.Reads as last-reads
-use Rattle.quick.proofs.slice_tokens.Reads as slice-tokens-reads
 use Rattle.slices.proofs.slice_end.Reads as slice-end-reads
+use Rattle.tokenize.proofs.quick.slice_tokens.Reads as slice-tokens-reads
 
 abbrev Inv-loop : tie.InvT-loop
 Inv-loop s place names room₀ t₀ p₀ n₀ room t p n = Loop place s room₀ room t p n
@@ -38,11 +39,14 @@ slice-tokens-requires c κs = (simp length-take (omega (arith, c .before .before
 enum-known-one : tie.Need-enum-known-one Inv-loop μ-loop
 enum-known-one c = search needs
 
+of-requires : tie.Need-of-requires Inv-loop μ-loop
+of-requires c κs = search needs
+
 same-length : tie.Need-same-length Inv-loop μ-loop
-same-length c = c .before .before .before .before .before .slice-tokens .kept .1 .1 .1 .0 ∙ c .before .before .before .before .before .before .before .before .before .before .loop .inv .long
+same-length c = c .before .before .before .before .before .before .slice-tokens .kept .1 .1 .1 .0 ∙ c .before .before .before .before .before .before .before .before .before .before .before .loop .inv .long
 
 returns-2 : tie.Need-returns-2 Inv-loop μ-loop
-returns-2 c = loop-stop (c .before .before .before .before .before .before .before .before .before .before .loop .inv) (c .before .before .before .before .before .before .before .before .before .slice-end .ensures) (c .before .before .before .before .before .before .before .before .if2 .left) (c .before .before .before .before .before .slice-tokens .ensures) (c .before .one .given .1)
+returns-2 c = loop-stop (c .before .before .before .before .before .before .before .before .before .before .before .loop .inv) (c .before .before .before .before .before .before .before .before .before .before .slice-end .ensures) (c .before .before .before .before .before .before .before .before .before .if2 .left) (c .before .before .before .before .before .before .slice-tokens .ensures) (c .before .before .one .given .1) (c .of .ensures)
 
 enum-known-one-2 : tie.Need-enum-known-one-2 Inv-loop μ-loop
 enum-known-one-2 c = search needs
@@ -86,6 +90,7 @@ all-slices-spec =
     slice-aggregate-slice-tokens
     slice-tokens-requires
     enum-known-one
+    of-requires
     same-length
     returns-2
     enum-known-one-2

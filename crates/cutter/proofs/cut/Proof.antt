@@ -1,5 +1,6 @@
 -- `cut` meets its contract: a refusal, tokens that fit, or tokens too many.
 use mathlib.Core.Path.{_∙_}
+use Rattle.cutter.proofs.Tokens.{cuts}
 use Rattle.cutter.proofs.Source.{settle-refused, settle-fits, settle-over, room-refused, room-fits}
 use borrow.Author.Needs.{needs}
 use Rattle.cutter.proofs.cut.Statement.{statement}
@@ -31,7 +32,7 @@ same-length c = search needs
 
 returns : tie.Need-returns
 returns c =
-    (settle-fits _ (c .before .before .before .before .before .before .before .before .before .before .whole .ensures) (c .before .before .before .before .before .before .outcome2 .given .1) (c .before .before .before .before .if1 .taken), room-fits _ (c .before .before .before .before .before .before .before .before .before .before .whole .ensures) (c .before .before .before .before .before .before .outcome2 .given .1) (c .before .before .before .before .if1 .taken) (c .before .before .clear-from .ensures))
+    cuts _ _ (settle-fits _ (c .before .before .before .before .before .before .before .before .before .before .whole .ensures) (c .before .before .before .before .before .before .outcome2 .given .1) (c .before .before .before .before .if1 .taken)) (room-fits _ (c .before .before .before .before .before .before .before .before .before .before .whole .ensures) (c .before .before .before .before .before .before .outcome2 .given .1) (c .before .before .before .before .if1 .taken) (c .before .before .clear-from .ensures))
 
 of-requires : tie.Need-of-requires
 of-requires c κs = search needs
@@ -45,7 +46,7 @@ same-length-2 c = search needs
 returns-2 : tie.Need-returns-2
 returns-2 c =
     let e = settle-refused _ (c .before .before .before .before .before .before .before .before .before .whole .ensures) (c .before .before .before .before .before .outcome .given .1) in
-    (c .before .before .refuse .ensures .0 ∙ e, room-refused _ (c .before .before .before .before .before .before .before .before .before .whole .ensures) e (c .before .before .refuse .ensures .1))
+    cuts _ _ (c .before .before .refuse .ensures .0 ∙ e) (room-refused _ (c .before .before .before .before .before .before .before .before .before .whole .ensures) e (c .before .before .refuse .ensures .1))
 
 same-length-3 : tie.Need-same-length-3
 same-length-3 c = search needs
@@ -53,7 +54,7 @@ same-length-3 c = search needs
 returns-3 : tie.Need-returns-3
 returns-3 c =
     let e = settle-over _ (c .before .before .before .before .before .before .before .before .before .before .before .whole .ensures) (c .before .before .before .before .before .before .before .outcome2 .given .1) (c .before .before .before .before .before .if1 .left) (c .before .before .before .before .of .ensures) in
-    (c .before .before .refuse2 .ensures .0 ∙ e, room-refused _ (c .before .before .before .before .before .before .before .before .before .before .before .whole .ensures) e (c .before .before .refuse2 .ensures .1))
+    cuts _ _ (c .before .before .refuse2 .ensures .0 ∙ e) (room-refused _ (c .before .before .before .before .before .before .before .before .before .before .before .whole .ensures) e (c .before .before .refuse2 .ensures .1))
 
 pub cut-spec : {M : Type 1} → statement M
 cut-spec =

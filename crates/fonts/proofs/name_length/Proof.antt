@@ -7,7 +7,7 @@ use Rattle.fonts.proofs.name_length.Tie as tie
 use Rattle.fonts.proofs.name_length.Reads as reads
 use Rattle.fonts.proofs.name_length.Lts as lts
 use Rattle.bytes.proofs.body_of.Reads as body-of-reads
-use Rattle.items.proofs.part.Reads as part-reads
+use Rattle.tokens.proofs.item.part.Reads as part-reads
 
 part-requires : tie.Need-part-requires
 part-requires c κs = search needs

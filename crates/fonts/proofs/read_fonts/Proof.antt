@@ -10,9 +10,9 @@ use Rattle.fonts.proofs.read_fonts.Reads as reads
 use Rattle.fonts.proofs.read_fonts.Lts as lts
 use Rattle.fonts.proofs.limit_of.Reads as limit-of-reads
 use Rattle.fonts.proofs.step.Reads as step-reads
-use Rattle.rows.proofs.store.Reads as store-reads
+use Rattle.fonts.proofs.rows.store.Reads as store-reads
 use Rattle.fonts.proofs.unnumbered.Reads as unnumbered-reads
-use Rattle.items.proofs.item_at.Reads as item-at-reads
+use Rattle.tokens.proofs.item.item_at.Reads as item-at-reads
 
 abbrev Inv-loop : tie.InvT-loop
 Inv-loop source tokens count room₀ limit t₀ n₀ font₀ held₀ room t n font held = Loop source tokens count room₀ limit room t n font held

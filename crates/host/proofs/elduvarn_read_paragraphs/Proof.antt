@@ -1,19 +1,19 @@
--- The export meets its contract: the reader's answer, told in six numbers.
-use mathlib.Core.Path.{_∙_, ap}
-use Rattle.told.specs.Told.{answerOf}
+-- `elduvarn_read_paragraphs` meets its contract: it says what `read` says.
+use mathlib.Core.Path.{ap, _∙_}
+use Rattle.host.specs.Exports.{readOf}
 use borrow.Author.Needs.{needs}
 use Rattle.host.proofs.elduvarn_read_paragraphs.Statement.{statement}
 use Rattle.host.proofs.elduvarn_read_paragraphs.Tie as tie
 use Rattle.host.proofs.elduvarn_read_paragraphs.Reads as reads
 use Rattle.host.proofs.elduvarn_read_paragraphs.Lts as lts
+use Rattle.host.proofs.answer.of_reading.Reads as of-reading-reads
 use Rattle.reader.proofs.read.Reads as read-reads
-use Rattle.told.proofs.answer_of.Reads as answer-of-reads
 
 read-requires : tie.Need-read-requires
 read-requires c κs = search needs
 
-answer-of-requires : tie.Need-answer-of-requires
-answer-of-requires c κs = search needs
+of-reading-requires : tie.Need-of-reading-requires
+of-reading-requires c κs = search needs
 
 same-length : tie.Need-same-length
 same-length c = search needs
@@ -31,14 +31,14 @@ same-length-5 : tie.Need-same-length-5
 same-length-5 c = search needs
 
 returns : tie.Need-returns
-returns c = (c .answer-of .ensures ∙ ap answerOf (c .before .before .before .before .before .before .before .before .before .before .before .read .ensures .0), c .before .before .before .before .before .before .before .before .before .before .before .read .ensures .1)
+returns c = let w = c .before .before .before .before .before .before .before .before .before .before .before .read .ensures in record { answer = c .of-reading .ensures ∙ ap readOf (w .answer); tokens = w .tokens; fonts = w .fonts; colours = w .colours; blocks = w .blocks; text = w .text }
 
 pub elduvarn-read-paragraphs-spec : {M : Type 1} → statement M
 elduvarn-read-paragraphs-spec =
     tie.close
     (tie.spec
     read-requires
-    answer-of-requires
+    of-reading-requires
     same-length
     same-length-2
     same-length-3

@@ -1,13 +1,13 @@
--- `elduvarn_stored_check` says by number what `check` says.
-use borrow.Author.Needs.{needs}
+-- `elduvarn_stored_check` meets its contract: it says what `check` says.
 use mathlib.Core.Path.{ap, _∙_}
 use Rattle.answers.specs.Answers.{outcomeNumber}
+use borrow.Author.Needs.{needs}
 use Rattle.host.proofs.elduvarn_stored_check.Statement.{statement}
 use Rattle.host.proofs.elduvarn_stored_check.Tie as tie
 use Rattle.host.proofs.elduvarn_stored_check.Reads as reads
 use Rattle.host.proofs.elduvarn_stored_check.Lts as lts
 use Rattle.answers.proofs.Outcome.number.Reads as number-reads
-use Rattle.checks.proofs.check.Reads as check-reads
+use Rattle.stored.proofs.check.check.Reads as check-reads
 
 check-requires : tie.Need-check-requires
 check-requires c κs = search needs

@@ -14,7 +14,7 @@ use Rattle.letters.proofs.judge.read_and_judge.Reads as read-and-judge-
 use Rattle.letters.proofs.list.next.Reads as next-reads
 
 abbrev Inv-loop : tie.InvT-loop
-Inv-loop file page₀ answers₀ rest₀ letters₀ agree₀ page answers rest letters agree = (letters + length rest ≤ length file) × (agree ≤ letters) × (length page₀ ≡ length page) × (length answers₀ ≡ length answers)
+Inv-loop file page₀ answers₀ rest₀ letters₀ agree₀ page answers rest letters agree = (letters + length rest ≤ length file) × (agree ≤ letters) × (length answers₀ ≡ length answers)
 
 abbrev μ-loop : tie.MeasureT-loop
 μ-loop file page₀ answers₀ rest₀ letters₀ agree₀ page answers rest letters agree = length rest
@@ -38,24 +38,23 @@ add-letters : tie.Need-add-letters Inv-loop μ-loop
 add-letters c = search needs
 
 sub-rest : tie.Need-sub-rest Inv-loop μ-loop
-sub-rest c = let w = whole-found (c .before .before .before .before .before .before .before .before .found .given .1) (c .before .before .before .before .before .before .before .before .before .before .next .ensures) in omega arith
+sub-rest c = let w = whole-found (c .before .before .before .before .before .before .found .given .1) (c .before .before .before .before .before .before .before .before .next .ensures) in omega arith
 
 part-rest-start : tie.Need-part-rest-start Inv-loop μ-loop
-part-rest-start c = let w = whole-found (c .before .before .before .before .before .before .before .before .found .given .1) (c .before .before .before .before .before .before .before .before .before .before .next .ensures) in omega arith
+part-rest-start c = let w = whole-found (c .before .before .before .before .before .before .found .given .1) (c .before .before .before .before .before .before .before .before .next .ensures) in omega arith
 
 part-rest-end : tie.Need-part-rest-end Inv-loop μ-loop
 part-rest-end c = search needs
 
 loop-less : tie.Need-loop-less Inv-loop μ-loop
-loop-less c = let w = whole-found (c .before .before .before .before .before .before .before .before .before .found .given .1) (c .before .before .before .before .before .before .before .before .before .before .before .next .ensures) in simp (length-take, length-drop) (omega arith)
+loop-less c = let w = whole-found (c .before .before .before .before .before .before .before .found .given .1) (c .before .before .before .before .before .before .before .before .before .next .ensures) in simp (length-take, length-drop) (omega arith)
 
 loop-again : tie.Need-loop-again Inv-loop μ-loop
 loop-again c =
-    let w = whole-found (c .before .before .before .before .before .before .before .before .before .found .given .1) (c .before .before .before .before .before .before .before .before .before .before .before .next .ensures) in (
+    let w = whole-found (c .before .before .before .before .before .before .before .found .given .1) (c .before .before .before .before .before .before .before .before .before .next .ensures) in (
       simp (length-take, length-drop) (omega arith),
       omega arith,
-      omega (arith, c .before .before .before .before .before .read-and-judge .kept .1 .1 .0, c .before .before .before .before .before .before .before .before .before .before .before .before .before .loop .inv .2),
-      omega (arith, c .before .before .before .before .before .read-and-judge .kept .1 .1 .1 .0, c .before .before .before .before .before .before .before .before .before .before .before .before .before .loop .inv .3),
+      omega (arith, c .before .before .before .read-and-judge .kept .1 .1 .1 .0, c .before .before .before .before .before .before .before .before .before .before .before .loop .inv .2),
     )
 
 enum-told : tie.Need-enum-told Inv-loop μ-loop
@@ -64,17 +63,11 @@ enum-told c = search needs
 same-length : tie.Need-same-length Inv-loop μ-loop
 same-length c = search needs
 
-same-length-2 : tie.Need-same-length-2 Inv-loop μ-loop
-same-length-2 c = search needs
-
 returns : tie.Need-returns Inv-loop μ-loop
 returns c = search needs
 
-same-length-3 : tie.Need-same-length-3 Inv-loop μ-loop
-same-length-3 c = search needs
-
-same-length-4 : tie.Need-same-length-4 Inv-loop μ-loop
-same-length-4 c = search needs
+same-length-2 : tie.Need-same-length-2 Inv-loop μ-loop
+same-length-2 c = search needs
 
 returns-2 : tie.Need-returns-2 Inv-loop μ-loop
 returns-2 c = search needs
@@ -98,8 +91,6 @@ replay-spec =
     loop-again
     enum-told
     same-length
-    same-length-2
     returns
-    same-length-3
-    same-length-4
+    same-length-2
     returns-2)

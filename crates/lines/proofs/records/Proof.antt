@@ -3,7 +3,7 @@ use Prim.Native.Nat.{_≤_, _-_}
 use mathlib.Core.Path.{_≡_, refl}
 use native.Mathlib.Omega.{arith}
 use borrow.Author.Needs.{needs}
-use lib.ListN.{length, length-take}
+use lib.ListN.{length, length-take, length-drop}
 use Rattle.lines.specs.Lines.{lines}
 use Rattle.lines.proofs.Pages.{Left, left-start, left-more, left-end}
 use Rattle.lines.proofs.Lines.{lines-start, lines-more, lines-short, lines-end}
@@ -14,13 +14,13 @@ use Rattle.lines.proofs.records.Lts as lts
 use Rattle.lines.proofs.record_line.Reads as record-line-reads
 
 abbrev Inv-loop : tie.InvT-loop
-Inv-loop room count width page₀ at rest₀ end₀ k₀ page rest end k = (k ≤ count) × (end ≤ length page) × (length page₀ ≡ length page) × Left page₀ at (lines width count room) page end (lines width (count - k) rest)
+Inv-loop room count width page₀ at rest₀ end₀ k₀ page rest end k = (k ≤ count) × (end ≤ length page) × (length page₀ ≡ length page) × Left page₀ at (lines width count room) page end (lines width (count - k) rest) × (length rest ≤ length room)
 
 abbrev μ-loop : tie.MeasureT-loop
 μ-loop room count width page₀ at rest₀ end₀ k₀ page rest end k = count - k
 
 loop-holds : tie.Need-loop-holds Inv-loop μ-loop
-loop-holds c = (search needs, search needs, refl, left-start (lines-start _ _ _))
+loop-holds c = (search needs, search needs, refl, left-start (lines-start _ _ _), search needs)
 
 same-length : tie.Need-same-length Inv-loop μ-loop
 same-length c = search needs
@@ -58,6 +58,7 @@ loop-again c = (
   omega (arith, c .before .before .before .record-line .ensures, c .before .before .before .record-line .kept .1 .0),
   omega (arith, c .before .before .before .record-line .kept .1 .0, c .before .before .before .before .before .before .before .before .loop .inv .2),
   left-more (c .before .before .before .before .before .before .before .before .loop .inv .3) (lines-more _ _ _ _ (c .before .before .before .before .before .before .before .loop-test .taken) (c .before .before .before .before .before .before .if1 .left)) (c .before .before .before .record-line .kept .1 .0) (c .before .before .before .record-line .ensures),
+  simp (length-take, length-drop) (omega arith),
 )
 
 same-length-2 : tie.Need-same-length-2 Inv-loop μ-loop

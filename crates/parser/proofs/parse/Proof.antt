@@ -1,5 +1,5 @@
 -- `parse` meets its contract: the first token refuses, or the letter's answer stands.
-use Rattle.items.specs.Items.{shownAll}
+use Rattle.tokens.specs.Items.{shownAll}
 use Rattle.parser.specs.Parsing.{sizes}
 use Rattle.parser.proofs.Parts.{parse-refused, parse-read}
 use borrow.Author.Needs.{needs}

@@ -3,8 +3,8 @@ use native.Mathlib.Omega.{arith}
 use lib.ListN.{length}
 use Prim.Native.Nat.{_*_, _≤_}
 use Rattle.runs.proofs.Texts.{still-on}
-use Rattle.pages.proofs.Laying.{ready-finish}
-use Rattle.pages.proofs.Settling.{blocks-small, count-words}
+use Rattle.blocks.proofs.Laying.{ready-finish}
+use Rattle.blocks.proofs.Settling.{blocks-small, count-words}
 use Rattle.parser.proofs.Parts.{body-full, body-laid}
 use borrow.Author.Needs.{needs}
 use Rattle.parser.proofs.read_body.Statement.{statement}
@@ -12,10 +12,11 @@ use Rattle.parser.proofs.read_body.Tie as tie
 use Rattle.parser.proofs.read_body.Reads as reads
 use Rattle.parser.proofs.read_body.Lts as lts
 use Rattle.body.proofs.lay_body.Reads as lay-body-reads
-use Rattle.pages.proofs.Page.count.Reads as count-reads
-use Rattle.pages.proofs.finish.Reads as finish-reads
+use Rattle.blocks.proofs.Page.count.Reads as count-reads
+use Rattle.blocks.proofs.finish.Reads as finish-reads
 use Rattle.rooms.proofs.clear_bytes_from.Reads as clear-bytes-from-reads
 use Rattle.rooms.proofs.clear_from.Reads as clear-from-reads
+use Rattle.blocks.specs.Pages.{blockWords}
 
 lay-body-requires : tie.Need-lay-body-requires
 lay-body-requires c κs = search needs
@@ -33,7 +34,7 @@ count-requires : tie.Need-count-requires
 count-requires c κs = blocks-small (length (c .before .before .before .before .before .before .before .before .before .before .before .before .before .before .before .before .before .before .args .blocks .now)) _ (still-on _ _ (c .before .before .before .before .before .before .before .before .before .before .before .lay-body .ensures .1) (c .before .before .before .before .before .laid2 .given .1)) (let a = c .before .before .before .before .before .before .before .before .before .before .before .before .before .before .before .before .before .before .fits in let b = c .before .before .before .before .before .before .before .before .before .before .before .before .before .before .before .before .before .before .good in omega arith)
 
 mul-clear-from : tie.Need-mul-clear-from
-mul-clear-from c = let a = c .before .before .before .before .before .before .before .before .before .before .before .before .before .before .before .before .before .before .before .before .fits in let b = c .before .before .before .before .before .before .before .before .before .before .before .before .before .before .before .before .before .before .before .before .good in let h : c .before .count .result * 13 ≤ length (c .before .before .before .before .before .before .before .before .before .before .before .before .before .before .before .before .before .before .before .before .args .blocks .now) = count-words _ _ (still-on _ _ (c .before .before .before .before .before .before .before .before .before .before .before .before .before .lay-body .ensures .1) (c .before .before .before .before .before .before .before .laid2 .given .1)) (c .before .count .ensures) in omega arith
+mul-clear-from c = let a = c .before .before .before .before .before .before .before .before .before .before .before .before .before .before .before .before .before .before .before .before .fits in let b = c .before .before .before .before .before .before .before .before .before .before .before .before .before .before .before .before .before .before .before .before .good in let h : c .before .count .result * blockWords ≤ length (c .before .before .before .before .before .before .before .before .before .before .before .before .before .before .before .before .before .before .before .before .args .blocks .now) = count-words _ _ (still-on _ _ (c .before .before .before .before .before .before .before .before .before .before .before .before .before .lay-body .ensures .1) (c .before .before .before .before .before .before .before .laid2 .given .1)) (c .before .count .ensures) in omega arith
 
 clear-from-requires : tie.Need-clear-from-requires
 clear-from-requires c κs = search needs

@@ -6,7 +6,7 @@ use Rattle.parser.proofs.start.Tie as tie
 use Rattle.parser.proofs.start.Reads as reads
 use Rattle.parser.proofs.start.Lts as lts
 use Rattle.answers.proofs.Refusal.of.Reads as of-reads
-use Rattle.items.proofs.item_at.Reads as item-at-reads
+use Rattle.tokens.proofs.item.item_at.Reads as item-at-reads
 use Rattle.parser.proofs.first_token.Reads as first-token-reads
 
 of-requires : tie.Need-of-requires

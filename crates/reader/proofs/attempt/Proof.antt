@@ -1,7 +1,8 @@
 -- `attempt` meets its contract: the cutter refuses, or the parser's answer stands.
+use Prim.Native.Nat.{ℕ}
+use mathlib.Core.Path.{_≡_}
 use native.Mathlib.Omega.{arith}
 use Rattle.parser.specs.Parsing.{sizes}
-use Rattle.reader.proofs.Tokens.{cut-counts, cut-few}
 use Rattle.reader.proofs.Whole.{cut-refused, cut-parsed}
 use borrow.Author.Needs.{needs}
 use Rattle.reader.proofs.attempt.Statement.{statement}
@@ -21,13 +22,18 @@ enum-known-outcome-2 : tie.Need-enum-known-outcome-2
 enum-known-outcome-2 c = search needs
 
 parse-requires : tie.Need-parse-requires
-parse-requires c κs = ((let h = cut-counts _ _ (c .before .before .before .before .before .before .before .before .before .before .cut .ensures .0) (c .before .before .before .before .before .before .outcome2 .given .1) .1 in let k = c .before .before .before .before .before .before .before .before .before .before .cut .kept .1 .0 in omega arith), cut-few _ _ (c .before .before .before .before .before .before .before .before .before .before .cut .ensures .0) (c .before .before .before .before .before .before .outcome2 .given .1))
+parse-requires c κs =
+    let d = c .before .before .before .before .before .before .outcome2 .given .1 in
+    let w = c .before .before .before .before .before .before .before .before .before .before .cut .ensures in
+    let f = rw d at (w .fits) in
+    let k = c .before .before .before .before .before .before .before .before .before .before .cut .kept .1 .0 in
+    (omega arith, rw d at (w .few))
 
 same-length : tie.Need-same-length
 same-length c = search needs
 
 returns : tie.Need-returns
-returns c = let a = c .before .before .before .before .before .before .before .before .before .before .before .before .before .args in (c .before .before .before .before .before .cut .ensures .1, cut-refused (a .reading) (a .source .now) (sizes (a .tokens .now) (a .fonts .now) (a .colours .now) (a .blocks .now) (a .text .now)) (c .before .before .before .before .before .cut .ensures .0) (c .before .outcome .given .1) _ _ _ _ _)
+returns c = let a = c .before .before .before .before .before .before .before .before .before .before .before .before .before .args in (c .before .before .before .before .before .cut .ensures .content, ((λ k q. absurd (let v : _≡_ {A = ℕ} 0 1 = cc in omega arith)), cut-refused (a .reading) (a .source .now) (sizes (a .tokens .now) (a .fonts .now) (a .colours .now) (a .blocks .now) (a .text .now)) (c .before .before .before .before .before .cut .ensures .answer) (c .before .outcome .given .1) _ _ _ _ _))
 
 same-length-2 : tie.Need-same-length-2
 same-length-2 c = search needs
@@ -45,7 +51,7 @@ same-length-6 : tie.Need-same-length-6
 same-length-6 c = search needs
 
 returns-2 : tie.Need-returns-2
-returns-2 c = let a = c .before .before .before .before .before .before .before .before .before .before .before .before .before .before .before .before .before .before .before .before .before .before .before .before .before .before .before .args in (c .before .before .before .before .before .before .before .before .before .before .before .before .before .before .before .before .before .before .before .cut .ensures .1, cut-parsed (a .reading) (a .source .now) (sizes (a .tokens .now) (a .fonts .now) (a .colours .now) (a .blocks .now) (a .text .now)) (c .before .before .before .before .before .before .before .before .before .before .before .before .before .before .before .before .before .before .before .cut .ensures .0) (c .before .before .before .before .before .before .before .before .before .before .before .before .before .before .before .outcome2 .given .1) _ (c .before .before .before .before .before .before .before .before .before .before .before .before .before .before .before .before .before .before .before .cut .ensures .1) (c .before .before .before .before .before .before .before .before .before .before .before .before .before .before .before .before .before .before .before .cut .kept .1 .0) _ _ _ _ _ (c .before .before .before .before .before .before .before .before .parse .ensures))
+returns-2 c = let a = c .before .before .before .before .before .before .before .before .before .before .before .before .before .before .before .before .before .before .before .before .before .before .before .before .before .before .before .args in (c .before .before .before .before .before .before .before .before .before .before .before .before .before .before .before .before .before .before .before .cut .ensures .content, ((λ k q. let d = (c .before .before .before .before .before .before .before .before .before .before .before .before .before .before .before .outcome2 .given .1) in let n = c .before .before .before .before .before .before .before .before .before .before .before .before .before .before .before .before .before .before .before .cut .ensures .counts _ d in let f = rw d at (c .before .before .before .before .before .before .before .before .before .before .before .before .before .before .before .before .before .before .before .cut .ensures .few) in omega arith), cut-parsed (a .reading) (a .source .now) (sizes (a .tokens .now) (a .fonts .now) (a .colours .now) (a .blocks .now) (a .text .now)) (c .before .before .before .before .before .before .before .before .before .before .before .before .before .before .before .before .before .before .before .cut .ensures .answer) (c .before .before .before .before .before .before .before .before .before .before .before .before .before .before .before .outcome2 .given .1) _ (c .before .before .before .before .before .before .before .before .before .before .before .before .before .before .before .before .before .before .before .cut .ensures .counts _ (c .before .before .before .before .before .before .before .before .before .before .before .before .before .before .before .outcome2 .given .1)) (c .before .before .before .before .before .before .before .before .before .before .before .before .before .before .before .before .before .before .before .cut .ensures .shows _ (c .before .before .before .before .before .before .before .before .before .before .before .before .before .before .before .outcome2 .given .1)) (c .before .before .before .before .before .before .before .before .before .before .before .before .before .before .before .before .before .before .before .cut .kept .1 .0) _ _ _ _ _ (c .before .before .before .before .before .before .before .before .parse .ensures)))
 
 pub attempt-spec : {M : Type 1} → statement M
 attempt-spec =

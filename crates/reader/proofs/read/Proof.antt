@@ -1,6 +1,6 @@
 -- `read` meets its contract: what was refused leaves zeros, what was read stands.
 use Rattle.parser.specs.Parsing.{sizes}
-use Rattle.reader.proofs.Whole.{clauses, letter-refuses, read-refused, read-done}
+use Rattle.reader.proofs.Whole.{letter-refuses, read-refused, read-done}
 use borrow.Author.Needs.{needs}
 use Rattle.reader.proofs.read.Statement.{statement}
 use Rattle.reader.proofs.read.Tie as tie
@@ -37,7 +37,7 @@ same-length-5 : tie.Need-same-length-5
 same-length-5 c = search needs
 
 returns : tie.Need-returns
-returns c = let a = c .before .before .before .before .before .before .before .before .before .before .before .before .before .before .before .before .before .before .before .before .before .before .before .before .before .before .before .before .before .before .before .before .before .before .before .before .before .before .before .before .before .args in let z = sizes (a .tokens .now) (a .fonts .now) (a .colours .now) (a .blocks .now) (a .text .now) in let k = c .before .before .before .before .before .before .before .before .before .before .before .before .before .before .before .before .before .before .before .before .before .before .before .before .before .before .before .before .before .attempt .kept in clauses (read-refused (a .reading) (a .source .now) z (letter-refuses (a .reading) (a .source .now) z _ _ _ _ _ (c .before .before .before .before .before .before .before .before .before .before .before .before .before .before .before .before .before .before .before .before .before .before .before .before .before .before .before .before .before .attempt .ensures .1) (c .before .before .before .before .before .before .before .before .before .before .before .before .before .before .before .before .before .answer .given .1)) (c .before .before .before .before .before .before .before .before .before .before .refuse .ensures .0) (c .before .before .before .before .before .before .before .before .before .before .refuse .ensures .1 .0) (k .1 .1 .0) (c .before .before .before .before .before .before .before .before .before .before .refuse .ensures .1 .1 .0) (k .1 .1 .1 .0) (c .before .before .before .before .before .before .before .before .before .before .refuse .ensures .1 .1 .1 .0) (k .1 .1 .1 .1 .0) (c .before .before .before .before .before .before .before .before .before .before .refuse .ensures .1 .1 .1 .1 .0) (k .1 .1 .1 .1 .1 .0) (c .before .before .before .before .before .before .before .before .before .before .refuse .ensures .1 .1 .1 .1 .1) (k .1 .1 .1 .1 .1 .1 .0))
+returns c = let a = c .before .before .before .before .before .before .before .before .before .before .before .before .before .before .before .before .before .before .before .before .before .before .before .before .before .before .before .before .before .before .before .before .before .before .before .before .before .before .before .before .before .args in let z = sizes (a .tokens .now) (a .fonts .now) (a .colours .now) (a .blocks .now) (a .text .now) in let k = c .before .before .before .before .before .before .before .before .before .before .before .before .before .before .before .before .before .before .before .before .before .before .before .before .before .before .before .before .before .attempt .kept in read-refused (a .reading) (a .source .now) z (letter-refuses (a .reading) (a .source .now) z _ _ _ _ _ (c .before .before .before .before .before .before .before .before .before .before .before .before .before .before .before .before .before .before .before .before .before .before .before .before .before .before .before .before .before .attempt .ensures .1 .1) (c .before .before .before .before .before .before .before .before .before .before .before .before .before .before .before .before .before .answer .given .1)) (c .before .before .before .before .before .before .before .before .before .before .refuse .ensures .0) (c .before .before .before .before .before .before .before .before .before .before .refuse .ensures .1 .0) (k .1 .1 .0) (c .before .before .before .before .before .before .before .before .before .before .refuse .ensures .1 .1 .0) (k .1 .1 .1 .0) (c .before .before .before .before .before .before .before .before .before .before .refuse .ensures .1 .1 .1 .0) (k .1 .1 .1 .1 .0) (c .before .before .before .before .before .before .before .before .before .before .refuse .ensures .1 .1 .1 .1 .0) (k .1 .1 .1 .1 .1 .0) (c .before .before .before .before .before .before .before .before .before .before .refuse .ensures .1 .1 .1 .1 .1) (k .1 .1 .1 .1 .1 .1 .0)
 
 same-length-6 : tie.Need-same-length-6
 same-length-6 c = search needs
@@ -55,7 +55,7 @@ same-length-10 : tie.Need-same-length-10
 same-length-10 c = search needs
 
 returns-2 : tie.Need-returns-2
-returns-2 c = let a = c .before .before .before .before .before .before .before .before .before .before .before .before .before .before .before .before .before .before .before .before .before .before .before .before .before .args in let z = sizes (a .tokens .now) (a .fonts .now) (a .colours .now) (a .blocks .now) (a .text .now) in clauses (rw (c .before .answer2 .given .1) at (read-done (a .reading) (a .source .now) z _ _ _ _ _ (c .before .before .before .before .before .before .before .before .before .before .before .before .before .attempt .ensures .1) (c .before .answer2 .given .1) (c .before .before .before .before .before .before .before .before .before .before .before .before .before .attempt .ensures .0)))
+returns-2 c = let a = c .before .before .before .before .before .before .before .before .before .before .before .before .before .before .before .before .before .before .before .before .before .before .before .before .before .args in let z = sizes (a .tokens .now) (a .fonts .now) (a .colours .now) (a .blocks .now) (a .text .now) in rw (c .before .answer2 .given .1) at (read-done (a .reading) (a .source .now) z _ _ _ _ _ (c .before .before .before .before .before .before .before .before .before .before .before .before .before .attempt .ensures .1 .1) (c .before .answer2 .given .1) (c .before .before .before .before .before .before .before .before .before .before .before .before .before .attempt .ensures .1 .0 _ (c .before .answer2 .given .1)) (c .before .before .before .before .before .before .before .before .before .before .before .before .before .attempt .ensures .0))
 
 pub read-spec : {M : Type 1} → statement M
 read-spec =

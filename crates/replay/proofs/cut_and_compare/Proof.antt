@@ -13,7 +13,7 @@ same-length : tie.Need-same-length
 same-length c = search needs
 
 returns : tie.Need-returns
-returns c = rw (c .before .before .before .before .cut .ensures .0, c .before .before .before .before .cut .ensures .1) at (c .compare .ensures)
+returns c = rw (c .before .before .before .before .cut .ensures .answer, c .before .before .before .before .cut .ensures .content) at (c .compare .ensures)
 
 pub cut-and-compare-spec : {M : Type 1} → statement M
 cut-and-compare-spec = tie.close (tie.spec cut-requires compare-requires same-length returns)

@@ -6,7 +6,7 @@ use Rattle.runs.proofs.has_unit.Statement.{statement}
 use Rattle.runs.proofs.has_unit.Tie as tie
 use Rattle.runs.proofs.has_unit.Reads as reads
 use Rattle.runs.proofs.has_unit.Lts as lts
-use Rattle.items.proofs.number_at.Reads as number-at-reads
+use Rattle.tokens.proofs.item.number_at.Reads as number-at-reads
 use Rattle.runs.proofs.gives.Reads as gives-reads
 
 abbrev Inv-loop : tie.InvT-loop

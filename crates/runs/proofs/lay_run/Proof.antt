@@ -8,7 +8,7 @@ use Rattle.runs.proofs.lay_run.Statement.{statement}
 use Rattle.runs.proofs.lay_run.Tie as tie
 use Rattle.runs.proofs.lay_run.Reads as reads
 use Rattle.runs.proofs.lay_run.Lts as lts
-use Rattle.pages.proofs.start.Reads as start-reads
+use Rattle.blocks.proofs.start.Reads as start-reads
 use Rattle.runs.proofs.has_unit.Reads as has-unit-reads
 use Rattle.runs.proofs.run_text.Reads as run-text-reads
 

@@ -6,7 +6,7 @@ use Rattle.runs.proofs.run_length.Statement.{statement}
 use Rattle.runs.proofs.run_length.Tie as tie
 use Rattle.runs.proofs.run_length.Reads as reads
 use Rattle.runs.proofs.run_length.Lts as lts
-use Rattle.items.proofs.item_at.Reads as item-at-reads
+use Rattle.tokens.proofs.item.item_at.Reads as item-at-reads
 use Rattle.runs.proofs.is_unit.Reads as is-unit-reads
 
 abbrev Inv-loop : tie.InvT-loop

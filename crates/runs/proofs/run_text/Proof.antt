@@ -7,7 +7,7 @@ use Rattle.runs.proofs.run_text.Statement.{statement}
 use Rattle.runs.proofs.run_text.Tie as tie
 use Rattle.runs.proofs.run_text.Reads as reads
 use Rattle.runs.proofs.run_text.Lts as lts
-use Rattle.items.proofs.number_at.Reads as number-at-reads
+use Rattle.tokens.proofs.item.number_at.Reads as number-at-reads
 use Rattle.runs.proofs.say.Reads as say-reads
 use Rattle.runs.proofs.say_value.Reads as say-value-reads
 use Rattle.units.proofs.Run.before.Reads as before-reads

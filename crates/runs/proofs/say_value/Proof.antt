@@ -5,7 +5,7 @@ use Rattle.runs.proofs.say_value.Statement.{statement}
 use Rattle.runs.proofs.say_value.Tie as tie
 use Rattle.runs.proofs.say_value.Reads as reads
 use Rattle.runs.proofs.say_value.Lts as lts
-use Rattle.pages.proofs.append.Reads as append-reads
+use Rattle.blocks.proofs.append.Reads as append-reads
 use Rattle.utf8.proofs.encode.Reads as encode-reads
 
 encode-requires : tie.Need-encode-requires

@@ -11,8 +11,8 @@ use Rattle.slices.proofs.slice_end.Statement.{statement}
 use Rattle.slices.proofs.slice_end.Tie as tie
 use Rattle.slices.proofs.slice_end.Reads as reads
 use Rattle.slices.proofs.slice_end.Lts as lts
-use Rattle.eights.proofs.first_mark.Reads as first-mark-reads
-use Rattle.eights.proofs.marks_of.Reads as marks-of-reads
+use Rattle.slices.proofs.eights.first_mark.Reads as first-mark-reads
+use Rattle.slices.proofs.eights.marks_of.Reads as marks-of-reads
 use Rattle.slices.proofs.end_from.Reads as end-from-reads
 use Rattle.slices.proofs.starts_slice.Reads as starts-slice-reads
 

@@ -3,7 +3,7 @@ use borrow.Author.Needs.{needs}
 use native.Mathlib.Omega.{arith}
 use mathlib.Core.Path.{sym, refl, _∙_}
 use lib.ListN.{length-take, length-drop}
-use Rattle.entries.proofs.Entries.{entry-is}
+use Rattle.stored.proofs.Entries.{entry-is}
 use Rattle.stored.proofs.Laying.{Going, going-start, going-bad, going-full, going-more, going-left, going-end}
 use Rattle.stored.proofs.lay_blocks.Statement.{statement}
 use Rattle.stored.proofs.lay_blocks.Tie as tie

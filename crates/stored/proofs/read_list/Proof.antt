@@ -3,11 +3,12 @@ use borrow.Author.Needs.{needs}
 use native.Mathlib.Omega.{arith}
 use lib.ListN.{length}
 use Prim.Native.Nat.{_*_, _≤_}
-use Rattle.pages.proofs.Laying.{ready-finish}
-use Rattle.pages.proofs.Settling.{blocks-small, count-words}
+use Rattle.blocks.proofs.Laying.{ready-finish}
+use Rattle.blocks.proofs.Settling.{blocks-small, count-words}
 use Rattle.stored.proofs.Whole.{list-full, list-laid}
 use Rattle.stored.proofs.read_list.Statement.{statement}
 use Rattle.stored.proofs.read_list.Tie as tie
+use Rattle.blocks.specs.Pages.{blockWords}
 
 lay-list-requires : tie.Need-lay-list-requires
 lay-list-requires c κs = search needs
@@ -41,7 +42,7 @@ mul-clear-from c =
     let at-lay-list = at-laid2 .before .before .before .before .before .before in
     let start = at-lay-list .before .before .before .before .before .before in
     let b = start .good in
-    let h : c .before .count .result * 13 ≤ length (start .args .blocks .now) = count-words _
+    let h : c .before .count .result * blockWords ≤ length (start .args .blocks .now) = count-words _
     (length (start .args .text .now)) (rw (at-laid2 .laid2 .given .1) at (at-lay-list .lay-list .ensures .1))
     (c .before .count .ensures) in
     omega arith
@@ -64,11 +65,10 @@ returns c =
     let at-laid = at-refuse .before .before .before .before in
     let at-lay-list = at-laid .before .before .before .before .before .before in
     let start = at-lay-list .before .before .before .before .before .before in
-    let w = list-full (start .args .list .now) (start .args .blocks .now) (start .args .text .now)
+    list-full (start .args .list .now) (start .args .blocks .now) (start .args .text .now)
     (at-lay-list .lay-list .result) _ _ (at-lay-list .lay-list .ensures .0) (at-laid .laid .given .1)
     (at-refuse .refuse .ensures .0) (at-refuse .refuse .ensures .1 .0) (at-refuse .refuse .ensures .1 .1)
-    (at-lay-list .lay-list .kept .1 .0) (at-lay-list .lay-list .kept .1 .1 .0) in
-    (w .answer, (w .blocks, w .text))
+    (at-lay-list .lay-list .kept .1 .0) (at-lay-list .lay-list .kept .1 .1 .0)
 
 same-length-3 : tie.Need-same-length-3
 same-length-3 c = search needs
@@ -85,11 +85,10 @@ returns-2 c =
     let at-laid2 = at-finish .before .before .before in
     let at-lay-list = at-laid2 .before .before .before .before .before .before in
     let start = at-lay-list .before .before .before .before .before .before in
-    let w = list-laid (start .args .list .now) (start .args .blocks .now) (start .args .text .now)
+    list-laid (start .args .list .now) (start .args .blocks .now) (start .args .text .now)
     (at-lay-list .lay-list .result) _ _ (at-lay-list .lay-list .ensures .0) (at-laid2 .laid2 .given .1)
     (at-finish .finish .ensures) (at-count .count .ensures) (at-clear-from .clear-from .ensures)
-    (at-clear-bytes-from .clear-bytes-from .ensures) in
-    (w .answer, (w .blocks, w .text))
+    (at-clear-bytes-from .clear-bytes-from .ensures)
 
 pub read-list-spec : {M : Type 1} → statement M
 read-list-spec =

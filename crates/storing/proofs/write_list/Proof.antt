@@ -28,11 +28,11 @@ returns c =
     let start = at-put-list .before .before .before .before .before in
     let w = at-put-list .put-list .ensures in
     let ws = start .args .blocks .now in
-    let tx = start .args .text .now in (
-      settle-answer ws tx w (at-settle .settle .ensures),
-      settle-room ws tx w (at-settle .settle .ensures) (at-clear-bytes-from .clear-bytes-from .ensures)
-          (at-count .count .ensures),
-    )
+    let tx = start .args .text .now in record {
+      answer = settle-answer ws tx w (at-settle .settle .ensures);
+      content = settle-room ws tx w (at-settle .settle .ensures) (at-clear-bytes-from .clear-bytes-from .ensures)
+          (at-count .count .ensures);
+    }
 
 pub write-list-spec : {M : Type 1} → statement M
 write-list-spec =

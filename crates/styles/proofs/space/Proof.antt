@@ -6,7 +6,6 @@ use Rattle.styles.proofs.space.Statement.{statement}
 use Rattle.styles.proofs.space.Tie as tie
 use Rattle.styles.proofs.space.Reads as reads
 use Rattle.styles.proofs.space.Lts as lts
-use Rattle.answers.proofs.Refusal.of.Reads as of-reads
 use Rattle.styles.proofs.line.Reads as line-reads
 
 line-requires : tie.Need-line-requires
@@ -15,11 +14,8 @@ line-requires c κs = search needs
 returns : tie.Need-returns
 returns c = space-auto _ _ (c .before .if1 .taken) (c .line .ensures)
 
-of-requires : tie.Need-of-requires
-of-requires c κs = search needs
-
 returns-2 : tie.Need-returns-2
-returns-2 c = space-never _ _ (c .before .if2 .taken) (c .of .ensures)
+returns-2 c = space-never _ _ (c .if2 .taken)
 
 line-requires-2 : tie.Need-line-requires-2
 line-requires-2 c κs = search needs
@@ -45,7 +41,6 @@ space-spec =
     (tie.spec
     line-requires
     returns
-    of-requires
     returns-2
     line-requires-2
     returns-3

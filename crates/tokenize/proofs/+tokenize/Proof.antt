@@ -19,6 +19,7 @@ use Rattle.tokenize.proofs.mark.Reads as mark-reads
 use Rattle.tokenize.proofs.plain.Reads as plain-reads
 use Rattle.tokenize.proofs.+tokenize.{statement}
 use Rattle.tokenize.proofs.+tokenize.Tie.{close}
+use Rattle.rooms.proofs.Streams.{name-apart}
 
 abbrev μ-tokenize : Measures 3 tokenize-kinds.ps ℕ
 μ-tokenize κs a = length (a .0 .now)
@@ -112,7 +113,7 @@ tokenize-returns-2 : (t : ℕ) → tokenize-lts.Need-returns-2 (
   plain-reads.Asked,
   plain-reads.Learnt,
 ) (tokenize-at t) tokenize.Post
-tokenize-returns-2 t c = wrote-then shownLayout _ (tokens-alone _ _ (c .before .before .before .before .before .before .before .before .if1 .left) _ (c .before .before .before .before .before .before .is-mark .ensures) (c .before .before .before .before .before .if2 .taken) (c .if3 .taken)) (c .before .before .before .mark .ensures) refl (wrote-none shownLayout refl)
+tokenize-returns-2 t c = wrote-then shownLayout name-apart _ (tokens-alone _ _ (c .before .before .before .before .before .before .before .before .if1 .left) _ (c .before .before .before .before .before .before .is-mark .ensures) (c .before .before .before .before .before .if2 .taken) (c .if3 .taken)) (c .before .before .before .mark .ensures) refl (wrote-none shownLayout refl)
 
 tokenize-sub-tokenize : (t : ℕ) → tokenize-lts.Need-sub-tokenize (
   is-mark-reads.Asked,
@@ -226,7 +227,7 @@ tokenize-returns-3 : (t : ℕ) → tokenize-lts.Need-returns-3 (
   plain-reads.Asked,
   plain-reads.Learnt,
 ) (tokenize-at t) tokenize.Post
-tokenize-returns-3 t c = wrote-then shownLayout _ (tokens-mark _ _ (c .before .before .before .before .before .before .before .before .before .before .before .before .before .before .before .before .if1 .left) _ (c .before .before .before .before .before .before .before .before .before .before .before .before .before .before .is-mark .ensures) (c .before .before .before .before .before .before .before .before .before .before .before .before .before .if2 .taken)) (c .before .before .before .before .before .before .before .before .before .before .before .mark .ensures) refl (rw (sym (c .before .rest .given .1)) (c .before .before .before .before .before .tokenize .ensures))
+tokenize-returns-3 t c = wrote-then shownLayout name-apart _ (tokens-mark _ _ (c .before .before .before .before .before .before .before .before .before .before .before .before .before .before .before .before .if1 .left) _ (c .before .before .before .before .before .before .before .before .before .before .before .before .before .before .is-mark .ensures) (c .before .before .before .before .before .before .before .before .before .before .before .before .before .if2 .taken)) (c .before .before .before .before .before .before .before .before .before .before .before .mark .ensures) refl (rw (sym (c .before .rest .given .1)) (c .before .before .before .before .before .tokenize .ensures))
 
 tokenize-enum-known-rest-2 : (t : ℕ) → tokenize-lts.Need-enum-known-rest-2 (
   is-mark-reads.Asked,
@@ -268,7 +269,7 @@ tokenize-returns-4 : (t : ℕ) → tokenize-lts.Need-returns-4 (
   plain-reads.Asked,
   plain-reads.Learnt,
 ) (tokenize-at t) tokenize.Post
-tokenize-returns-4 t c = wrote-then shownLayout _ (tokens-mark _ _ (c .before .before .before .before .before .before .before .before .before .before .before .before .before .before .before .before .if1 .left) _ (c .before .before .before .before .before .before .before .before .before .before .before .before .before .before .is-mark .ensures) (c .before .before .before .before .before .before .before .before .before .before .before .before .before .if2 .taken)) (c .before .before .before .before .before .before .before .before .before .before .before .mark .ensures) refl (rw (sym (c .before .rest2 .given .1)) (c .before .before .before .before .before .tokenize .ensures))
+tokenize-returns-4 t c = wrote-then shownLayout name-apart _ (tokens-mark _ _ (c .before .before .before .before .before .before .before .before .before .before .before .before .before .before .before .before .if1 .left) _ (c .before .before .before .before .before .before .before .before .before .before .before .before .before .before .is-mark .ensures) (c .before .before .before .before .before .before .before .before .before .before .before .before .before .if2 .taken)) (c .before .before .before .before .before .before .before .before .before .before .before .mark .ensures) refl (rw (sym (c .before .rest2 .given .1)) (c .before .before .before .before .before .tokenize .ensures))
 
 tokenize-sub-escaped : (t : ℕ) → tokenize-lts.Need-sub-escaped (
   is-mark-reads.Asked,

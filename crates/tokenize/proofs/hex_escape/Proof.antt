@@ -1,4 +1,5 @@
 -- `hex_escape` meets its contract: too short, no number, or the word and a plain tail.
+use mathlib.Core.Path.{refl}
 use Rattle.rooms.proofs.Rooms.{wrote-stop}
 use Rattle.tokens.specs.Tokens.{shownLayout}
 use Rattle.tokens.proofs.Records.{wrote-token-and, word-record}
@@ -6,12 +7,15 @@ use Rattle.tokenize.proofs.Rules.{hex-short, hex-bad, hex-is}
 use borrow.Author.Needs.{needs}
 use Rattle.tokenize.proofs.hex_escape.Statement.{statement}
 use Rattle.tokenize.proofs.hex_escape.Tie as tie
-
-of-requires : tie.Need-of-requires
-of-requires c κs = search needs
+use Rattle.tokenize.proofs.hex_escape.Reads as reads
+use Rattle.tokenize.proofs.hex_escape.Lts as lts
+use Rattle.numbers.proofs.hex_pair.Reads as hex-pair-reads
+use Rattle.tokenize.proofs.plain.Reads as plain-reads
+use Rattle.tokens.proofs.Record.word.Reads as word-reads
+use Rattle.tokens.proofs.put.Reads as put-reads
 
 returns : tie.Need-returns
-returns c = wrote-stop shownLayout (hex-short _ _ (c .before .if1 .taken)) (c .of .ensures)
+returns c = wrote-stop shownLayout (hex-short _ _ (c .if1 .taken)) refl
 
 shared-slice-read-hex-pair : tie.Need-shared-slice-read-hex-pair
 shared-slice-read-hex-pair c = search needs
@@ -24,9 +28,6 @@ hex-pair-requires c κs = search needs
 
 enum-told : tie.Need-enum-told
 enum-told c = search needs
-
-of-requires-2 : tie.Need-of-requires-2
-of-requires-2 c κs = search needs
 
 enum-known-value : tie.Need-enum-known-value
 enum-known-value c = search needs
@@ -56,7 +57,7 @@ plain-requires : tie.Need-plain-requires
 plain-requires c κs = search needs
 
 returns-2 : tie.Need-returns-2
-returns-2 c = wrote-stop shownLayout (hex-bad _ _ (c .before .before .before .before .before .before .if1 .left) _ (c .before .before .before .hex-pair .ensures) (c .before .enum-told .given .1)) (c .of2 .ensures)
+returns-2 c = wrote-stop shownLayout (hex-bad _ _ (c .before .before .before .before .before .if1 .left) _ (c .before .before .hex-pair .ensures) (c .enum-told .given .1)) refl
 
 same-length : tie.Need-same-length
 same-length c = search needs
@@ -68,13 +69,11 @@ pub hex-escape-spec : {M : Type 1} → statement M
 hex-escape-spec =
     tie.close
     (tie.spec
-    of-requires
     returns
     shared-slice-read-hex-pair
     shared-slice-read-hex-pair-2
     hex-pair-requires
     enum-told
-    of-requires-2
     enum-known-value
     word-requires
     put-requires

@@ -1,4 +1,5 @@
 -- `named` meets its contract: no number, a number, or one that is none.
+use mathlib.Core.Path.{refl}
 use native.Mathlib.Omega.{arith}
 use lib.ListN.{length-take}
 use Rattle.rooms.proofs.Rooms.{wrote-stop}
@@ -8,6 +9,12 @@ use Rattle.tokenize.proofs.Rules.{named-bare, named-bad, named-is}
 use borrow.Author.Needs.{needs}
 use Rattle.tokenize.proofs.named.Statement.{statement}
 use Rattle.tokenize.proofs.named.Tie as tie
+use Rattle.tokenize.proofs.named.Reads as reads
+use Rattle.tokenize.proofs.named.Lts as lts
+use Rattle.bytes.proofs.body_of.Reads as body-of-reads
+use Rattle.numbers.proofs.decimal_of.Reads as decimal-of-reads
+use Rattle.tokenize.proofs.word_record.Reads as word-record-reads
+use Rattle.tokens.proofs.put.Reads as put-reads
 
 body-of-requires : tie.Need-body-of-requires
 body-of-requires c κs = search needs
@@ -42,9 +49,6 @@ decimal-of-requires c κs = search needs
 enum-told : tie.Need-enum-told
 enum-told c = search needs
 
-of-requires : tie.Need-of-requires
-of-requires c κs = search needs
-
 enum-known-number : tie.Need-enum-known-number
 enum-known-number c = search needs
 
@@ -57,11 +61,11 @@ word-record-requires-2 c κs = (simp length-take (omega arith), search needs)
 put-requires-2 : tie.Need-put-requires-2
 put-requires-2 c κs = search needs
 
-add-t31 : tie.Need-add-t31
-add-t31 c = search needs
+add-t30 : tie.Need-add-t30
+add-t30 c = search needs
 
 returns-2 : tie.Need-returns-2
-returns-2 c = wrote-stop shownLayout (named-bad _ _ _ (c .before .before .before .before .before .before .body-of .ensures .0) (c .before .before .before .before .before .if1 .left) _ (c .before .before .before .decimal-of .ensures) (c .before .enum-told .given .1)) (c .of .ensures)
+returns-2 c = wrote-stop shownLayout (named-bad _ _ _ (c .before .before .before .before .before .body-of .ensures .0) (c .before .before .before .before .if1 .left) _ (c .before .before .decimal-of .ensures) (c .enum-told .given .1)) refl
 
 same-length-2 : tie.Need-same-length-2
 same-length-2 c = search needs
@@ -84,12 +88,11 @@ named-spec =
     part-decimal-of-end
     decimal-of-requires
     enum-told
-    of-requires
     enum-known-number
     slice-aggregate-word-record
     word-record-requires-2
     put-requires-2
-    add-t31
+    add-t30
     returns-2
     same-length-2
     returns-3)

@@ -9,6 +9,7 @@ use Rattle.tokenize.proofs.Sizes.{named-next}
 use borrow.Author.Needs.{needs}
 use Rattle.tokenize.proofs.word.Statement.{statement}
 use Rattle.tokenize.proofs.word.Tie as tie
+use Rattle.rooms.proofs.Streams.{name-apart}
 
 lead-of-requires : tie.Need-lead-of-requires
 lead-of-requires c κs = search needs
@@ -36,7 +37,7 @@ same-length : tie.Need-same-length
 same-length c = search needs
 
 returns : tie.Need-returns
-returns c = wrote-then shownLayout _ (word-short _ _ _ _ (c .before .before .before .before .before .before .before .before .before .before .before .lead-of .ensures .0) (c .before .before .before .before .before .before .before .before .before .bare-length .ensures .0) (c .if1 .taken)) (c .before .before .before .before .before .before .named .ensures) (c .before .before .first2 .given .1) (wrote-none shownLayout refl)
+returns c = wrote-then shownLayout name-apart _ (word-short _ _ _ _ (c .before .before .before .before .before .before .before .before .before .before .before .lead-of .ensures .0) (c .before .before .before .before .before .before .before .before .before .bare-length .ensures .0) (c .if1 .taken)) (c .before .before .before .before .before .before .named .ensures) (c .before .before .first2 .given .1) (wrote-none shownLayout refl)
 
 add-next : tie.Need-add-next
 add-next c = search needs
@@ -65,13 +66,13 @@ same-length-2 : tie.Need-same-length-2
 same-length-2 c = search needs
 
 returns-2 : tie.Need-returns-2
-returns-2 c = wrote-stops shownLayout _ (word-parts _ _ _ _ (c .before .before .before .before .before .before .before .before .before .before .lead-of .ensures .0) (c .before .before .before .before .before .before .before .before .bare-length .ensures .0)) (c .before .before .before .before .before .named .ensures) (c .before .first .given .1)
+returns-2 c = wrote-stops shownLayout name-apart _ (word-parts _ _ _ _ (c .before .before .before .before .before .before .before .before .before .before .lead-of .ensures .0) (c .before .before .before .before .before .before .before .before .bare-length .ensures .0)) (c .before .before .before .before .before .named .ensures) (c .before .first .given .1)
 
 same-length-3 : tie.Need-same-length-3
 same-length-3 c = search needs
 
 returns-3 : tie.Need-returns-3
-returns-3 c = wrote-then shownLayout _ (word-parts _ _ _ _ (c .before .before .before .before .before .before .before .before .before .before .before .before .before .before .before .before .lead-of .ensures .0) (c .before .before .before .before .before .before .before .before .before .before .before .before .before .before .bare-length .ensures .0)) (c .before .before .before .before .before .before .before .before .before .before .before .named .ensures) (c .before .before .before .before .before .before .before .first2 .given .1) (c .before .before .word-tail .ensures)
+returns-3 c = wrote-then shownLayout name-apart _ (word-parts _ _ _ _ (c .before .before .before .before .before .before .before .before .before .before .before .before .before .before .before .before .lead-of .ensures .0) (c .before .before .before .before .before .before .before .before .before .before .before .before .before .before .bare-length .ensures .0)) (c .before .before .before .before .before .before .before .before .before .before .before .named .ensures) (c .before .before .before .before .before .before .before .first2 .given .1) (c .before .before .word-tail .ensures)
 
 pub word-spec : {M : Type 1} → statement M
 word-spec =

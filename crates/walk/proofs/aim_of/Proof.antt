@@ -7,7 +7,7 @@ use Rattle.walk.proofs.aim_of.Statement.{statement}
 use Rattle.walk.proofs.aim_of.Tie as tie
 use Rattle.walk.proofs.aim_of.Reads as reads
 use Rattle.walk.proofs.aim_of.Lts as lts
-use Rattle.items.proofs.item_at.Reads as item-at-reads
+use Rattle.tokens.proofs.item.item_at.Reads as item-at-reads
 use Rattle.walk.proofs.aim_at.Reads as aim-at-reads
 use Rattle.walk.proofs.is_break.Reads as is-break-reads
 

@@ -5,7 +5,7 @@ use Rattle.walk.proofs.extent.Statement.{statement}
 use Rattle.walk.proofs.extent.Tie as tie
 use Rattle.walk.proofs.extent.Reads as reads
 use Rattle.walk.proofs.extent.Lts as lts
-use Rattle.items.proofs.item_at.Reads as item-at-reads
+use Rattle.tokens.proofs.item.item_at.Reads as item-at-reads
 use Rattle.walk.proofs.level.Reads as level-reads
 
 abbrev Inv-loop : tie.InvT-loop

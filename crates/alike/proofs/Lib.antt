@@ -1,2 +1,0 @@
--- Alike: when two runs of bytes are the same.
-mod Alike

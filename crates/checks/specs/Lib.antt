@@ -1,2 +1,0 @@
--- Checks: what checking a stored list answers.
-pub mod Checks

@@ -1,0 +1,120 @@
+-- A token room that the cutter filled, read back: it shows what the source's tokens show.
+--     record-shown      a record
+--     shown-stream      the records of a stream
+--     cut-counts        how many there are, and that they fit
+--     cut-shown         those of a source
+--     cuts              so an answer and a content are all of what `cut` promises
+-- Assumes nothing.
+use mathlib.Core.Path.{_≡_, refl, sym, ap, _∙_}
+use mathlib.Core.List.{List, _∷_, _++_}
+use mathlib.Core.Bool.{Bool, true, false, cond}
+use Prim.Native.Nat.{ℕ, suc, _+_, _-_, _*_, _≤_, _<_}
+use native.Mathlib.Nat.{div-mul-le-self, mul-le-mul-right, le-trans}
+use native.Mathlib.Omega.{arith}
+use borrow.Author.Tests.{ne-eqb, leb-true}
+use lib.ListN.{length, replicate}
+use lib.Dec.{leb, eqb}
+use Rattle.answers.specs.declared.Why.the-variants.{TokenRoom}
+use Rattle.answers.specs.declared.Outcome.{Outcome}
+use Rattle.answers.specs.declared.Outcome.the-variants.{Done, Refused}
+use Rattle.answers.specs.Answers.{refusal, outcomeCount}
+use Rattle.rooms.specs.Streams.{Stream, end, stop, _▸_, count, items, answer}
+use Rattle.rooms.specs.Rooms.{encode, capacity, filled, settled, content}
+use Rattle.rooms.proofs.Streams.{Each, answer-count, done-refused}
+use Rattle.tokens.specs.declared.Property.{Property}
+use Rattle.tokens.specs.declared.Property.the-variants.{None, Value}
+use Rattle.tokens.specs.Tokens.{Shown, Token, hasOf, valueOf, recordOf, recordWords, tokenLayout, tokenWords, shownBy}
+use Rattle.tokens.specs.Tokens
+use Rattle.tokenize.proofs.Places.{At, Stands}
+use Rattle.cutter.specs.Cutting.{tokenStream, cutAnswer, cutRoom, Cuts}
+use Rattle.cutter.proofs.Places.{Placed, stream-places}
+use Rattle.cutter.proofs.Counts.{count-stream}
+use Rattle.tokens.specs.declared.item.Item.{Item}
+use Rattle.tokens.specs.declared.item.Item.the-variants.{Unknown, Word}
+use Rattle.tokens.specs.Items.{propertyOf, itemOf, itemAt, part, shownOf, shownAll}
+use Rattle.answers.specs.declared.Refusal.{Refusal}
+
+number-back : (num : Property) → propertyOf (hasOf num) (valueOf num) ≡ num
+number-back None = refl
+number-back (Value v) = refl
+
+bytes-back : (src : List ℕ) (p : ℕ) (bs : List ℕ) → At src 0 p bs → part src p (length bs) ≡ bs
+unfolding part
+bytes-back src p bs a = let e : p ≡ a .from = omega (arith, a .place) in rw e (a .same)
+
+record-shown : (src : List ℕ) (x : Shown) (z : List ℕ) → Stands src 0 x → shownOf src (itemAt (recordWords (recordOf x) ++ z)) ≡ x
+unfolding itemAt itemOf recordOf
+record-shown src (Shown.text p bs) z h = ap (Shown.text p) (bytes-back src p bs h)
+record-shown src Shown.opening z h = refl
+record-shown src Shown.closing z h = refl
+record-shown src Shown.lineBreak z h = refl
+record-shown src Shown.ignorable z h = refl
+record-shown src (Shown.word w num) z h =
+    let q : eqb w 49 ≡ false = ne-eqb w 49 (λ e. let k : w < 49 = h .0 in omega arith) in
+    ap (λ (u : Bool). shownOf src (cond u (Unknown 0 0 (propertyOf (hasOf num) (valueOf num))) (Word w (propertyOf (hasOf num) (valueOf num))))) q
+    ∙ ap (Shown.word w) (number-back num)
+record-shown src (Shown.unknown p bs num) z h =
+    ap (λ (cs : List ℕ). Shown.unknown p cs (propertyOf (hasOf num) (valueOf num))) (bytes-back src p bs (h .0)) ∙ ap (Shown.unknown p bs) (number-back num)
+
+shown-stream : (src : List ℕ) (s : Stream Refusal Token) (z : List ℕ) → Each (Placed src) s → shownAll src (count s) (encode tokenLayout s ++ z) ≡ shownBy (items s)
+unfolding shownAll count encode items shownBy
+shown-stream src end z h = refl
+shown-stream src (stop r) z h = refl
+shown-stream src (t ▸ s) z h =
+    ap (λ (x : Shown). x ∷ shownAll src (count s) (encode tokenLayout s ++ z)) (record-shown src (t .shows) (encode tokenLayout s ++ z) (h .0 .0))
+    ∙ ap (λ (xs : List Shown). t .shows ∷ xs) (shown-stream src s z (h .1))
+
+length-items : {E A : Type 0} (s : Stream E A) → length (items s) ≡ count s
+unfolding items count
+length-items end = refl
+length-items (stop r) = refl
+length-items (x ▸ s) = ap suc (length-items s)
+
+module _ (src : List ℕ) (total : ℕ) {o : Outcome} {n : ℕ} (e : o ≡ cutAnswer src total) (d : o ≡ Done n) where
+  cut-counts : (n ≡ count (tokenStream src)) × (n * tokenWords ≤ total)
+  unfolding cutAnswer settled
+  cut-counts = go (answer 0 (tokenStream src)) refl (sym d ∙ e)
+    where
+      pick : (m : ℕ) → answer 0 (tokenStream src) ≡ Done m → (u : Bool) → leb m (capacity tokenWords total) ≡ u → Done n ≡ cond u (Done m) (Refused (refusal TokenRoom))
+          → (n ≡ count (tokenStream src)) × (n * tokenWords ≤ total)
+      pick m a true b q =
+          let x : n ≡ m = cc in
+          let y : m ≡ 0 + count (tokenStream src) = answer-count (tokenStream src) 0 m a in
+          let k : m ≤ capacity tokenWords total = leb-true m (capacity tokenWords total) b in
+          (omega arith, rw x (le-trans (mul-le-mul-right tokenWords k) (div-mul-le-self total tokenWords)))
+      pick m a false b q = absurd (done-refused q)
+
+      go : (a : Outcome) → answer 0 (tokenStream src) ≡ a → Done n ≡ settled tokenLayout (refusal TokenRoom) total a → (n ≡ count (tokenStream src)) × (n * tokenWords ≤ total)
+      go (Done m) a q = pick m a (leb m (capacity tokenWords total)) refl q
+      go (Refused r) a q = absurd (done-refused q)
+
+  cut-few : n ≤ 65536
+  cut-few = let h = cut-counts .0 in let k = count-stream src in omega arith
+
+  -- the room's content is the records and zeros
+  cut-room : cutRoom src total ≡ filled total (encode tokenLayout (tokenStream src))
+  unfolding cutRoom content
+  cut-room = ap (λ (a : Outcome). content tokenLayout total a (tokenStream src)) (sym e ∙ d)
+
+  cut-shown : {room : List ℕ} → room ≡ cutRoom src total → shownAll src n room ≡ shownBy (items (tokenStream src))
+  cut-shown {room} q =
+      ap (λ (ws : List ℕ). shownAll src n ws) (q ∙ cut-room)
+      ∙ ap (λ (m : ℕ). shownAll src m (filled total (encode tokenLayout (tokenStream src)))) (cut-counts .0)
+      ∙ shown-stream src (tokenStream src) (replicate (total - length (encode tokenLayout (tokenStream src))) 0) (stream-places src)
+
+-- an answer that is no count counts nothing
+few-counted : (src : List ℕ) (total : ℕ) (o : Outcome) → o ≡ cutAnswer src total → (outcomeCount o ≤ 65536) × (outcomeCount o * tokenWords ≤ total)
+few-counted src total (Done n) e = (cut-few src total e refl, cut-counts src total e refl .1)
+few-counted src total (Refused r) e = (omega arith, omega arith)
+
+pub cuts : (src room : List ℕ) {r : Outcome} {room′ : List ℕ} → r ≡ cutAnswer src (length room) → room′ ≡ cutRoom src (length room) → Cuts src room r room′
+cuts src room {r} {room′} e q =
+    let f = few-counted src (length room) r e in
+    record {
+      answer = e;
+      content = q;
+      few = f .0;
+      fits = f .1;
+      counts = λ n d. cut-counts src (length room) e d .0 ∙ sym (length-items (tokenStream src));
+      shows = λ n d. cut-shown src (length room) e d q;
+    }

@@ -1,2 +1,0 @@
--- Entering: a group, by what its bracket begins.
-mod Entering

@@ -1,2 +1,0 @@
--- Entries: the numbers and the text of one stored block.
-pub mod Entries

@@ -1,2 +1,0 @@
--- Fitting: a block's record, and whether it may stand where it does.
-pub mod Fitting

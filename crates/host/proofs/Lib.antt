@@ -1,0 +1,3 @@
+-- Answers: by their parts. Tight: one result is permitted of each exported function.
+mod Answers
+pub mod Tight

@@ -1,0 +1,24 @@
+-- `of_cut` meets its contract.
+use Rattle.host.proofs.Answers.{cut-as}
+use borrow.Author.Needs.{needs}
+use Rattle.host.proofs.answer.of_cut.Statement.{statement}
+use Rattle.host.proofs.answer.of_cut.Tie as tie
+use Rattle.host.proofs.answer.of_cut.Reads as reads
+use Rattle.host.proofs.answer.of_cut.Lts as lts
+use Rattle.answers.proofs.Outcome.count.Reads as count-reads
+use Rattle.answers.proofs.Outcome.number.Reads as number-reads
+
+number-requires : tie.Need-number-requires
+number-requires c κs = search needs
+
+count-requires : tie.Need-count-requires
+count-requires c κs = search needs
+
+cast-t4 : tie.Need-cast-t4
+cast-t4 c = search needs
+
+returns : tie.Need-returns
+returns c = cut-as (c .before .before .args .outcome) (c .before .number .ensures) (c .count .ensures)
+
+pub of-cut-spec : {M : Type 1} → statement M
+of-cut-spec = tie.close (tie.spec number-requires count-requires cast-t4 returns)

@@ -1,0 +1,2 @@
+-- Exports: what the exported functions answer and promise.
+pub mod Exports

@@ -1,2 +1,0 @@
--- Items: a token record read back.
-pub mod Items

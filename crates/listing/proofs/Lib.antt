@@ -1,0 +1,2 @@
+-- Parts: the parts of a list.
+mod Parts

@@ -1,2 +1,0 @@
--- Rows: a table of fonts, as a list and as words in a room.
-pub mod Rows

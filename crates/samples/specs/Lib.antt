@@ -1,0 +1,4 @@
+-- Letters: 01's sample letters, its sample listing, letters that tell its easy errors and the order of refusals. Fonts: telling token
+-- lists, and the fonts that each gives.
+pub mod Letters
+pub mod Fonts

@@ -1,2 +1,0 @@
--- Listings: the lines of a listing.
-mod Listings

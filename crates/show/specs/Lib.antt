@@ -1,2 +1,0 @@
--- Listings: what an answer's listing says, as text.
-pub mod Listings

@@ -1,0 +1,109 @@
+// One block of a stored list (01, Stored form): its twelve numbers, and the rules for them and for its text.
+//
+//   Entry      a block that stands in a list: its style, how many bytes its numbers have, and how many its text; or a refusal
+//   block_at   the block that a list starts with
+//
+// `block_at` is total. Whoever reads a list, and whoever checks one, reads its blocks by it.
+use answers::Outcome;
+use answers::Refusal;
+use answers::Why;
+use fields::follows;
+use fields::in_range;
+use fields::unfold;
+use rooms::wide;
+use sevens::Numeral;
+use sevens::number_at;
+use styles::Style;
+use wellformed::is_utf8;
+ghost use mathlib.Core.Path.{_≡_};
+ghost use Prim.Native.Nat.{_≤_};
+ghost use lib.ListN.{length};
+ghost use Rattle.fields.specs.Fields.{styleFrom, lastOf};
+ghost use Rattle.stored.specs.Entries.{numbersFrom, ruled as ruledOf, entry, NumbersIn};
+
+pub enum Entry {
+    Is(Style, usize, usize),
+    Bad(Refusal),
+}
+
+// As many numbers as the room has words, one after the other: how many bytes they have.
+fn numbers_at(s: &[u8], words: &mut [u32]) -> Outcome
+    ensures { λ r. ⌜ NumbersIn (numbersFrom (length (now (words .entry))) (now (s .entry))) (length (now (s .entry))) r
+        (now (words .exit)) ⌝ }
+{
+    let mut t = s;
+    let mut i: usize = 0;
+    while i < words.len() {
+        let n = number_at(t);
+        match n {
+            Numeral::Is(v, k) => {
+                words[i] = v;
+                t = &t[k..];
+                i += 1;
+            }
+            Numeral::Bad => {
+                return Outcome::Refused(Refusal::of(Why::StoredNumber));
+            }
+            Numeral::Short => {
+                return Outcome::Refused(Refusal::of(Why::StoredShort));
+            }
+        }
+    }
+    Outcome::Done(s.len() - t.len())
+}
+
+// The style that a block's numbers say.
+fn style_of(words: &[u32]) -> Style
+    requires { ⌜ 12 ≤ length (now words) ⌝ }
+    ensures { λ r. ⌜ r ≡ styleFrom (now (words .entry)) ⌝ }
+{
+    let before = unfold(words[5]);
+    let after = unfold(words[6]);
+    let multiplier = unfold(words[9]);
+    let tab = unfold(words[10]);
+    Style {
+        colour: words[0],
+        font: words[1],
+        size: words[2],
+        flags: words[3],
+        alignment: words[4],
+        before: before,
+        after: after,
+        kind: words[7],
+        line: words[8],
+        multiplier: multiplier,
+        tab: tab,
+    }
+}
+
+// A block of a style with n bytes of text, whose numbers have m bytes and are followed by t.
+fn ruled(t: &[u8], begun: bool, before: Style, s: Style, n: usize, m: usize) -> Entry
+    ensures { λ r. ⌜ r ≡ ruledOf (lastOf begun before) s n m (now (t .entry)) ⌝ }
+{
+    if !(in_range(s) & ((0 < n) & follows(begun, before, s))) {
+        return Entry::Bad(Refusal::of(Why::StoredField));
+    }
+    if t.len() < n {
+        return Entry::Bad(Refusal::of(Why::StoredShort));
+    }
+    if is_utf8(&t[..n]) {
+        return Entry::Is(s, m, n);
+    }
+    Entry::Bad(Refusal::of(Why::StoredField))
+}
+
+// The block that a list starts with, where `begun` says whether a block came before, of the style `before`.
+pub fn block_at(s: &[u8], begun: bool, before: Style) -> Entry
+    ensures { λ r. ⌜ r ≡ entry (lastOf begun before) (now (s .entry)) ⌝ }
+{
+    let mut words = [0u32; 12];
+    let numbers = numbers_at(s, &mut words);
+    match numbers {
+        Outcome::Refused(refusal) => Entry::Bad(refusal),
+        Outcome::Done(m) => {
+            let style = style_of(&words);
+            let n = wide(words[11]);
+            ruled(&s[m..], begun, before, style, n, m)
+        }
+    }
+}

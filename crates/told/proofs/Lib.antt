@@ -1,2 +1,0 @@
--- Told: answers as a host gets them, case by case.
-mod Told

@@ -1,0 +1,387 @@
+//! Known answers for every function of elduvarn.rs, in rooms of just enough, too little and none.
+//!
+//!     test          makes all calls; the last line counts them
+//!     test names    lists the refusals by number and name
+//!
+//! Exit status: 0 all passed, 1 not. Expected answers are read off document 01 and
+//! docs/REFUSALS.md. What happens at the borders of a room is tested by ../test.c.
+
+use elduvarn::{
+    cut, read, stored, Block, Colour, Font, Letter, Reading, Refusal, Rooms, Token, BLOCK_WORDS,
+    FONT_WORDS, MOST_COLOURS, MOST_FONTS, MOST_SOURCE, TOKEN_WORDS,
+};
+use std::fmt::Debug;
+use std::process::ExitCode;
+
+#[derive(Default)]
+struct Counts {
+    passed: usize,
+    failed: usize,
+}
+
+impl Counts {
+    /// Counts one check, and says if what is there is not what should be.
+    fn check<T: Debug + PartialEq>(&mut self, what: &str, is: T, should: T) {
+        if is == should {
+            self.passed += 1;
+        } else {
+            self.failed += 1;
+            println!("FAILED {what}: {is:?}, not {should:?}");
+        }
+    }
+}
+
+/// Rooms of a caller, with something in them.
+struct Lent {
+    tokens: Vec<Token>,
+    fonts: Vec<Font>,
+    colours: Vec<Colour>,
+    blocks: Vec<Block>,
+    text: Vec<u8>,
+}
+
+impl Lent {
+    /// So many tokens, fonts, colours, blocks and bytes.
+    fn of([tokens, fonts, colours, blocks, text]: [usize; 5]) -> Lent {
+        Lent {
+            tokens: vec![[9; TOKEN_WORDS]; tokens],
+            fonts: vec![[9; FONT_WORDS]; fonts],
+            colours: vec![9; colours],
+            blocks: vec![[9; BLOCK_WORDS]; blocks],
+            text: vec![9; text],
+        }
+    }
+
+    fn rooms(&mut self) -> Rooms<'_> {
+        Rooms {
+            tokens: &mut self.tokens,
+            fonts: &mut self.fonts,
+            colours: &mut self.colours,
+            blocks: &mut self.blocks,
+            text: &mut self.text,
+        }
+    }
+
+    /// Whether all is zero behind so many records of each.
+    fn zero_behind(&self, [tokens, fonts, colours, blocks, text]: [usize; 5]) -> bool {
+        self.tokens[tokens..].iter().flatten().all(|&word| word == 0)
+            && self.fonts[fonts..].iter().flatten().all(|&word| word == 0)
+            && self.colours[colours..].iter().all(|&word| word == 0)
+            && self.blocks[blocks..].iter().flatten().all(|&word| word == 0)
+            && self.text[text..].iter().all(|&byte| byte == 0)
+    }
+}
+
+const AMPLE: [usize; 5] = [100, 20, 20, 20, 100];
+const NONE: [usize; 5] = [0; 5];
+
+/// A plain block of that text; its place and length end the record.
+const fn block(flags: u32, place: u32, length: u32) -> Block {
+    [0, 0, 12, flags, 0, 0, 0, 0, 0, 0, 0, place, length]
+}
+
+/// Tokens, fonts, colours and blocks of a letter, and its text in both readings.
+type Known = (&'static str, [usize; 4], &'static str, &'static str);
+
+/// 01, "Sample letters", those that are read; then a colour, a paragraph and two styles.
+const LETTERS: &[Known] = &[
+    (r"{}", [2, 0, 0, 0], "", ""),
+    (r"{\u8212 \'97}", [4, 0, 0, 1], "\u{2014}", "\u{2014}"),
+    (r"{\'e9\'e8}", [4, 0, 0, 1], "\u{e9}", "\u{e9}"),
+    (r"{\u-3913 }", [3, 0, 0, 1], "\u{f0b7}", "\u{f0b7}"),
+    (r"{\u-10179 \u-8704 }", [4, 0, 0, 1], "\u{1f600}", "\u{1f600}"),
+    (r"{\u-10179 }", [3, 0, 0, 1], "\u{fffd}", "\u{fffd}"),
+    (r"{\u8217?}", [3, 0, 0, 0], "", ""),
+    (r"{a}}", [4, 0, 0, 1], "a", "a"),
+    (r"{a\~b}", [3, 0, 0, 1], "a", "a"),
+    (r"{a{\*x}b}", [7, 0, 0, 1], "ab", "ab"),
+    (r"{\\{a}}", [4, 0, 0, 1], r"\{a", r"\{a"),
+    (r"{\fonttbl{\f1 Arial;}}", [7, 2, 0, 0], "", ""),
+    (r"{\colortbl\red200\green16\blue46;}", [6, 0, 1, 0], "", ""),
+    (r"{a\par b}", [5, 0, 0, 1], "ab", "a\nb"),
+    (r"{\rtf1 a\b b}", [6, 0, 0, 2], "ab", "ab"),
+];
+
+/// Refusals for a room that is too small, in the order of rooms.
+const SMALL: [Refusal; 5] = [
+    Refusal::TokenRoom,
+    Refusal::FontRoom,
+    Refusal::ColourRoom,
+    Refusal::BlockRoom,
+    Refusal::TextRoom,
+];
+
+fn sizes(letter: Letter<'_>) -> [usize; 5] {
+    let Letter { tokens, fonts, colours, blocks, text } = letter;
+    [tokens.len(), fonts.len(), colours.len(), blocks.len(), text.len()]
+}
+
+/// In rooms of just enough, in ample ones, and each of them in turn one too small.
+fn reads(counts: &mut Counts, known: &Known, reading: Reading) {
+    let &(source, [tokens, fonts, colours, blocks], plain, paragraphs) = known;
+    let text = if reading == Reading::Plain { plain } else { paragraphs };
+    let enough = [tokens, fonts, colours, blocks, text.len()];
+    let what = format!("{reading:?} reading of {source}");
+    for room in [enough, AMPLE] {
+        let mut lent = Lent::of(room);
+        let is = read(source.as_bytes(), reading, &mut lent.rooms())
+            .map(|letter| (sizes(letter), letter.text_str().map(str::to_owned)));
+        counts.check(&what, is, Ok((enough, Ok(text.to_owned()))));
+        counts.check(&format!("{what}, rooms behind it"), lent.zero_behind(enough), true);
+    }
+    for (place, refusal) in SMALL.into_iter().enumerate() {
+        let mut room = enough;
+        if room[place] > 0 {
+            room[place] -= 1;
+            refuses(counts, source.as_bytes(), reading, room, refusal);
+        }
+    }
+}
+
+fn refuses(
+    counts: &mut Counts,
+    source: &[u8],
+    reading: Reading,
+    room: [usize; 5],
+    refusal: Refusal,
+) {
+    let start = &source[..source.len().min(20)];
+    let what = format!("{reading:?} reading of {} in {room:?}", start.escape_ascii());
+    let mut lent = Lent::of(room);
+    let is = read(source, reading, &mut lent.rooms()).map(sizes);
+    counts.check(&what, is, Err(refusal));
+    counts.check(&format!("{what}, its rooms"), lent.zero_behind(NONE), true);
+}
+
+/// The smallest letters of docs/REFUSALS.md, and those of 01's limits.
+fn test_refusals(counts: &mut Counts) {
+    let too_deep = ["{"; 64].concat() + "}";
+    let too_long = vec![b' '; MOST_SOURCE + 1];
+    let refused: &[(&[u8], Refusal)] = &[
+        (&too_long, Refusal::SourceTooLong),
+        (b"\x80", Refusal::NotAscii),
+        (br"\'}", Refusal::HexShort),
+        (br"\'zz}", Refusal::HexBad),
+        (br"\a-}", Refusal::NumberBad),
+        (br"{\b2147483648}", Refusal::NumberBad),
+        (b"a", Refusal::LastSlice),
+        (b"", Refusal::NoTokens),
+        (b"}", Refusal::FirstToken),
+        (b"{\\\n\\fonttbl}", Refusal::TableLineBreak),
+        (br"{\fonttbl\f}", Refusal::FontNumber),
+        (br"{\f-1}", Refusal::NumberField),
+        (br"{\fs65536}", Refusal::NumberField),
+        (br"{a\*}", Refusal::IgnorableInBody),
+        (b"{}}}", Refusal::NoState),
+        (b"{a}}}", Refusal::NoState),
+        (br"{\sl-2147483648}", Refusal::LineSpacing),
+        (too_deep.as_bytes(), Refusal::TooDeep),
+    ];
+    for &(source, refusal) in refused {
+        for reading in [Reading::Plain, Reading::Paragraphs] {
+            refuses(counts, source, reading, AMPLE, refusal);
+        }
+    }
+    refuses(counts, b"", Reading::Plain, NONE, Refusal::NoTokens);
+}
+
+fn test_read(counts: &mut Counts) {
+    for known in LETTERS {
+        reads(counts, known, Reading::Plain);
+        reads(counts, known, Reading::Paragraphs);
+    }
+    let mut lent = Lent::of(AMPLE);
+    let mut rooms = lent.rooms();
+    let fonts = read(br"{\fonttbl{\f1 Arial;}}", Reading::Plain, &mut rooms);
+    counts.check("fonts", fonts.map(|letter| letter.fonts), Ok(&[[0, 0, 0], [1, 14, 5]]));
+    let colours = read(br"{\colortbl\red200\green16\blue46;}", Reading::Plain, &mut rooms);
+    counts.check("colours", colours.map(|letter| letter.colours), Ok(&[0xc8102e]));
+    let listing = read(br"{\rtf1 a\b b}", Reading::Plain, &mut rooms);
+    counts.check(
+        "blocks",
+        listing.map(|letter| letter.blocks),
+        Ok(&[block(0, 0, 1), block(1, 1, 1)]),
+    );
+    let mut letter = vec![b'a'; MOST_SOURCE];
+    (letter[0], letter[MOST_SOURCE - 1]) = (b'{', b'}');
+    let mut lent = Lent::of([3, 0, 0, 1, MOST_SOURCE - 2]);
+    let longest = read(&letter, Reading::Plain, &mut lent.rooms()).map(sizes);
+    counts.check("the longest letter", longest, Ok([3, 0, 0, 1, MOST_SOURCE - 2]));
+}
+
+fn test_cut(counts: &mut Counts) {
+    // 01's table of names has b at 13 and fs at 10.
+    let styled = [
+        [1, 0, 0, 0, 0, 0],
+        [5, 13, 1, 1, 0, 0],
+        [5, 10, 1, 24, 0, 0],
+        [0, 0, 0, 0, 10, 1],
+        [2, 0, 0, 0, 0, 0],
+    ];
+    let letter = br"{\b1\fs24 a}";
+    for size in 0..8 {
+        let mut room = vec![[9; TOKEN_WORDS]; size];
+        let should = if size < 5 { Err(Refusal::TokenRoom) } else { Ok(&styled[..]) };
+        counts.check(&format!("cutting in a room of {size}"), cut(letter, &mut room), should);
+        let used = if size < 5 { 0 } else { 5 };
+        let zero = room[used..].iter().flatten().all(|&word| word == 0);
+        counts.check(&format!("behind the tokens in a room of {size}"), zero, true);
+    }
+    let mut room = [[9; TOKEN_WORDS]; 3];
+    let minus = cut(br"{\u-3913 }", &mut room).map(|tokens| tokens[1][3] as i32);
+    counts.check("a negative number", minus, Ok(-3913));
+    counts.check("cutting nothing", cut(b"", &mut []), Ok(&[][..]));
+    counts.check("cutting blanks", cut(b" ", &mut room), Ok(&[][..]));
+    counts.check("cutting a", cut(b"a", &mut room), Err(Refusal::LastSlice));
+    counts.check("cutting a byte of 128", cut(b"\x80", &mut room), Err(Refusal::NotAscii));
+}
+
+/// The sample listing, and its list.
+const LISTING: [Block; 2] = [block(0, 0, 1), block(1, 1, 1)];
+const LIST: &[u8] = b"\x02\0\0\x0c\0\0\0\0\0\0\0\0\x01a\0\0\x0c\x01\0\0\0\0\0\0\0\x01b";
+
+/// A list in rooms of so many blocks and bytes.
+fn reads_list(
+    counts: &mut Counts,
+    list: &[u8],
+    (blocks, text): (usize, usize),
+    should: Result<(&[Block], &str), Refusal>,
+) {
+    let what = format!("reading a list of {} bytes in {blocks} and {text}", list.len());
+    let mut lent = Lent::of([0, 0, 0, blocks, text]);
+    let is = stored::read(list, &mut lent.blocks, &mut lent.text);
+    let is = is.map(|page| (page.blocks, page.text_str().unwrap_or("not UTF-8")));
+    counts.check(&what, is, should);
+    let used = should.map_or((0, 0), |(blocks, text)| (blocks.len(), text.len()));
+    let zero = lent.zero_behind([0, 0, 0, used.0, used.1]);
+    counts.check(&format!("{what}, rooms behind it"), zero, true);
+}
+
+fn test_stored(counts: &mut Counts) {
+    counts.check("checking a good list", stored::check(LIST), Ok(()));
+    counts.check("checking a list without blocks", stored::check(b"\0"), Ok(()));
+    for end in 0..LIST.len() {
+        counts.check("checking a start", stored::check(&LIST[..end]), Err(Refusal::StoredShort));
+    }
+    let refused: &[(&[u8], Refusal)] = &[
+        (b"\x80\0", Refusal::StoredNumber),
+        (b"", Refusal::StoredShort),
+        (b"\0\0", Refusal::StoredLong),
+        (b"\x01\0\0\0\0\0\0\0\0\0\0\0\0", Refusal::StoredField),
+    ];
+    for &(list, refusal) in refused {
+        counts.check("checking a bad list", stored::check(list), Err(refusal));
+        reads_list(counts, list, (2, 2), Err(refusal));
+    }
+    reads_list(counts, LIST, (2, 2), Ok((&LISTING, "ab")));
+    reads_list(counts, LIST, (3, 9), Ok((&LISTING, "ab")));
+    reads_list(counts, LIST, (1, 2), Err(Refusal::BlockRoom));
+    reads_list(counts, LIST, (2, 1), Err(Refusal::TextRoom));
+    reads_list(counts, LIST, (0, 0), Err(Refusal::BlockRoom));
+    reads_list(counts, b"\0", (0, 0), Ok((&[], "")));
+    for size in 0..LIST.len() + 3 {
+        let mut room = vec![9; size];
+        let fits = size >= LIST.len();
+        let should = if fits { Ok(LIST) } else { Err(Refusal::OutputRoom) };
+        let what = format!("writing in {size}");
+        counts.check(&what, stored::write(&LISTING, b"ab", &mut room), should);
+        let used = if fits { LIST.len() } else { 0 };
+        counts.check(&format!("{what}, behind it"), room[used..].iter().all(|&b| b == 0), true);
+    }
+    let mut room = [9; 100];
+    let gap = [block(0, 0, 1), block(1, 2, 1)];
+    let is = stored::write(&gap, b"ab", &mut room);
+    counts.check("writing a gap between texts", is, Err(Refusal::StoredField));
+    counts.check("its room", room, [0; 100]);
+    counts.check("writing nothing", stored::write(&[], b"", &mut room[..1]), Ok(&[0][..]));
+    let none = stored::write(&[], b"", &mut []);
+    counts.check("writing nothing, without a room", none, Err(Refusal::OutputRoom));
+}
+
+/// A letter is read, stored, checked and read back.
+fn test_round_trip(counts: &mut Counts) {
+    let source = concat!(
+        r"{\rtf1{\fonttbl{\f0 Helvetica;}}\fs24 Caf\'e9 {\b bold\i  both}\par ",
+        r"\pard\qj\sb120\sa-120\sl-276\slmul1 \u8212 dash\cf2  coloured}",
+    );
+    let mut lent = Lent::of([source.len(), MOST_FONTS, MOST_COLOURS, source.len(), source.len()]);
+    let mut rooms = lent.rooms();
+    let letter = match read(source.as_bytes(), Reading::Paragraphs, &mut rooms) {
+        Ok(letter) => letter,
+        Err(refusal) => return counts.check("the letter", Err(refusal), Ok(())),
+    };
+    let shown = "Caf\u{e9}bold both\n\u{2014}dash coloured";
+    counts.check("its text", letter.text_str(), Ok(shown));
+    counts.check("its blocks", letter.blocks.len(), 6);
+    let mut room = vec![9; stored::most(letter.blocks.len(), letter.text.len())];
+    let list = match stored::write(letter.blocks, letter.text, &mut room) {
+        Ok(list) => list,
+        Err(refusal) => return counts.check("storing it", Err(refusal), Ok(())),
+    };
+    counts.check("checking its list", stored::check(list), Ok(()));
+    let just_enough = (letter.blocks.len(), letter.text.len());
+    reads_list(counts, list, just_enough, Ok((letter.blocks, shown)));
+}
+
+/// `TOO_DEEP` as `TooDeep`.
+fn camel(name: &str) -> String {
+    let word = |word: &str| word[..1].to_owned() + &word[1..].to_lowercase();
+    name.split('_').map(word).collect()
+}
+
+/// Names and numbers are those of the header: `    ELDUVARN_NAME = NUMBER`, and what follows.
+fn test_header(counts: &mut Counts) {
+    let mut header = Vec::new();
+    let words: Vec<&str> = include_str!("../elduvarn.h").split_whitespace().collect();
+    for three in words.windows(3) {
+        if let (Some(name), "=") = (three[0].strip_prefix("ELDUVARN_"), three[1]) {
+            let number = three[2].trim_end_matches(',').parse::<u32>();
+            header.push((camel(name), number.unwrap_or(u32::MAX)));
+        }
+    }
+    let mut ours = vec![("Success".to_owned(), 0)];
+    ours.extend(Refusal::ALL.iter().map(|refusal| (refusal.name().to_owned(), refusal.number())));
+    let sizes = [
+        ("TokenWords", TOKEN_WORDS),
+        ("FontWords", FONT_WORDS),
+        ("ColourWords", std::mem::size_of::<Colour>() / 4),
+        ("BlockWords", BLOCK_WORDS),
+        ("MostSource", MOST_SOURCE),
+        ("MostFonts", MOST_FONTS),
+        ("MostColours", MOST_COLOURS),
+    ];
+    ours.extend(sizes.map(|(name, size)| (name.to_owned(), size as u32)));
+    counts.check("what the header declares", ours, header);
+}
+
+fn test_names(counts: &mut Counts) {
+    for (before, &refusal) in Refusal::ALL.iter().enumerate() {
+        counts.check("a number", refusal.number(), before as u32 + 1);
+        counts.check("its refusal", Refusal::from_number(refusal.number()), Some(refusal));
+        counts.check("its name", refusal.name().to_owned(), format!("{refusal:?}"));
+    }
+    for number in [0, Refusal::ALL.len() as u32 + 1, u32::MAX] {
+        counts.check("no refusal", Refusal::from_number(number), None);
+    }
+    let told = Refusal::NoState.to_string();
+    counts.check("a refusal, told", told.as_str(), "refused by 14, NoState");
+}
+
+fn main() -> ExitCode {
+    if std::env::args().nth(1).as_deref() == Some("names") {
+        for refusal in Refusal::ALL {
+            println!("{} {}", refusal.number(), refusal.name());
+        }
+        return ExitCode::SUCCESS;
+    }
+    let mut counts = Counts::default();
+    test_header(&mut counts);
+    test_names(&mut counts);
+    test_cut(&mut counts);
+    test_read(&mut counts);
+    test_refusals(&mut counts);
+    test_stored(&mut counts);
+    test_round_trip(&mut counts);
+    println!("test: {} passed, {} failed", counts.passed, counts.failed);
+    ExitCode::from(u8::from(counts.failed > 0))
+}
