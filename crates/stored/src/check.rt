@@ -9,10 +9,10 @@ use crate::entry::block_at;
 use answers::Outcome;
 use answers::Refusal;
 use answers::Why;
-use blocks::Page;
 use rooms::wide;
 use sevens::Numeral;
 use sevens::number_at;
+use styles::Style;
 ghost use mathlib.Core.Path.{_≡_};
 ghost use Prim.Native.Nat.{ℕ, _≤_};
 ghost use lib.ListN.{length};
@@ -30,7 +30,7 @@ fn check_blocks(list: &[u8], k: usize) -> Outcome
     let mut n = k;
     let mut left: usize = 2147483647;
     let mut begun = false;
-    let mut before = Page::blank().style;
+    let mut before = Style::blank();
     while 0 < n {
         let e = block_at(t, begun, before);
         match e {
