@@ -480,23 +480,19 @@ pub record Filled (q : Stream Refusal Piece) (b t : List ℕ) (n m : ℕ) (b′ 
   pub words : b′ ≡ filled (length b) (records 0 (blocks (items q)))
   pub bytes : t′ ≡ filled (length t) (textOf (items q))
 
-pub joined-filled : {q : Stream Refusal Piece} {b t : List ℕ} {p : Page} {b₁ t₁ : List ℕ} → Joined q b t p b₁ t₁ → {n : ℕ} {b₂ t₂ : List ℕ} → n ≡ p .blocks
-    → b₂ ≡ take (n * blockWords) b₁ ++ replicate (length b₁ - n * blockWords) 0 → t₂ ≡ take (p .text) t₁ ++ replicate (length t₁ - p .text) 0
-    → Filled q b t n (p .text) b₂ t₂
-joined-filled {q} {b} {t} {p} {b₁} {t₁} j {n} {b₂} {t₂} e u v =
+pub joined-filled : {q : Stream Refusal Piece} {b t : List ℕ} {p : Page} {b₁ t₁ : List ℕ} → Joined q b t p b₁ t₁ → {b₂ t₂ : List ℕ}
+    → b₂ ≡ take (p .blocks * blockWords) b₁ ++ replicate (length b₁ - p .blocks * blockWords) 0
+    → t₂ ≡ take (p .text) t₁ ++ replicate (length t₁ - p .text) 0 → Filled q b t (p .blocks) (p .text) b₂ t₂
+joined-filled {q} {b} {t} {p} {b₁} {t₁} j {b₂} {t₂} u v =
     let bl : List Piece = blocks (items q) in
-    let k : n ≡ length bl = e ∙ j .counted in
-    let w : take (n * blockWords) b₁ ≡ records 0 bl = rw e (j .words) in
-    let lr : length (records 0 bl) ≡ n * blockWords = length-records bl 0 ∙ rw k in
+    let lr : length (records 0 bl) ≡ p .blocks * blockWords = length-records bl 0 ∙ rw (j .counted) in
     record {
-      counted = k;
+      counted = j .counted;
       text = j .text;
-      words = filled-front (length b) (n * blockWords) (records 0 bl) b₁ b₂ u w lr (j .wide);
+      words = filled-front (length b) (p .blocks * blockWords) (records 0 bl) b₁ b₂ u (j .words) lr (j .wide);
       bytes = filled-front (length t) (p .text) (textOf (items q)) t₁ t₂ v (j .bytes) (sym (j .text)) (j .long);
     }
 
 -- the words of a page's blocks fit their room
-pub count-words : {p : Page} (w v : ℕ) {cnt : ℕ} → Ready p w v → cnt ≡ p .blocks → cnt * blockWords ≤ w
-count-words {p} w v {cnt} h e =
-    let a : cnt ≤ capacity blockWords w = rw e (h .page .blocks) in
-    le-trans (mul-le-mul-right blockWords a) (div-mul-le-self w blockWords)
+pub count-words : {p : Page} (w v : ℕ) → Ready p w v → p .blocks * blockWords ≤ w
+count-words w v h = le-trans (mul-le-mul-right blockWords (h .page .blocks)) (div-mul-le-self w blockWords)
