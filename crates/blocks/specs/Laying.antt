@@ -3,7 +3,7 @@
 use Prim.Native.Nat.{ℕ, zero, suc, _+_, _-_, _*_, _≤_, _<_}
 use mathlib.Core.List.{List}
 use mathlib.Core.Bool.{cond}
-use lib.ListN.{length, getD, drop, set}
+use lib.ListN.{length, drop, set}
 use lib.Seq.{sets}
 use lib.Dec.{ltb}
 use Rattle.answers.specs.declared.Refusal.{Refusal}
