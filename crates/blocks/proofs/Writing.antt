@@ -1,9 +1,9 @@
 -- The code's steps, one law for each way through it: what its tests say, what its callees promise.
---     cap-..                how much of a text room counts
---     copy-more, copy-end   a copy, byte by byte
---     joins-.., joined      whether text of a style joins the last block
+--     cap-..                        how much of a text room counts
+--     copy-more, copy-end           a copy, byte by byte
+--     twice, joins-.., joined       whether text of a style joins the last block
 --     start-.., append-.., add-..   what the code answers is what laying says
---     still-..              and what it asks holds again
+--     still-..                      and what it asks holds again
 -- Assumes nothing.
 use mathlib.Core.Path.{_≡_, refl, sym, _∙_}
 use mathlib.Core.List.{List, [], _∷_, _++_}
