@@ -1,0 +1,2 @@
+-- Stack: the stack in an array.
+pub mod Stack
