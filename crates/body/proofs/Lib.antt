@@ -1,0 +1,5 @@
+-- Deeds: what a token does. Moves: what becomes of the states. Saying: what is laid. Turns: the loop over the tokens.
+pub mod Deeds
+pub mod Moves
+pub mod Saying
+pub mod Turns
