@@ -1,2 +1,3 @@
--- Stack: the stack in an array.
+-- Stack: the stack in an array. Argument: what brackets, and moves between them, do to a stack.
 pub mod Stack
+pub mod Argument
