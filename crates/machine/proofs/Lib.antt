@@ -1,3 +1,5 @@
--- Stack: the stack in an array. Argument: what brackets, and moves between them, do to a stack.
+-- Stack: the stack in an array. Argument: what brackets, and moves between them, do to a stack. Runs: what a run of `u` tokens says
+-- is its text.
 pub mod Stack
 pub mod Argument
+pub mod Runs
