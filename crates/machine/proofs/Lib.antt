@@ -1,5 +1,6 @@
--- Stack: the stack in an array. Argument: what brackets, and moves between them, do to a stack. Runs: what a run of `u` tokens says
--- is its text.
+-- Stack: the stack in an array. Argument: what brackets, and moves between them, do to a stack. Maps: states of two kinds that go the
+-- same way. Runs: what a run of `u` tokens says is its text.
 pub mod Stack
 pub mod Argument
+pub mod Maps
 pub mod Runs
