@@ -1,5 +1,5 @@
 -- States of two kinds that go the same way: what is said in the one is what is said in the other, changed.
---     deedBy                a deed with each of its settings changed
+--     mapDeed               a deed with each of its settings changed
 --     Carries               states carried over: a fresh one, a setting done, how many units are skipped, and what is said
 --     settle-map            then settings are carried over,
 --     moved-map, all-map    what a token does to the stack, and what tokens do,
@@ -25,24 +25,24 @@ use Rattle.machine.specs.Machine.{States, Deed, opens, closes, sets, say
 use Rattle.machine.specs.Machine.{ended, gave, textsOf, writtenAll, _▸▸_, onward, settle, moveOf, skipOf, spoken, said, machine, start}
 
 -- a deed with each of its settings changed
-abbrev pub deedBy : {S S′ : Type 0} → (S → S′) → Deed S → Deed S′
-deedBy g opens = opens
-deedBy g closes = closes
-deedBy g (sets ss) = sets (map g ss)
-deedBy g (says bs) = says bs
-deedBy g (unit n) = unit n
-deedBy g (refuses why) = refuses why
-deedBy g parts = parts
-deedBy g (stops why) = stops why
+abbrev pub mapDeed : {S S′ : Type 0} → (S → S′) → Deed S → Deed S′
+mapDeed g opens = opens
+mapDeed g closes = closes
+mapDeed g (sets ss) = sets (map g ss)
+mapDeed g (says bs) = says bs
+mapDeed g (unit n) = unit n
+mapDeed g (refuses why) = refuses why
+mapDeed g parts = parts
+mapDeed g (stops why) = stops why
 
 -- what is found, changed
-abbrev pub foundBy : {R R′ : Type 0} → (R → R′) → Found (List R) → Found (List R′)
-foundBy h (found st) = found (map h st)
-foundBy h (refused r) = refused r
+abbrev pub mapFound : {R R′ : Type 0} → (R → R′) → Found (List R) → Found (List R′)
+mapFound h (found st) = found (map h st)
+mapFound h (refused r) = refused r
 
 -- a stream with each of its items changed, and the same end
-abbrev pub saidBy : {E E′ : Type 0} → (E → E′) → Stream Refusal E → Stream Refusal E′
-saidBy e s = each (λ (r : Refusal). r) e s
+abbrev pub mapSaid : {E E′ : Type 0} → (E → E′) → Stream Refusal E → Stream Refusal E′
+mapSaid e s = each (λ (r : Refusal). r) e s
 
 -- states carried over by h, settings by g, what is said by e
 pub record Carries {R S E R′ S′ E′ : Type 0} (a : States R S E) (b : States R′ S′ E′) (h : R → R′) (g : S → S′) (e : E → E′) : Type 0 where
@@ -54,26 +54,26 @@ pub record Carries {R S E R′ S′ E′ : Type 0} (a : States R S E) (b : State
 -- ---- without states
 
 module _ {R R′ : Type 0} (h : R → R′) where
-  found-cond : (t : Bool) (x y : Found (List R)) → foundBy h (cond t x y) ≡ cond t (foundBy h x) (foundBy h y)
+  found-cond : (t : Bool) (x y : Found (List R)) → mapFound h (cond t x y) ≡ cond t (mapFound h x) (mapFound h y)
   found-cond true x y = refl
   found-cond false x y = refl
 
-  stack-map : (x : Found (List R)) → map h (stackOf x) ≡ stackOf (foundBy h x)
+  stack-map : (x : Found (List R)) → map h (stackOf x) ≡ stackOf (mapFound h x)
   stack-map (found st) = refl
   stack-map (refused r) = refl
 
-  onward-map : {E E′ : Type 0} (e : E → E′) (x : Found (List R)) (s : Stream Refusal E) → saidBy e (onward x s) ≡ onward (foundBy h x) (saidBy e s)
+  onward-map : {E E′ : Type 0} (e : E → E′) (x : Found (List R)) (s : Stream Refusal E) → mapSaid e (onward x s) ≡ onward (mapFound h x) (mapSaid e s)
   unfolding each
   onward-map e (found st) s = refl
   onward-map e (refused r) s = refl
 
-front-map : {E E′ : Type 0} (e : E → E′) (xs : List E) (s : Stream Refusal E) → saidBy e (xs ▸▸ s) ≡ map e xs ▸▸ saidBy e s
+front-map : {E E′ : Type 0} (e : E → E′) (xs : List E) (s : Stream Refusal E) → mapSaid e (xs ▸▸ s) ≡ map e xs ▸▸ mapSaid e s
 unfolding each _▸▸_
 front-map e [] s = refl
 front-map e (x ∷ xs) s = rw (front-map e xs s)
 
 module _ {S S′ : Type 0} (g : S → S′) where
-  gave-map : (skip : ℕ) (run : Run) (d : Deed S) → gave skip run d ≡ gave skip run (deedBy g d)
+  gave-map : (skip : ℕ) (run : Run) (d : Deed S) → gave skip run d ≡ gave skip run (mapDeed g d)
   unfolding gave
   gave-map skip run opens = refl
   gave-map skip run closes = refl
@@ -84,7 +84,7 @@ module _ {S S′ : Type 0} (g : S → S′) where
   gave-map skip run parts = refl
   gave-map skip run (stops why) = refl
 
-  texts-map : (d : Deed S) → textsOf d ≡ textsOf (deedBy g d)
+  texts-map : (d : Deed S) → textsOf d ≡ textsOf (mapDeed g d)
   texts-map opens = refl
   texts-map closes = refl
   texts-map (sets ss) = refl
@@ -102,7 +102,7 @@ module _ {R S E R′ S′ E′ : Type 0} {a : States R S E} {b : States R′ S�
   settle-map [] r = refl
   settle-map (s ∷ ss) r = settle-map ss (a .put s r) ∙ ap (settle b (map g ss)) (c .puts s r)
 
-  pub moved-map : (st : List R) (d : Deed S) → foundBy h (moved (a .fresh) st (moveOf a d)) ≡ moved (b .fresh) (map h st) (moveOf b (deedBy g d))
+  pub moved-map : (st : List R) (d : Deed S) → mapFound h (moved (a .fresh) st (moveOf a d)) ≡ moved (b .fresh) (map h st) (moveOf b (mapDeed g d))
   unfolding moved
   moved-map [] opens = ap (λ (x : R′). found (x ∷ [])) (c .freshes)
   moved-map (top ∷ rest) opens =
@@ -121,18 +121,18 @@ module _ {R S E R′ S′ E′ : Type 0} {a : States R S E} {b : States R′ S�
   moved-map st parts = refl
   moved-map st (stops why) = refl
 
-  next-map : (x : Found (List R)) (d : Deed S) → foundBy h (next (a .fresh) x (moveOf a d)) ≡ next (b .fresh) (foundBy h x) (moveOf b (deedBy g d))
+  next-map : (x : Found (List R)) (d : Deed S) → mapFound h (next (a .fresh) x (moveOf a d)) ≡ next (b .fresh) (mapFound h x) (moveOf b (mapDeed g d))
   next-map (found st) d = moved-map st d
   next-map (refused r) d = refl
 
   pub all-map : (x : Found (List R)) (ds : List (Deed S))
-      → foundBy h (movedFrom (a .fresh) x (map (λ (d : Deed S). moveOf a d) ds))
-      ≡ movedFrom (b .fresh) (foundBy h x) (map (λ (d : Deed S′). moveOf b d) (map (deedBy g) ds))
+      → mapFound h (movedFrom (a .fresh) x (map (λ (d : Deed S). moveOf a d) ds))
+      ≡ movedFrom (b .fresh) (mapFound h x) (map (λ (d : Deed S′). moveOf b d) (map (mapDeed g) ds))
   unfolding movedFrom
   all-map x [] = refl
   all-map x (d ∷ ds) =
       all-map (next (a .fresh) x (moveOf a d)) ds
-      ∙ ap (λ (y : Found (List R′)). movedFrom (b .fresh) y (map (λ (d : Deed S′). moveOf b d) (map (deedBy g) ds))) (next-map x d)
+      ∙ ap (λ (y : Found (List R′)). movedFrom (b .fresh) y (map (λ (d : Deed S′). moveOf b d) (map (mapDeed g) ds))) (next-map x d)
 
   skip-map : (st : List R) → skipOf a st ≡ skipOf b (map h st)
   skip-map [] = refl
@@ -143,7 +143,7 @@ module _ {R S E R′ S′ E′ : Type 0} {a : States R S E} {b : States R′ S�
   spoken-map top [] = refl
   spoken-map top (bs ∷ texts) = rw (c .speaks top bs, spoken-map top texts)
 
-  said-map : (st : List R) (v : Gave) (d : Deed S) → map e (said a st v d) ≡ said b (map h st) v (deedBy g d)
+  said-map : (st : List R) (v : Gave) (d : Deed S) → map e (said a st v d) ≡ said b (map h st) v (mapDeed g d)
   unfolding said
   said-map [] v d = refl
   said-map (top ∷ rest) v d =
@@ -151,10 +151,10 @@ module _ {R S E R′ S′ E′ : Type 0} {a : States R S E} {b : States R′ S�
       ∙ ap (λ (t : List (List ℕ)). spoken b (h top) (writtenAll (values v) ++ t)) (texts-map g d)
 
   -- what a token gives to a run
-  met-map : (st : List R) (run : Run) (d : Deed S) → gave (skipOf a st) run d ≡ gave (skipOf b (map h st)) run (deedBy g d)
-  met-map st run d = gave-map g (skipOf a st) run d ∙ ap (λ (n : ℕ). gave n run (deedBy g d)) (skip-map st)
+  met-map : (st : List R) (run : Run) (d : Deed S) → gave (skipOf a st) run d ≡ gave (skipOf b (map h st)) run (mapDeed g d)
+  met-map st run d = gave-map g (skipOf a st) run d ∙ ap (λ (n : ℕ). gave n run (mapDeed g d)) (skip-map st)
 
-  pub machine-map : (st : List R) (run : Run) (ds : List (Deed S)) → saidBy e (machine a st run ds) ≡ machine b (map h st) run (map (deedBy g) ds)
+  pub machine-map : (st : List R) (run : Run) (ds : List (Deed S)) → mapSaid e (machine a st run ds) ≡ machine b (map h st) run (map (mapDeed g) ds)
   unfolding machine each
   machine-map st run [] = front-map e (said a st (ended run) parts) end ∙ ap (λ (l : List E′). l ▸▸ end) (said-map st (ended run) parts)
   machine-map st run (d ∷ ds) =
@@ -163,5 +163,5 @@ module _ {R S E R′ S′ E′ : Type 0} {a : States R S E} {b : States R′ S�
       front-map e (said a st v d) (onward x (machine a (stackOf x) (v .run) ds))
       ∙ rw (onward-map h e x, machine-map (stackOf x) (v .run) ds, stack-map h x, moved-map st d, said-map st v d, met-map st run d)
 
-  pub start-map : (ds : List (Deed S)) → saidBy e (start a ds) ≡ start b (map (deedBy g) ds)
-  start-map ds = machine-map (a .fresh ∷ []) before ds ∙ ap (λ (x : R′). machine b (x ∷ []) before (map (deedBy g) ds)) (c .freshes)
+  pub start-map : (ds : List (Deed S)) → mapSaid e (start a ds) ≡ start b (map (mapDeed g) ds)
+  start-map ds = machine-map (a .fresh ∷ []) before ds ∙ ap (λ (x : R′). machine b (x ∷ []) before (map (mapDeed g) ds)) (c .freshes)
