@@ -5,7 +5,7 @@
 --     below-within, below-stays               what is done to the top leaves what stands below it
 --     below-inside                            so do moves inside a group: what stood when it was opened stands below its states
 --     group-gone                              an opening bracket, moves inside its group and its closing bracket leave the stack as it was
---     group-over                              so what comes behind a group goes as if it had not been there
+--     group-over                              so what comes behind a group that is not refused goes as if it had not been there
 --     refused-all, all-append                 behind a refusal nothing is done; moves in two parts
 -- Assumes nothing.
 use mathlib.Core.Path.{_≡_, refl, sym, ap, subst, _∙_}
@@ -17,7 +17,7 @@ use borrow.Author.Tests.{eqb-true, eqb-false, eq-eqb}
 use lib.ListN.{length}
 use lib.Dec.{eqb}
 use Rattle.answers.specs.declared.Why.{Why}
-use Rattle.answers.specs.declared.Why.the-variants.{NoState, TooDeep}
+use Rattle.answers.specs.declared.Why.the-variants.{TooDeep}
 use Rattle.answers.specs.declared.Refusal.{Refusal}
 use Rattle.answers.specs.Answers.{refusal, Found, found, refused}
 use Rattle.machine.specs.Stack.{stackLimit, Fate, becomes, fails, Move, opens, closes, within, stays, stops, topped, moved}

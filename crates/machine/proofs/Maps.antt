@@ -19,7 +19,7 @@ use Rattle.rooms.specs.Streams.{Stream, end, each}
 use Rattle.units.specs.declared.Run.{Run}
 use Rattle.units.specs.declared.Gave.{Gave}
 use Rattle.units.specs.Units.{before, values}
-use Rattle.machine.specs.Stack.{Move, stackLimit, moved, stackOf}
+use Rattle.machine.specs.Stack.{stackLimit, moved, stackOf}
 use Rattle.machine.specs.Moves.{next, movedFrom}
 use Rattle.machine.specs.Machine.{States, Deed, opens, closes, sets, says, unit, refuses, parts, stops}
 use Rattle.machine.specs.Machine.{ended, gave, textsOf, writtenAll, _▸▸_, onward, settle, moveOf, skipOf, spoken, said, machine, start}

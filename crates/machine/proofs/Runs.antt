@@ -2,8 +2,9 @@
 --     textsOfRun        the texts said at each token of a run, and at what ends it
 --     texts-run         joined they are `runText`, if the numbers fit their words
 --     Elsewhere         what may follow a run: the end, or a token that is no `u` token
---     machine-units     the machine over a run that has come so far: the texts of the top state, then what follows, as with no run under way
---     machine-run       both: over a whole run the machine says texts which joined are `runText`, and then what follows says
+--     front-append      items in front of a stream, in two parts
+--     machine-units     the machine over a run that has come so far: those texts, in the top state, then what follows, no run under way
+--     machine-run       the machine over a whole run: texts, which joined are `runText`, in the top state, then what follows
 -- Assumes nothing.
 use mathlib.Core.Path.{_≡_, refl, sym, ap, _∙_}
 use mathlib.Core.List.{List, [], _∷_, _++_, map, flatten, append-nil, append-assoc}
@@ -13,15 +14,14 @@ use lib.Dec.{ltb}
 use Rattle.answers.specs.declared.Refusal.{Refusal}
 use Rattle.rooms.specs.Streams.{Stream, end}
 use Rattle.tokens.specs.declared.Property.{Property}
-use Rattle.utf8.specs.Utf8.{utf8, written}
 use Rattle.utf8.proofs.Utf8.{written-scalar}
 use Rattle.units.specs.declared.Run.{Run}
 use Rattle.units.specs.declared.Gave.{Gave}
 use Rattle.units.specs.Units.{before, step, values, flushed, utf8All, runText}
 use Rattle.units.proofs.Units.{Numbers32, Scalars, walk, utf8All-append, text-walk, values-scalars}
-use Rattle.machine.specs.Stack.{moved, stackOf}
+use Rattle.machine.specs.Stack.{moved}
 use Rattle.machine.specs.Machine.{States, Deed, opens, closes, sets, says, unit, refuses, parts, stops}
-use Rattle.machine.specs.Machine.{ended, gave, textsOf, writtenAll, _▸▸_, onward, moveOf, skipOf, spoken, said, machine}
+use Rattle.machine.specs.Machine.{ended, gave, writtenAll, _▸▸_, spoken, said, machine}
 
 -- ---- the texts of a run
 
@@ -62,7 +62,7 @@ texts-run skip ns h = texts-walk skip before ns h ∙ text-walk skip ns
 
 -- ---- the machine over a run
 
-front-append : {F E : Type 0} (a b : List E) (s : Stream F E) → (a ++ b) ▸▸ s ≡ a ▸▸ (b ▸▸ s)
+pub front-append : {F E : Type 0} (a b : List E) (s : Stream F E) → (a ++ b) ▸▸ s ≡ a ▸▸ (b ▸▸ s)
 unfolding _▸▸_
 front-append [] b s = refl
 front-append (x ∷ a) b s = rw (front-append a b s)
