@@ -9,7 +9,7 @@ use Rattle.blocks.proofs.append.Reads as reads
 use Rattle.blocks.proofs.append.Lts as lts
 use Rattle.answers.proofs.Refusal.of.Reads as of-reads
 use Rattle.blocks.proofs.capacity.Reads as capacity-reads
-use Rattle.blocks.proofs.copy.Reads as copy-reads
+use Rattle.blocks.proofs.copy.copy.Reads as copy-reads
 
 capacity-requires : tie.Need-capacity-requires
 capacity-requires c κs = search needs
