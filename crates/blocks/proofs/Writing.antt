@@ -1,6 +1,5 @@
 -- The code's steps, one law for each way through it: what its tests say, what its callees promise.
 --     cap-..                        how much of a text room counts
---     copy-more, copy-end           a copy, byte by byte
 --     twice, joins-.., joined       whether text of a style joins the last block
 --     start-.., append-.., add-..   what the code answers is what laying says
 --     still-..                      and what it asks holds again
@@ -9,11 +8,10 @@ use mathlib.Core.Path.{_≡_, refl, sym, _∙_}
 use mathlib.Core.List.{List, [], _∷_, _++_}
 use mathlib.Core.Bool.{Bool, true, false, cond, not, true≢false}
 use Prim.Native.Nat.{ℕ, zero, suc, _+_, _-_, _<_, _≤_}
-use native.Mathlib.Numerals.{add-one}
 use native.Mathlib.Omega.{arith}
 use borrow.Author.Tests.{lt-ltb, le-ltb, ltb-true, ltb-false, not-true, not-false}
-use lib.ListN.{length, set, getD}
-use lib.Seq.{sets, sets-eq, paste, paste-suc, take-length}
+use lib.ListN.{length}
+use lib.Seq.{sets}
 use lib.Dec.{ltb}
 use Rattle.answers.specs.declared.Refusal.{Refusal}
 use Rattle.answers.specs.declared.Why.the-variants.{BlockRoom, TextRoom}
@@ -37,15 +35,6 @@ cap-le n = go (ltb n 2147483647) refl
     go : (b : Bool) → ltb n 2147483647 ≡ b → (cond b n 2147483647 ≤ n) × (cond b n 2147483647 ≤ 2147483647)
     go true e = let h : n < 2147483647 = ltb-true n 2147483647 e in (omega arith, omega arith)
     go false e = let h : 2147483647 ≤ n = ltb-false n 2147483647 e in (omega arith, omega arith)
-
-module _ (d : List ℕ) (at : ℕ) (s l : List ℕ) (i : ℕ) where
-  pub copy-more : at + i < length d → i < length s → l ≡ paste d at s i → set l (at + i) (getD s i 0) ≡ paste d at s (i + 1)
-  copy-more h g e = rw (add-one, e) (paste-suc d at s i 0 h g)
-
-  pub copy-end : at + length s ≤ length d → i ≤ length s → length s ≤ i → l ≡ paste d at s i → l ≡ sets d at s
-  copy-end k h g e =
-      let q : i ≡ length s = omega arith in
-      e ∙ rw (q, take-length) (sym (sets-eq s d at k))
 
 pub twice : (x : Bool) → x ≡ not (not x)
 twice true = refl

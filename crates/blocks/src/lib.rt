@@ -6,8 +6,10 @@
 //   add      both
 //
 // A block's record is written when it starts, and its length grows with its text: both rooms hold at any time what has been laid.
+mod copy;
 mod record;
 
+use crate::copy::copy;
 use crate::record::put;
 use crate::record::style_in;
 use answers::Refusal;
@@ -17,9 +19,8 @@ use styles::same_style;
 ghost use mathlib.Core.Path.{_≡_};
 ghost use mathlib.Core.Bool.{not};
 ghost use mathlib.Core.List.{List};
-ghost use Prim.Native.Nat.{ℕ, _+_, _≤_, _<_};
+ghost use Prim.Native.Nat.{ℕ, _≤_, _<_};
 ghost use lib.ListN.{length};
-ghost use lib.Seq.{sets};
 ghost use Rattle.rooms.specs.Rooms.{capacity as capacityOf};
 ghost use Rattle.blocks.specs.Pages.{blockWords, textCapacity, starts};
 ghost use Rattle.blocks.specs.Laying.{told, blank as blankPage, lastIn, startOf, appendOf, addOf, ReadyBlocks, Ready, Still, Begun};
@@ -95,17 +96,6 @@ fn capacity(n: usize) -> usize
         return n;
     }
     2147483647
-}
-
-fn copy(bytes: &[u8], text: &mut [u8], at: usize)
-    requires { ⌜ at + length (now bytes) ≤ length (now text) ⌝ }
-    ensures { λ _. ⌜ now (text .exit) ≡ sets (now (text .entry)) at (now (bytes .entry)) ⌝ }
-{
-    let mut i = 0;
-    while i < bytes.len() {
-        text[at + i] = bytes[i];
-        i += 1;
-    }
 }
 
 // Text behind the text, in the last block.

@@ -1,15 +1,15 @@
--- `copy` meets its contract: byte by byte.
+-- `each` meets its contract: byte by byte.
 use borrow.Author.Needs.{needs}
 use Prim.Native.Nat.{_≤_, _-_}
 use mathlib.Core.Path.{_≡_}
 use native.Mathlib.Omega.{arith}
 use lib.ListN.{length, length-set}
 use lib.Seq.{paste, paste-zero}
-use Rattle.blocks.proofs.Writing.{copy-more, copy-end}
-use Rattle.blocks.proofs.copy.Statement.{statement}
-use Rattle.blocks.proofs.copy.Tie as tie
-use Rattle.blocks.proofs.copy.Reads as reads
-use Rattle.blocks.proofs.copy.Lts as lts
+use Rattle.blocks.proofs.Copying.{byte-more, copy-end}
+use Rattle.blocks.proofs.copy.each.Statement.{statement}
+use Rattle.blocks.proofs.copy.each.Tie as tie
+use Rattle.blocks.proofs.copy.each.Reads as reads
+use Rattle.blocks.proofs.copy.each.Lts as lts
 
 abbrev Inv-loop : tie.InvT-loop
 Inv-loop bytes text₀ at i₀ text i = (i ≤ length bytes) × (length text ≡ length text₀) × (text ≡ paste text₀ at bytes i)
@@ -36,16 +36,16 @@ loop-less : tie.Need-loop-less Inv-loop μ-loop
 loop-less c = omega arith
 
 loop-again : tie.Need-loop-again Inv-loop μ-loop
-loop-again c = (omega arith, simp length-set (c .before .before .loop .inv .1), copy-more _ _ _ _ _ (omega arith) (omega arith) (c .before .before .loop .inv .2))
+loop-again c = (omega arith, simp length-set (c .before .before .loop .inv .1), byte-more _ _ _ (c .before .before .before .pre) _ (omega arith) (c .before .before .loop .inv .2))
 
 same-length : tie.Need-same-length Inv-loop μ-loop
 same-length c = c .before .loop .inv .1
 
 returns : tie.Need-returns Inv-loop μ-loop
-returns c = copy-end _ _ _ _ _ (c .before .before .pre) (c .before .loop .inv .0) (omega arith) (c .before .loop .inv .2)
+returns c = copy-end _ _ _ (c .before .before .pre) (c .before .loop .i) (omega arith) (c .before .loop .inv .2)
 
-pub copy-spec : {M : Type 1} → statement M
-copy-spec =
+pub each-spec : {M : Type 1} → statement M
+each-spec =
     tie.close
     (tie.spec
     Inv-loop
