@@ -1,0 +1,68 @@
+-- `char_length` meets its contract: the first byte says what is owed, and that is there or not.
+use mathlib.Core.Path.{sym, _∙_}
+use native.Mathlib.Omega.{arith}
+use borrow.Author.Needs.{needs}
+use borrow.Author.Tests.{not-false}
+use lib.ListN.{length, length-drop}
+use Prim.Native.Nat.{_+_, _-_}
+use Rattle.wellformed.proofs.Lengths.{owed-few, char-other, char-short, char-all}
+use Rattle.wellformed.proofs.char_length.Statement.{statement}
+use Rattle.wellformed.proofs.char_length.Tie as tie
+use Rattle.wellformed.proofs.char_length.Reads as reads
+use Rattle.wellformed.proofs.char_length.Lts as lts
+use Rattle.wellformed.proofs.is_first.Reads as is-first-reads
+use Rattle.wellformed.proofs.is_paid.Reads as is-paid-reads
+use Rattle.wellformed.proofs.owed_behind.Reads as owed-behind-reads
+
+shared-slice-read-b : tie.Need-shared-slice-read-b
+shared-slice-read-b c = search needs
+
+is-first-requires : tie.Need-is-first-requires
+is-first-requires c κs = search needs
+
+returns : tie.Need-returns
+returns c = char-other (c .before .before .before .before .args .s .now) (c .before .before .before .before .args .at) (c .before .before .before .before .pre) _ (c .before .is-first .ensures) (c .if1 .taken)
+
+owed-behind-requires : tie.Need-owed-behind-requires
+owed-behind-requires c κs = sym (c .before .is-first .ensures) ∙ not-false _ (c .if1 .left)
+
+add-next : tie.Need-add-next
+add-next c = search needs
+
+sub-is-paid : tie.Need-sub-is-paid
+sub-is-paid c = search needs
+
+part-is-paid-start : tie.Need-part-is-paid-start
+part-is-paid-start c = search needs
+
+part-is-paid-end : tie.Need-part-is-paid-end
+part-is-paid-end c = search needs
+
+is-paid-requires : tie.Need-is-paid-requires
+is-paid-requires c κs = owed-few _ _ (c .before .owed-behind .ensures)
+
+add-result : tie.Need-add-result
+add-result c = let f = owed-few _ _ (c .before .before .before .before .owed-behind .ensures) in omega (arith, f)
+
+returns-2 : tie.Need-returns-2
+returns-2 c = char-all (c .before .before .before .before .before .before .before .before .before .args .s .now) (c .before .before .before .before .before .before .before .before .before .args .at) (c .before .before .before .before .before .before .before .before .before .pre) _ (c .before .before .before .before .before .before .is-first .ensures) (c .before .before .before .before .before .if1 .left) _ (c .before .before .before .before .owed-behind .ensures) _ (length (c .before .before .before .before .before .before .before .before .before .args .s .now) - (c .before .before .before .before .before .before .before .before .before .args .at + 1)) (c .before .before .is-paid .ensures) (simp length-drop (omega arith)) (c .before .if2 .taken)
+
+returns-3 : tie.Need-returns-3
+returns-3 c = char-short (c .before .before .before .before .before .before .before .before .args .s .now) (c .before .before .before .before .before .before .before .before .args .at) (c .before .before .before .before .before .before .before .before .pre) _ (c .before .before .before .before .before .is-first .ensures) (c .before .before .before .before .if1 .left) _ (c .before .before .before .owed-behind .ensures) _ (length (c .before .before .before .before .before .before .before .before .args .s .now) - (c .before .before .before .before .before .before .before .before .args .at + 1)) (c .before .is-paid .ensures) (simp length-drop (omega arith)) (c .if2 .left)
+
+pub char-length-spec : {M : Type 1} → statement M
+char-length-spec =
+    tie.close
+    (tie.spec
+    shared-slice-read-b
+    is-first-requires
+    returns
+    owed-behind-requires
+    add-next
+    sub-is-paid
+    part-is-paid-start
+    part-is-paid-end
+    is-paid-requires
+    add-result
+    returns-2
+    returns-3)
