@@ -1,6 +1,7 @@
 -- Eight bytes as one number: what stands before the first byte above 127.
 --     From, from-start, -room, -more, -all   the number, built from the last byte on
---     lead-right                             the zeros below the lowest high bit, eight to a byte
+--     highs-right                            its high bits, by a mask
+--     lead-right, lead-all                   the zeros below the lowest of them, eight to a byte; where none is set
 -- Assumes nothing.
 use mathlib.Core.Path.{_≡_, refl, sym, ap, ap₂, _∙_}
 use mathlib.Core.List.{List, [], _∷_}
@@ -14,7 +15,11 @@ use lib.ListN.{length, getD, drop, length-drop, drop-of-length-le}
 use lib.Seq.{drop-cons, getD-drop}
 use borrow.Author.Tests.{ltb-true, ltb-false}
 use Rattle.bytes.specs.Bytes.{isHigh, lead}
-use Rattle.wellformed.specs.Ascii.{packed, isLow}
+use Rattle.wellformed.specs.Ascii.{packed, highs}
+
+-- UTF8-1, of a byte
+abbrev pub isLow : ℕ → Bool
+isLow b = not (isHigh b)
 
 -- each is a byte
 abbrev pub Bytes : List ℕ → Type 0
@@ -71,9 +76,9 @@ from-all {s} {w} {i} f h =
 -- ---- the high bits
 
 -- 128 for each byte
-unfoldable highs : List ℕ → ℕ
-highs [] = zero
-highs (b ∷ s) = highs s * 256 + 128
+unfoldable mask : List ℕ → ℕ
+mask [] = zero
+mask (b ∷ s) = mask s * 256 + 128
 
 -- a byte's high bit
 high-bit : (b : ℕ) → b < 256 → bitAnd b 128 ≡ cond (isHigh b) 128 zero
@@ -82,6 +87,13 @@ high-bit b h = and-high b 1 7 ∙ go (isHigh b) refl
     go : (t : Bool) → isHigh b ≡ t → b / 128 % 2 * 128 ≡ cond t 128 zero
     go true e = let l : 127 < b = ltb-true 127 b e in omega arith
     go false e = let l : b ≤ 127 = ltb-false 127 b e in omega arith
+
+masked : (s : List ℕ) → Bytes s → bitAnd (packed s) (mask s) ≡ highs s
+unfolding packed mask highs
+masked [] y = refl
+masked (b ∷ s) y =
+    and-block 8 (packed s) (mask s) b 128 (y zero) (omega arith)
+    ∙ ap₂ (λ (m n : ℕ). m * 256 + n) (masked s (λ i. y (suc i))) (high-bit b (y zero))
 
 -- i more, one by one
 abbrev up : ℕ → ℕ → ℕ
@@ -117,16 +129,10 @@ abbrev places : List ℕ → ℕ
 places [] = zero
 places (b ∷ s) = up 8 (places s)
 
-tz-lead : (s : List ℕ) → Bytes s → trailingZeros (places s) (bitAnd (packed s) (highs s)) / 8 ≡ lead isLow s
-unfolding packed highs lead trailingZeros
-tz-lead [] y = refl
-tz-lead (b ∷ s) y =
-    let c : bitAnd (packed s * 256 + b) (highs s * 256 + 128) ≡ bitAnd (packed s) (highs s) * 256 + cond (isHigh b) 128 zero =
-    and-block 8 (packed s) (highs s) b 128 (y zero) (omega arith)
-    ∙ ap (λ (m : ℕ). bitAnd (packed s) (highs s) * 256 + m) (high-bit b (y zero)) in
-    ap (λ (m : ℕ). trailingZeros (up 8 (places s)) m / 8) c
-    ∙ tz-byte (isHigh b) (places s) (bitAnd (packed s) (highs s))
-    ∙ ap (λ (m : ℕ). cond (isLow b) (suc m) zero) (tz-lead s (λ i. y (suc i)))
+tz-lead : (s : List ℕ) → trailingZeros (places s) (highs s) / 8 ≡ lead isLow s
+unfolding highs lead trailingZeros
+tz-lead [] = refl
+tz-lead (b ∷ s) = tz-byte (isHigh b) (places s) (highs s) ∙ ap (λ (m : ℕ). cond (isLow b) (suc m) zero) (tz-lead s)
 
 at-eight : (P : List ℕ → Type 0) → ((a b c d e f g h : ℕ) → P (a ∷ b ∷ c ∷ d ∷ e ∷ f ∷ g ∷ h ∷ []))
     → (s : List ℕ) → length s ≡ 8 → P s
@@ -141,11 +147,18 @@ at-eight P p (a ∷ b ∷ c ∷ d ∷ e ∷ f ∷ []) q = absurd (omega arith)
 at-eight P p (a ∷ b ∷ c ∷ d ∷ e ∷ f ∷ g ∷ []) q = absurd (omega arith)
 at-eight P p (a ∷ b ∷ c ∷ d ∷ e ∷ f ∷ g ∷ h ∷ i ∷ s) q = absurd (omega arith)
 
-pub lead-right : (s : List ℕ) → length s ≡ 8 → Bytes s → (w : ℕ) → w ≡ packed s
-    → trailingZeros 64 (bitAnd w 9259542123273814144) / 8 ≡ lead isLow s
-unfolding highs
-lead-right s n y w q =
-    ap₂ (λ (d m : ℕ). trailingZeros d m / 8)
-    (at-eight (λ (l : List ℕ). 64 ≡ places l) (λ a b c d e f g h. refl) s n)
-    (ap₂ bitAnd q (at-eight (λ (l : List ℕ). 9259542123273814144 ≡ highs l) (λ a b c d e f g h. refl) s n))
-    ∙ tz-lead s y
+module _ (s : List ℕ) (n : length s ≡ 8) where
+  pub highs-right : Bytes s → (w : ℕ) → w ≡ packed s → bitAnd w 9259542123273814144 ≡ highs s
+  unfolding mask
+  highs-right y w q =
+      ap₂ bitAnd q (at-eight (λ (l : List ℕ). 9259542123273814144 ≡ mask l) (λ a b c d e f g h. refl) s n)
+      ∙ masked s y
+
+  pub lead-right : (bits : ℕ) → bits ≡ highs s → trailingZeros 64 bits / 8 ≡ lead isLow s
+  lead-right bits q =
+      ap₂ (λ (d m : ℕ). trailingZeros d m / 8) (at-eight (λ (l : List ℕ). 64 ≡ places l) (λ a b c d e f g h. refl) s n) q
+      ∙ tz-lead s
+
+  pub lead-all : 0 ≡ highs s → 8 ≡ lead isLow s
+  unfolding trailingZeros
+  lead-all q = lead-right 0 q

@@ -2,15 +2,16 @@
 --     passed-none, passed-on      nothing; one stretch behind the other
 --     passed-more, as-part        bytes that are ASCII; a block as the code takes it
 --     passed-low                  one such byte
---     passed-lead, passed-eight   those before the first above 127 of eight; all eight
+--     passed-first, passed-eight  those of eight before the first above 127; all eight
 --     passed-char                 a character
 --     passed-end, no-char         at the end all was UTF-8; where no character stands it is not
 -- Assumes nothing.
 use mathlib.Core.Path.{_≡_, refl, sym, ap, _∙_}
 use mathlib.Core.List.{List, [], _∷_, _++_}
 use mathlib.Core.Bool.{Bool, true, false, cond, not}
-use Prim.Native.Nat.{ℕ, zero, suc, _+_, _-_, _≤_, _<_}
+use Prim.Native.Nat.{ℕ, zero, suc, _+_, _-_, _/_, _≤_, _<_}
 use native.Mathlib.Omega.{arith}
+use lib.Count.{trailingZeros}
 use lib.ListN.{length, getD, take, drop, length-take, length-drop, drop-of-length-le, take-append-drop}
 use lib.Seq.{drop-cons, drop-drop}
 use borrow.Author.Tests.{le-ltb}
@@ -18,7 +19,8 @@ use Rattle.bytes.specs.Bytes.{any, isHigh, lead}
 use Rattle.bytes.proofs.Runs.{lead-length}
 use Rattle.wellformed.specs.WellFormed.{isUtf8}
 use Rattle.wellformed.specs.Owed.{charLength}
-use Rattle.wellformed.specs.Ascii.{isLow, Passed}
+use Rattle.wellformed.specs.Ascii.{highs, Passed}
+use Rattle.wellformed.proofs.Eights.{isLow, lead-right, lead-all}
 use Rattle.wellformed.proofs.Lengths.{utf8-none, utf8-char, char-within}
 use Rattle.wellformed.proofs.WellFormed.{utf8-empty, utf8-ascii, utf8-join}
 
@@ -73,24 +75,26 @@ lead-low (suc n) (b ∷ s) = go (isHigh b) refl (lead-low n s)
     go true q ih = refl
     go false q ih = rw q ih
 
-module _ (s : List ℕ) {from at : ℕ} (p : Passed s from at) (h : 8 ≤ length s - at) (k : ℕ) (e : k ≡ lead isLow (take (at + 8 - at) (drop at s))) where
-  of-eight : k ≡ lead isLow (take 8 (drop at s))
-  of-eight =
-      let z : at + 8 - at ≡ 8 = omega arith in
-      rw z at e
+module _ (s : List ℕ) {from at : ℕ} (p : Passed s from at) (h : 8 ≤ length s - at) where
+  passed-lead : (k : ℕ) → k ≡ lead isLow (take 8 (drop at s)) → k ≤ 8 → Passed s from (at + k)
+  passed-lead k e l = passed-more s p k (omega (arith, l, h)) (rw e (lead-low 8 (drop at s)))
 
-  to-eight : k ≤ 8
-  to-eight =
-      let l : lead isLow (take 8 (drop at s)) ≤ length (take 8 (drop at s)) = lead-length isLow (take 8 (drop at s)) in
-      omega (arith, of-eight, (simp length-take at l))
+  module _ (bits : ℕ) (e : bits ≡ highs (take (at + 8 - at) (drop at s))) where
+    of-eight : bits ≡ highs (take 8 (drop at s))
+    of-eight =
+        let z : at + 8 - at ≡ 8 = omega arith in
+        rw z at e
 
-  pub passed-lead : Passed s from (at + k)
-  passed-lead = passed-more s p k (omega (arith, to-eight, h)) (rw of-eight (lead-low 8 (drop at s)))
+    eight : length (take 8 (drop at s)) ≡ 8
+    eight = simp (length-take, length-drop) (omega (arith, h))
 
-  pub passed-eight : 8 ≤ k → Passed s from (at + 8)
-  passed-eight l =
-      let z : k ≡ 8 = omega (arith, to-eight, l) in
-      rw z at passed-lead
+    pub passed-first : (k : ℕ) → k ≡ trailingZeros 64 bits / 8 → Passed s from (at + k)
+    passed-first k q =
+        let f : k ≡ lead isLow (take 8 (drop at s)) = q ∙ lead-right (take 8 (drop at s)) eight bits of-eight in
+        passed-lead k f (omega (arith, f, eight, lead-length isLow (take 8 (drop at s))))
+
+    pub passed-eight : bits ≡ 0 → Passed s from (at + 8)
+    passed-eight z = passed-lead 8 (lead-all (take 8 (drop at s)) eight (sym z ∙ of-eight)) (omega arith)
 
 module _ (s : List ℕ) (i : ℕ) (p : Passed s 0 i) where
   pub passed-end : length s ≤ i → true ≡ isUtf8 s

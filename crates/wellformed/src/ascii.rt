@@ -6,10 +6,10 @@
 // Both say only that what they pass over is UTF-8 by itself.
 use bytes::has_high;
 ghost use mathlib.Core.Path.{_≡_};
-ghost use Prim.Native.Nat.{_≤_};
+ghost use Prim.Native.Nat.{_/_, _≤_};
+ghost use lib.Count.{trailingZeros};
 ghost use lib.ListN.{length};
-ghost use Rattle.bytes.specs.Bytes.{lead};
-ghost use Rattle.wellformed.specs.Ascii.{packed, isLow, Passed};
+ghost use Rattle.wellformed.specs.Ascii.{packed, highs, Passed};
 
 // How many bytes a block has that is looked at as a whole.
 const BLOCK: usize = 32;
@@ -28,13 +28,19 @@ fn word_of(s: &[u8]) -> u64
     w
 }
 
-// How many of eight bytes stand before the first above 127: the zeros below the lowest high bit, eight to a byte.
-fn ascii_lead(s: &[u8]) -> usize
+// The high bit of each of eight bytes, in its place.
+fn highs_of(s: &[u8]) -> u64
     requires { ⌜ length (now s) ≡ 8 ⌝ }
-    ensures { λ r. ⌜ r ≡ lead isLow (now (s .entry)) ⌝ }
+    ensures { λ r. ⌜ r ≡ highs (now (s .entry)) ⌝ }
 {
-    let highs = word_of(s) & 0x8080808080808080;
-    (u64::trailing_zeros(highs) / 8) as usize
+    word_of(s) & 0x8080808080808080
+}
+
+// The byte of the lowest bit: eight zeros for each byte before it.
+fn first_byte(bits: u64) -> usize
+    ensures { λ r. ⌜ r ≡ trailingZeros 64 bits / 8 ⌝ }
+{
+    (u64::trailing_zeros(bits) / 8) as usize
 }
 
 // The place, at or after `from`, behind the whole blocks of ASCII that stand there.
@@ -77,9 +83,9 @@ pub fn ascii_eights(s: &[u8], from: usize) -> usize
     let mut at = from;
     while 8 <= s.len() - at {
         let next = at + 8;
-        let k = ascii_lead(&s[at..next]);
-        if k < 8 {
-            return at + k;
+        let bits = highs_of(&s[at..next]);
+        if bits != 0 {
+            return at + first_byte(bits);
         }
         at = next;
     }

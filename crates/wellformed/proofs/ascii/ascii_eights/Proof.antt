@@ -4,13 +4,14 @@ use borrow.Author.Needs.{needs}
 use Prim.Native.Nat.{_-_}
 use lib.ListN.{length, length-take, length-drop}
 use Rattle.wellformed.specs.Ascii.{Passed}
-use Rattle.wellformed.proofs.Passing.{passed-none, passed-on, passed-lead, passed-eight}
+use Rattle.wellformed.proofs.Passing.{passed-none, passed-on, passed-first, passed-eight}
 use Rattle.wellformed.proofs.ascii.ascii_eights.Statement.{statement}
 use Rattle.wellformed.proofs.ascii.ascii_eights.Tie as tie
 use Rattle.wellformed.proofs.ascii.ascii_eights.Reads as reads
 use Rattle.wellformed.proofs.ascii.ascii_eights.Lts as lts
 use Rattle.wellformed.proofs.ascii.ascii_bytes.Reads as ascii-bytes-reads
-use Rattle.wellformed.proofs.ascii.ascii_lead.Reads as ascii-lead-reads
+use Rattle.wellformed.proofs.ascii.first_byte.Reads as first-byte-reads
+use Rattle.wellformed.proofs.ascii.highs_of.Reads as highs-of-reads
 
 abbrev Inv-loop : tie.InvT-loop
 Inv-loop s from at₀ at = Passed s from at
@@ -27,29 +28,32 @@ sub-loop c = let w = c .loop .inv .high in omega arith
 add-next : tie.Need-add-next Inv-loop μ-loop
 add-next c = let w = c .before .loop .inv .high in let f = c .before .before .before .good in omega arith
 
-sub-ascii-lead : tie.Need-sub-ascii-lead Inv-loop μ-loop
-sub-ascii-lead c = omega arith
+sub-highs-of : tie.Need-sub-highs-of Inv-loop μ-loop
+sub-highs-of c = omega arith
 
-part-ascii-lead-start : tie.Need-part-ascii-lead-start Inv-loop μ-loop
-part-ascii-lead-start c = let w = c .before .loop .inv .high in omega arith
+part-highs-of-start : tie.Need-part-highs-of-start Inv-loop μ-loop
+part-highs-of-start c = let w = c .before .loop .inv .high in omega arith
 
-part-ascii-lead-end : tie.Need-part-ascii-lead-end Inv-loop μ-loop
-part-ascii-lead-end c = let w = c .before .loop .inv .high in omega arith
+part-highs-of-end : tie.Need-part-highs-of-end Inv-loop μ-loop
+part-highs-of-end c = let w = c .before .loop .inv .high in omega arith
 
-ascii-lead-requires : tie.Need-ascii-lead-requires Inv-loop μ-loop
-ascii-lead-requires c κs = simp (length-take, length-drop) (omega arith)
+highs-of-requires : tie.Need-highs-of-requires Inv-loop μ-loop
+highs-of-requires c κs = simp (length-take, length-drop) (omega arith)
+
+first-byte-requires : tie.Need-first-byte-requires Inv-loop μ-loop
+first-byte-requires c κs = search needs
 
 add-result : tie.Need-add-result Inv-loop μ-loop
-add-result c = let w = c .before .before .before .before .loop .inv .high in let f = c .before .before .before .before .before .before .good in omega arith
+add-result c = let w = passed-first _ (c .before .before .before .before .before .loop .inv) (omega arith) _ (c .before .before .highs-of .ensures) _ (c .first-byte .ensures) .high in let f = c .before .before .before .before .before .before .before .good in omega (arith, w)
 
 returns : tie.Need-returns Inv-loop μ-loop
-returns c = passed-lead _ (c .before .before .before .before .loop .inv) (omega arith) _ (c .before .ascii-lead .ensures)
+returns c = passed-first _ (c .before .before .before .before .before .loop .inv) (omega arith) _ (c .before .before .highs-of .ensures) _ (c .first-byte .ensures)
 
 loop-less : tie.Need-loop-less Inv-loop μ-loop
 loop-less c = let w = c .before .before .before .before .loop .inv .high in omega arith
 
 loop-again : tie.Need-loop-again Inv-loop μ-loop
-loop-again c = passed-eight _ (c .before .before .before .before .loop .inv) (omega arith) _ (c .before .ascii-lead .ensures) (omega arith)
+loop-again c = passed-eight _ (c .before .before .before .before .loop .inv) (omega arith) _ (c .before .highs-of .ensures) (omega arith)
 
 ascii-bytes-requires : tie.Need-ascii-bytes-requires Inv-loop μ-loop
 ascii-bytes-requires c κs = c .before .loop .inv .high
@@ -66,10 +70,11 @@ ascii-eights-spec =
     loop-holds
     sub-loop
     add-next
-    sub-ascii-lead
-    part-ascii-lead-start
-    part-ascii-lead-end
-    ascii-lead-requires
+    sub-highs-of
+    part-highs-of-start
+    part-highs-of-end
+    highs-of-requires
+    first-byte-requires
     add-result
     returns
     loop-less
