@@ -2,6 +2,7 @@
 //
 //   check          the answer that `stored::read_list` would give with ample rooms
 //   check_blocks   the same of a list's blocks, behind their count
+//   block_at       one block
 //
 // `check` is total.
 use crate::entry::Entry;

@@ -100,7 +100,8 @@ pays-2 n low high [] e h t p = absurd (omega arith)
 pays-2 n low high (a ∷ []) e h t p = absurd (omega arith)
 pays-2 n low high (a ∷ b ∷ s) e h t p = rw (e, p) (ap (λ (u : Bool). within (low to high) a && u) (and-true (within tail b)))
 
-pub pays-3 : (n low high : ℕ) (s : List ℕ) → n ≡ 3 → n ≤ length s → (t u : Bool) → t ≡ within tail (getD s 1 0) → u ≡ within tail (getD s 2 0)
+pub pays-3 : (n low high : ℕ) (s : List ℕ) → n ≡ 3 → n ≤ length s → (t u : Bool) → t ≡ within tail (getD s 1 0)
+    → u ≡ within tail (getD s 2 0)
     → within (low to high) (getD s 0 0) && (t && u) ≡ pays (owed n low high) s
 unfolding owed pays
 pays-3 n low high [] e h t u p q = absurd (omega arith)

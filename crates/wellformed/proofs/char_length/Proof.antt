@@ -8,11 +8,6 @@ use Prim.Native.Nat.{_+_, _-_}
 use Rattle.wellformed.proofs.Lengths.{owed-few, char-other, char-short, char-all}
 use Rattle.wellformed.proofs.char_length.Statement.{statement}
 use Rattle.wellformed.proofs.char_length.Tie as tie
-use Rattle.wellformed.proofs.char_length.Reads as reads
-use Rattle.wellformed.proofs.char_length.Lts as lts
-use Rattle.wellformed.proofs.is_first.Reads as is-first-reads
-use Rattle.wellformed.proofs.is_paid.Reads as is-paid-reads
-use Rattle.wellformed.proofs.owed_behind.Reads as owed-behind-reads
 
 shared-slice-read-b : tie.Need-shared-slice-read-b
 shared-slice-read-b c = search needs
@@ -21,7 +16,9 @@ is-first-requires : tie.Need-is-first-requires
 is-first-requires c κs = search needs
 
 returns : tie.Need-returns
-returns c = char-other (c .before .before .before .before .args .s .now) (c .before .before .before .before .args .at) (c .before .before .before .before .pre) _ (c .before .is-first .ensures) (c .if1 .taken)
+returns c =
+    let start = c .before .before .before .before in
+    char-other (start .args .s .now) (start .args .at) (start .pre) _ (c .before .is-first .ensures) (c .if1 .taken)
 
 owed-behind-requires : tie.Need-owed-behind-requires
 owed-behind-requires c κs = sym (c .before .is-first .ensures) ∙ not-false _ (c .if1 .left)
@@ -45,10 +42,24 @@ add-result : tie.Need-add-result
 add-result c = let f = owed-few _ _ (c .before .before .before .before .owed-behind .ensures) in omega (arith, f)
 
 returns-2 : tie.Need-returns-2
-returns-2 c = char-all (c .before .before .before .before .before .before .before .before .before .args .s .now) (c .before .before .before .before .before .before .before .before .before .args .at) (c .before .before .before .before .before .before .before .before .before .pre) _ (c .before .before .before .before .before .before .is-first .ensures) (c .before .before .before .before .before .if1 .left) _ (c .before .before .before .before .owed-behind .ensures) _ (length (c .before .before .before .before .before .before .before .before .before .args .s .now) - (c .before .before .before .before .before .before .before .before .before .args .at + 1)) (c .before .before .is-paid .ensures) (simp length-drop (omega arith)) (c .before .if2 .taken)
+returns-2 c =
+    let at-paid = c .before .before in
+    let at-owed = at-paid .before .before in
+    let at-first = at-owed .before .before in
+    let start = at-first .before .before .before in
+    char-all (start .args .s .now) (start .args .at) (start .pre) _ (at-first .is-first .ensures) (at-owed .before .if1 .left) _
+    (at-owed .owed-behind .ensures) _ (length (start .args .s .now) - (start .args .at + 1)) (at-paid .is-paid .ensures)
+    (simp length-drop (omega arith)) (c .before .if2 .taken)
 
 returns-3 : tie.Need-returns-3
-returns-3 c = char-short (c .before .before .before .before .before .before .before .before .args .s .now) (c .before .before .before .before .before .before .before .before .args .at) (c .before .before .before .before .before .before .before .before .pre) _ (c .before .before .before .before .before .is-first .ensures) (c .before .before .before .before .if1 .left) _ (c .before .before .before .owed-behind .ensures) _ (length (c .before .before .before .before .before .before .before .before .args .s .now) - (c .before .before .before .before .before .before .before .before .args .at + 1)) (c .before .is-paid .ensures) (simp length-drop (omega arith)) (c .if2 .left)
+returns-3 c =
+    let at-paid = c .before in
+    let at-owed = at-paid .before .before in
+    let at-first = at-owed .before .before in
+    let start = at-first .before .before .before in
+    char-short (start .args .s .now) (start .args .at) (start .pre) _ (at-first .is-first .ensures) (at-owed .before .if1 .left) _
+    (at-owed .owed-behind .ensures) _ (length (start .args .s .now) - (start .args .at + 1)) (at-paid .is-paid .ensures)
+    (simp length-drop (omega arith)) (c .if2 .left)
 
 pub char-length-spec : {M : Type 1} → statement M
 char-length-spec =

@@ -4,9 +4,6 @@ use borrow.Author.Needs.{needs}
 use Rattle.wellformed.proofs.Lengths.{pays-short, pays-0, pays-1, pays-2, pays-3}
 use Rattle.wellformed.proofs.is_paid.Statement.{statement}
 use Rattle.wellformed.proofs.is_paid.Tie as tie
-use Rattle.wellformed.proofs.is_paid.Reads as reads
-use Rattle.wellformed.proofs.is_paid.Lts as lts
-use Rattle.wellformed.proofs.is_tail.Reads as is-tail-reads
 
 returns : tie.Need-returns
 returns c = pays-short _ _ _ _ (omega arith)
@@ -18,7 +15,9 @@ shared-slice-read-first : tie.Need-shared-slice-read-first
 shared-slice-read-first c = search needs
 
 returns-3 : tie.Need-returns-3
-returns-3 c = pays-1 _ _ _ (c .before .before .before .before .before .before .before .before .before .before .args .s .now) (c .if3 .taken) (omega arith)
+returns-3 c =
+    let start = c .before .before .before .before .before .before .before .before .before .before in
+    pays-1 _ _ _ (start .args .s .now) (c .if3 .taken) (omega arith)
 
 shared-slice-read-second : tie.Need-shared-slice-read-second
 shared-slice-read-second c = search needs
@@ -27,7 +26,9 @@ is-tail-requires : tie.Need-is-tail-requires
 is-tail-requires c κs = search needs
 
 returns-4 : tie.Need-returns-4
-returns-4 c = pays-2 _ _ _ (c .before .before .before .before .before .before .before .before .before .before .before .before .before .before .args .s .now) (c .before .if4 .taken) (omega arith) _ (c .is-tail .ensures)
+returns-4 c =
+    let start = c .before .before .before .before .before .before .before .before .before .before .before .before .before .before in
+    pays-2 _ _ _ (start .args .s .now) (c .before .if4 .taken) (omega arith) _ (c .is-tail .ensures)
 
 shared-slice-read-third : tie.Need-shared-slice-read-third
 shared-slice-read-third c = search needs
@@ -39,7 +40,9 @@ is-tail-requires-3 : tie.Need-is-tail-requires-3
 is-tail-requires-3 c κs = search needs
 
 returns-5 : tie.Need-returns-5
-returns-5 c = pays-3 _ _ _ (c .before .before .before .before .before .before .before .before .before .before .before .before .before .before .before .before .args .s .now) (omega arith) (omega arith) _ _ (c .before .is-tail2 .ensures) (c .is-tail3 .ensures)
+returns-5 c =
+    let start = c .before .before .before .before .before .before .before .before .before .before .before .before .before .before .before .before in
+    pays-3 _ _ _ (start .args .s .now) (omega arith) (omega arith) _ _ (c .before .is-tail2 .ensures) (c .is-tail3 .ensures)
 
 pub is-paid-spec : {M : Type 1} → statement M
 is-paid-spec =

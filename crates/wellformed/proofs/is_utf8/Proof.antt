@@ -8,11 +8,6 @@ use Rattle.wellformed.specs.Ascii.{Passed}
 use Rattle.wellformed.proofs.Passing.{passed-none, passed-on, passed-char, passed-end, no-char}
 use Rattle.wellformed.proofs.is_utf8.Statement.{statement}
 use Rattle.wellformed.proofs.is_utf8.Tie as tie
-use Rattle.wellformed.proofs.is_utf8.Reads as reads
-use Rattle.wellformed.proofs.is_utf8.Lts as lts
-use Rattle.wellformed.proofs.ascii.ascii_blocks.Reads as ascii-blocks-reads
-use Rattle.wellformed.proofs.ascii.ascii_eights.Reads as ascii-eights-reads
-use Rattle.wellformed.proofs.char_length.Reads as char-length-reads
 
 abbrev Inv-loop : tie.InvT-loop
 Inv-loop s i₀ i = Passed s 0 i
@@ -33,22 +28,48 @@ char-length-requires : tie.Need-char-length-requires Inv-loop μ-loop
 char-length-requires c κs = c .if1 .taken
 
 returns : tie.Need-returns Inv-loop μ-loop
-returns c = no-char _ _ (passed-on _ (passed-on _ (c .before .before .before .before .before .before .loop .inv) (c .before .before .before .before .ascii-blocks .ensures)) (c .before .before .before .ascii-eights .ensures)) (c .before .before .if1 .taken) _ (c .before .char-length .ensures) (c .if2 .taken)
+returns c =
+    let at-char = c .before in
+    let at-eights = at-char .before .before in
+    let at-blocks = at-eights .before in
+    let p = passed-on _ (at-blocks .before .before .loop .inv) (at-blocks .ascii-blocks .ensures) in
+    no-char _ _ (passed-on _ p (at-eights .ascii-eights .ensures)) (at-char .before .if1 .taken) _
+    (at-char .char-length .ensures) (c .if2 .taken)
 
 add-i : tie.Need-add-i Inv-loop μ-loop
-add-i c = let p = passed-char _ (c .before .before .before .ascii-eights .ensures) (c .before .before .if1 .taken) _ (c .before .char-length .ensures) (c .if2 .left) .high in let f = c .before .before .before .before .before .before .before .before .good in omega (arith, p)
+add-i c =
+    let at-char = c .before in
+    let at-eights = at-char .before .before in
+    let p = passed-char _ (at-eights .ascii-eights .ensures) (at-char .before .if1 .taken) _ (at-char .char-length .ensures)
+    (c .if2 .left) in
+    let f = at-eights .before .before .before .before .before .good in
+    omega (arith, p .high)
 
 loop-less : tie.Need-loop-less Inv-loop μ-loop
-loop-less c = let p = c .before .before .before .before .ascii-blocks .ensures .low in let q = c .before .before .before .ascii-eights .ensures .low in let z = c .if2 .left in omega (arith, p, q, z)
+loop-less c =
+    let at-eights = c .before .before .before in
+    let p = at-eights .before .ascii-blocks .ensures .low in
+    let q = at-eights .ascii-eights .ensures .low in
+    let z = c .if2 .left in
+    omega (arith, p, q, z)
 
 loop-again : tie.Need-loop-again Inv-loop μ-loop
-loop-again c = passed-char _ (passed-on _ (passed-on _ (c .before .before .before .before .before .before .loop .inv) (c .before .before .before .before .ascii-blocks .ensures)) (c .before .before .before .ascii-eights .ensures)) (c .before .before .if1 .taken) _ (c .before .char-length .ensures) (c .if2 .left)
+loop-again c =
+    let at-char = c .before in
+    let at-eights = at-char .before .before in
+    let at-blocks = at-eights .before in
+    let p = passed-on _ (at-blocks .before .before .loop .inv) (at-blocks .ascii-blocks .ensures) in
+    passed-char _ (passed-on _ p (at-eights .ascii-eights .ensures)) (at-char .before .if1 .taken) _
+    (at-char .char-length .ensures) (c .if2 .left)
 
 loop-less-2 : tie.Need-loop-less-2 Inv-loop μ-loop
 loop-less-2 c = omega arith
 
 loop-again-2 : tie.Need-loop-again-2 Inv-loop μ-loop
-loop-again-2 c = passed-on _ (passed-on _ (c .before .before .before .before .loop .inv) (c .before .before .ascii-blocks .ensures)) (c .before .ascii-eights .ensures)
+loop-again-2 c =
+    let at-blocks = c .before .before in
+    let p = passed-on _ (at-blocks .before .before .loop .inv) (at-blocks .ascii-blocks .ensures) in
+    passed-on _ p (c .before .ascii-eights .ensures)
 
 returns-2 : tie.Need-returns-2 Inv-loop μ-loop
 returns-2 c = passed-end _ _ (c .before .loop .inv) (c .loop-test .left)

@@ -7,8 +7,6 @@ use Rattle.wellformed.specs.Ascii.{Passed}
 use Rattle.wellformed.proofs.Passing.{passed-none, passed-low}
 use Rattle.wellformed.proofs.ascii.ascii_bytes.Statement.{statement}
 use Rattle.wellformed.proofs.ascii.ascii_bytes.Tie as tie
-use Rattle.wellformed.proofs.ascii.ascii_bytes.Reads as reads
-use Rattle.wellformed.proofs.ascii.ascii_bytes.Lts as lts
 
 abbrev Inv-loop : tie.InvT-loop
 Inv-loop s from i₀ i = Passed s from i

@@ -7,11 +7,6 @@ use Rattle.wellformed.specs.Ascii.{Passed}
 use Rattle.wellformed.proofs.Passing.{passed-none, passed-on, passed-first, passed-eight}
 use Rattle.wellformed.proofs.ascii.ascii_eights.Statement.{statement}
 use Rattle.wellformed.proofs.ascii.ascii_eights.Tie as tie
-use Rattle.wellformed.proofs.ascii.ascii_eights.Reads as reads
-use Rattle.wellformed.proofs.ascii.ascii_eights.Lts as lts
-use Rattle.wellformed.proofs.ascii.ascii_bytes.Reads as ascii-bytes-reads
-use Rattle.wellformed.proofs.ascii.first_byte.Reads as first-byte-reads
-use Rattle.wellformed.proofs.ascii.highs_of.Reads as highs-of-reads
 
 abbrev Inv-loop : tie.InvT-loop
 Inv-loop s from at₀ at = Passed s from at
@@ -44,16 +39,27 @@ first-byte-requires : tie.Need-first-byte-requires Inv-loop μ-loop
 first-byte-requires c κs = search needs
 
 add-result : tie.Need-add-result Inv-loop μ-loop
-add-result c = let w = passed-first _ (c .before .before .before .before .before .loop .inv) (omega arith) _ (c .before .before .highs-of .ensures) _ (c .first-byte .ensures) .high in let f = c .before .before .before .before .before .before .before .good in omega (arith, w)
+add-result c =
+    let at-highs = c .before .before in
+    let at-loop = at-highs .before .before .before in
+    let w = passed-first _ (at-loop .loop .inv) (omega arith) _ (at-highs .highs-of .ensures) _ (c .first-byte .ensures) in
+    let f = at-loop .before .before .good in
+    omega (arith, w .high)
 
 returns : tie.Need-returns Inv-loop μ-loop
-returns c = passed-first _ (c .before .before .before .before .before .loop .inv) (omega arith) _ (c .before .before .highs-of .ensures) _ (c .first-byte .ensures)
+returns c =
+    let at-highs = c .before .before in
+    let at-loop = at-highs .before .before .before in
+    passed-first _ (at-loop .loop .inv) (omega arith) _ (at-highs .highs-of .ensures) _ (c .first-byte .ensures)
 
 loop-less : tie.Need-loop-less Inv-loop μ-loop
 loop-less c = let w = c .before .before .before .before .loop .inv .high in omega arith
 
 loop-again : tie.Need-loop-again Inv-loop μ-loop
-loop-again c = passed-eight _ (c .before .before .before .before .loop .inv) (omega arith) _ (c .before .highs-of .ensures) (omega arith)
+loop-again c =
+    let at-highs = c .before in
+    let at-loop = at-highs .before .before .before in
+    passed-eight _ (at-loop .loop .inv) (omega arith) _ (at-highs .highs-of .ensures) (omega arith)
 
 ascii-bytes-requires : tie.Need-ascii-bytes-requires Inv-loop μ-loop
 ascii-bytes-requires c κs = c .before .loop .inv .high

@@ -4,8 +4,6 @@ use lib.Count.{trailing-le}
 use borrow.Author.Needs.{needs}
 use Rattle.wellformed.proofs.ascii.first_byte.Statement.{statement}
 use Rattle.wellformed.proofs.ascii.first_byte.Tie as tie
-use Rattle.wellformed.proofs.ascii.first_byte.Reads as reads
-use Rattle.wellformed.proofs.ascii.first_byte.Lts as lts
 
 cast-result : tie.Need-cast-result
 cast-result c = let h = trailing-le 64 (c .args .bits) in omega (arith, h)

@@ -4,9 +4,6 @@ use Rattle.wellformed.proofs.Eights.{highs-right}
 use borrow.Author.Needs.{needs}
 use Rattle.wellformed.proofs.ascii.highs_of.Statement.{statement}
 use Rattle.wellformed.proofs.ascii.highs_of.Tie as tie
-use Rattle.wellformed.proofs.ascii.highs_of.Reads as reads
-use Rattle.wellformed.proofs.ascii.highs_of.Lts as lts
-use Rattle.wellformed.proofs.ascii.word_of.Reads as word-of-reads
 
 word-of-requires : tie.Need-word-of-requires
 word-of-requires c κs = omega (arith, c .before .pre)

@@ -5,8 +5,6 @@ use borrow.Author.Needs.{needs}
 use Rattle.wellformed.proofs.Eights.{From, from-start, from-room, from-more, from-all}
 use Rattle.wellformed.proofs.ascii.word_of.Statement.{statement}
 use Rattle.wellformed.proofs.ascii.word_of.Tie as tie
-use Rattle.wellformed.proofs.ascii.word_of.Reads as reads
-use Rattle.wellformed.proofs.ascii.word_of.Lts as lts
 
 abbrev Inv-loop : tie.InvT-loop
 Inv-loop s w₀ i₀ w i = From s w i
@@ -30,13 +28,20 @@ cast-w : tie.Need-cast-w Inv-loop μ-loop
 cast-w c = let b = c .shared-slice-known .given in omega (arith, b (c .before .before .loop .i - 1))
 
 add-w : tie.Need-add-w Inv-loop μ-loop
-add-w c = let r = from-room (c .before .before .loop .inv) (c .before .before .before .pre) (c .before .loop-test .taken) in let b = c .shared-slice-known .given (c .before .before .loop .i - 1) in omega (arith, r, b)
+add-w c =
+    let at-loop = c .before .before in
+    let r = from-room (at-loop .loop .inv) (at-loop .before .pre) (c .before .loop-test .taken) in
+    let b = c .shared-slice-known .given (at-loop .loop .i - 1) in
+    omega (arith, r, b)
 
 loop-less : tie.Need-loop-less Inv-loop μ-loop
 loop-less c = search needs
 
 loop-again : tie.Need-loop-again Inv-loop μ-loop
-loop-again c = from-more (c .before .before .before .args .s .now) (λ i. let b = c .shared-slice-known .given i in omega (arith, b)) (c .before .before .loop .inv) (c .before .loop-test .taken)
+loop-again c =
+    let at-loop = c .before .before in
+    from-more (at-loop .before .args .s .now) (λ i. let b = c .shared-slice-known .given i in omega (arith, b))
+    (at-loop .loop .inv) (c .before .loop-test .taken)
 
 returns : tie.Need-returns Inv-loop μ-loop
 returns c = from-all (c .before .loop .inv) (c .loop-test .left)
