@@ -4,13 +4,10 @@ use native.Mathlib.Omega.{arith}
 use mathlib.Core.Path.{sym, _∙_}
 use lib.ListN.{length}
 use Prim.Native.Nat.{_-_}
-use Rattle.wellformed.specs.Owed.{Passed}
-use Rattle.wellformed.proofs.Loop.{passed-none, passed-more, as-part}
-use Rattle.wellformed.proofs.ascii_blocks.Statement.{statement}
-use Rattle.wellformed.proofs.ascii_blocks.Tie as tie
-use Rattle.wellformed.proofs.ascii_blocks.Reads as reads
-use Rattle.wellformed.proofs.ascii_blocks.Lts as lts
-use Rattle.bytes.proofs.has_high.Reads as has-high-reads
+use Rattle.wellformed.specs.Ascii.{Passed}
+use Rattle.wellformed.proofs.Passing.{passed-none, passed-more, as-part}
+use Rattle.wellformed.proofs.ascii.ascii_blocks.Statement.{statement}
+use Rattle.wellformed.proofs.ascii.ascii_blocks.Tie as tie
 
 abbrev Inv-loop : tie.InvT-loop
 Inv-loop s from at₀ at = Passed s from at
@@ -46,7 +43,12 @@ loop-less : tie.Need-loop-less Inv-loop μ-loop
 loop-less c = let w = c .before .before .before .before .loop .inv .high in omega arith
 
 loop-again : tie.Need-loop-again Inv-loop μ-loop
-loop-again c = passed-more _ (c .before .before .before .before .loop .inv) 24 (omega arith) (as-part (c .before .before .before .before .before .before .args .s .now) (c .before .before .before .before .loop .at) (sym (c .before .has-high .ensures) ∙ c .if1 .left))
+loop-again c =
+    let at-high = c .before in
+    let at-loop = at-high .before .before .before in
+    let start = at-loop .before .before in
+    passed-more _ (at-loop .loop .inv) 32 (omega arith)
+    (as-part (start .args .s .now) (at-loop .loop .at) 32 (sym (at-high .has-high .ensures) ∙ c .if1 .left))
 
 returns-2 : tie.Need-returns-2 Inv-loop μ-loop
 returns-2 c = c .before .loop .inv
