@@ -9,7 +9,6 @@ use answers::Refusal;
 use answers::Why;
 use blocks::BLOCK_WORDS;
 use blocks::Laid;
-use blocks::Page;
 use body::lay_body;
 use header::Header;
 use header::read_header;
