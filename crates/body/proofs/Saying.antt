@@ -3,12 +3,13 @@
 --     gave-act, skip-..                  what a run gives
 --     value-.., values-..                what a run gave, as text
 --     text-..                            a token's own text
---     said-..                            both, in the top state; at the end of all tokens
+--     speaks-..                          whether anything is said
+--     said-..                            both, in the top state; nothing; at the end of all tokens
 --     still-on                           a page that is laid on fits its rooms
 -- Assumes nothing.
 use mathlib.Core.Path.{_≡_, refl, sym, ap, _∙_}
 use mathlib.Core.List.{List, [], _∷_, _++_, append-nil}
-use mathlib.Core.Bool.{Bool, true, false}
+use mathlib.Core.Bool.{Bool, true, false, _||_, true≢false, false≢true}
 use Prim.Native.Nat.{ℕ, _-_, _<_, _≤_}
 use native.Mathlib.Omega.{arith}
 use lib.ListN.{length, getD, take, length-take}
@@ -35,7 +36,7 @@ use Rattle.blocks.specs.Pages.{Piece}
 use Rattle.blocks.specs.Laying.{Laying, on, off, told, addOf, laidOn, layAll, Ready, Still}
 use Rattle.blocks.proofs.Laying.{lay-more}
 use Rattle.body.specs.Body.{rows, doing}
-use Rattle.body.specs.Turns.{valueIf, laidAll}
+use Rattle.body.specs.Turns.{any, valueIf, laidAll}
 
 -- ---- pieces laid one after the other
 
@@ -148,6 +149,33 @@ module _ (l : Laying) (r : List ℕ) (g : Gave) (a : Laid) (b t : List ℕ) (h :
       then-on l r (writtenAll (valueIf (g .lost) 65533)) (writtenAll (valueIf (g .some) (g .value))) a b t h e f
       ∙ ap (λ (xs : List (List ℕ)). laidAll l (spoken rows r xs)) (both g)
 
+-- ---- whether anything is said
+
+pub speaks-lost : (g : Gave) (xs : List (List ℕ)) → (g .lost || g .some) ≡ true → true ≡ any (writtenAll (values g) ++ xs)
+unfolding values writtenAll
+speaks-lost g xs h = go (g .lost) (g .some) h
+  where
+    go : (l s : Bool) → (l || s) ≡ true → true ≡ any (writtenAll (valueIf l 65533 ++ valueIf s (g .value)) ++ xs)
+    go true s e = refl
+    go false true e = refl
+    go false false e = absurd (false≢true e)
+
+silent-values : (g : Gave) → (g .lost || g .some) ≡ false → writtenAll (values g) ≡ []
+unfolding values writtenAll
+silent-values g h = go (g .lost) (g .some) h
+  where
+    go : (l s : Bool) → (l || s) ≡ false → writtenAll (valueIf l 65533 ++ valueIf s (g .value)) ≡ []
+    go true s e = absurd (true≢false e)
+    go false true e = absurd (true≢false e)
+    go false false e = refl
+
+pub speaks-text : (g : Gave) (xs : List (List ℕ)) {r : Bool} → (g .lost || g .some) ≡ false → r ≡ any xs → r ≡ any (writtenAll (values g) ++ xs)
+speaks-text g xs h e = e ∙ ap (λ (ys : List (List ℕ)). any (ys ++ xs)) (sym (silent-values g h))
+
+no-text : (xs : List (List ℕ)) → any xs ≡ false → xs ≡ []
+no-text [] e = refl
+no-text (x ∷ xs) e = absurd (true≢false e)
+
 -- ---- in the top state
 
 module _ (l : Laying) (states : List (List ℕ)) (depth : ℕ) (g : Gave) (d : Deed Setting) where
@@ -160,6 +188,14 @@ module _ (l : Laying) (states : List (List ℕ)) (depth : ℕ) (g : Gave) (d : D
     unfolding said
     top = rw (held-top [] states depth z)
 
+    -- where the run gives nothing
+    pub said-text : (g .lost || g .some) ≡ false → {y : Laying} → y ≡ laidAll l (spoken rows (getD states (depth - 1) []) (textsOf d))
+        → y ≡ laidAll l (said rows (held [] states depth) g d)
+    said-text e h =
+        h
+        ∙ ap (λ (xs : List (List ℕ)). laidAll l (spoken rows (getD states (depth - 1) []) (xs ++ textsOf d))) (sym (silent-values g e))
+        ∙ ap (laidAll l) (sym top)
+
     module _ (a : Laid) (b t : List ℕ) (h : told a b t ≡ laidAll l (spoken rows (getD states (depth - 1) []) (writtenAll (values g)))) where
       pub said-full : {q : Refusal} → a ≡ Full q → off q ≡ laidAll l (said rows (held [] states depth) g d)
       said-full e = then-full l (getD states (depth - 1) []) (writtenAll (values g)) (textsOf d) a b t h e ∙ ap (laidAll l) (sym top)
@@ -167,6 +203,12 @@ module _ (l : Laying) (states : List (List ℕ)) (depth : ℕ) (g : Gave) (d : D
       pub said-on : {p : Page} {y : Laying} → a ≡ On p → y ≡ laidAll (on p b t) (spoken rows (getD states (depth - 1) []) (textsOf d))
           → y ≡ laidAll l (said rows (held [] states depth) g d)
       said-on e f = then-on l (getD states (depth - 1) []) (writtenAll (values g)) (textsOf d) a b t h e f ∙ ap (laidAll l) (sym top)
+
+-- where nothing is said at all
+pub said-silent : (l : Laying) (st : List (List ℕ)) (g : Gave) (d : Deed Setting) → any (writtenAll (values g) ++ textsOf d) ≡ false → l ≡ laidAll l (said rows st g d)
+unfolding laidAll said spoken
+said-silent l [] g d e = refl
+said-silent l (top ∷ rest) g d e = rw (no-text (writtenAll (values g) ++ textsOf d) e) refl
 
 -- where the tokens end
 module _ (l : Laying) (states : List (List ℕ)) (depth : ℕ) (run : Run) where

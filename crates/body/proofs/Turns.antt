@@ -1,9 +1,11 @@
 -- The loop over the tokens: what is left, from the present states, run and page, leads where the whole leads.
 --     Loop, loop-start, loop-end         before the first token, and behind the last
+--     Spoke, spoke-..                    what is said at a token, laid
 --     turn-full, turn-refused, turn-on   one token: no room for what is said, a refusal, and on
 -- Assumes nothing.
 use mathlib.Core.Path.{_≡_, refl, sym, ap, _∙_}
-use mathlib.Core.List.{List, [], _∷_}
+use mathlib.Core.List.{List, [], _∷_, _++_}
+use mathlib.Core.Bool.{Bool, false}
 use Prim.Native.Nat.{ℕ, _+_, _-_, _*_, _<_, _≤_}
 use native.Mathlib.Omega.{arith}
 use native.Mathlib.Numerals.{add-one}
@@ -22,9 +24,9 @@ use Rattle.walk.specs.Walk.{Step, stepOf, passedBy, walk}
 use Rattle.walk.proofs.Walk.{walk-one, walk-end}
 use Rattle.units.specs.declared.Run.{Run}
 use Rattle.units.specs.declared.Gave.{Gave}
-use Rattle.units.specs.Units.{before}
+use Rattle.units.specs.Units.{before, values}
 use Rattle.machine.specs.Stack.{moved, stackOf, held}
-use Rattle.machine.specs.Machine.{ended, parts, gave, skipOf, moveOf, onward, said, machine, _▸▸_}
+use Rattle.machine.specs.Machine.{ended, parts, gave, textsOf, writtenAll, skipOf, moveOf, onward, said, machine, _▸▸_}
 use Rattle.machine.specs.Machine
 use Rattle.blocks.specs.declared.Page.{Page}
 use Rattle.blocks.specs.declared.Laid.{Laid}
@@ -36,8 +38,8 @@ use Rattle.body.specs.declared.deed.Deed.{Deed}
 use Rattle.body.specs.declared.stack.Moved.{Moved}
 use Rattle.body.specs.declared.stack.Moved.the-variants.{Holds, Refuses}
 use Rattle.body.specs.Body.{rows, deedOf, deeds, body}
-use Rattle.body.specs.Turns.{deedBy, movedBy, Took, laidAll}
-use Rattle.body.proofs.Saying.{lay-said, still-on}
+use Rattle.body.specs.Turns.{deedBy, movedBy, Took, any, laidAll}
+use Rattle.body.proofs.Saying.{lay-said, said-silent, still-on}
 
 -- what is said of tokens, from a stack and a run on
 abbrev from : Reading → List (List ℕ) → Run → List Shown → Stream Refusal Piece
@@ -70,6 +72,32 @@ loop-start rd src b t tokens count e f q h = record {
   left = rw (q, e, f) refl;
 }
 
+-- what is said at a token was laid, or there was nothing to say
+pub record Spoke (states : List (List ℕ)) (depth : ℕ) (g : Gave) (d : Machine.Deed Setting) (p : Page) (b t : List ℕ) (p′ : Page) (b′ t′ : List ℕ) : Type 0 where
+  pub laid : on p′ b′ t′ ≡ laidAll (on p b t) (said rows (held [] states depth) g d)
+  pub ready : Ready p′ (length b′) (length t′)
+  pub long-b : length b′ ≡ length b
+  pub long-t : length t′ ≡ length t
+
+module _ (states : List (List ℕ)) (depth : ℕ) (g : Gave) (d : Machine.Deed Setting) (p : Page) (b t : List ℕ) {p′ : Page} {b′ t′ : List ℕ} where
+  pub spoke-some : (a : Laid) (b₁ t₁ : List ℕ) → told a b₁ t₁ ≡ laidAll (on p b t) (said rows (held [] states depth) g d) → Still a (length b) (length t)
+      → length b₁ ≡ length b → length t₁ ≡ length t → {p₁ : Page} → a ≡ On p₁ → b′ ≡ b₁ → t′ ≡ t₁ → p′ ≡ p₁ → Spoke states depth g d p b t p′ b′ t′
+  spoke-some a b₁ t₁ s w lb lt z eb et ep = record {
+    laid = rw (eb, et, ep) (rw z at s);
+    ready = rw (eb, et, ep, lb, lt) (still-on w z);
+    long-b = ap length eb ∙ lb;
+    long-t = ap length et ∙ lt;
+  }
+
+  pub spoke-none : {x : Bool} → x ≡ any (writtenAll (values g) ++ textsOf d) → x ≡ false → Ready p (length b) (length t) → b′ ≡ b → t′ ≡ t → p′ ≡ p
+      → Spoke states depth g d p b t p′ b′ t′
+  spoke-none e f r eb et ep = record {
+    laid = rw (eb, et, ep) (said-silent (on p b t) (held [] states depth) g d (sym e ∙ f));
+    ready = rw (eb, et, ep) r;
+    long-b = ap length eb;
+    long-t = ap length et;
+  }
+
 -- one token, and what is behind it
 from-one : (rd : Reading) (st : List (List ℕ)) (run : Run) (t : Shown) (ts : List Shown) {d : Machine.Deed Setting} {g : Gave}
     → d ≡ deedOf rd (stepOf t ts) → g ≡ gave (skipOf rows st) run d
@@ -98,9 +126,7 @@ module _ {rd : Reading} {src b₀ t₀ tokens : List ℕ} {count : ℕ} {b t : L
   module _ (y : 0 < n) {i : Item} (e : i ≡ itemAt ws) {h : ℕ}
       (q : ((s : List ℕ) → h ≡ passedBy (shownOf s i) (shownAll s (n - 1) (rest ws tokenWords))) × (h ≤ n - 1)) (deed : Deed)
       (f : (s : List ℕ) (ts : List Shown) → h ≡ passedBy (shownOf s i) ts → deedBy s deed ≡ deedOf rd (stepOf (shownOf s i) ts)) {g : Gave}
-      (v : (s : List ℕ) → g ≡ gave (skipOf rows (held [] states depth)) run (deedBy s deed)) (a : Laid) (b′ t′ : List ℕ)
-      (s : told a b′ t′ ≡ laidAll (on p b t) (said rows (held [] states depth) g (deedBy src deed))) {m : Moved} {states′ : List (List ℕ)}
-      (k : (x : List ℕ) → Took m states′ (moved freshRow (held [] states depth) (moveOf rows (deedBy x deed)))) where
+      (v : (s : List ℕ) → g ≡ gave (skipOf rows (held [] states depth)) run (deedBy s deed)) where
     -- the tokens behind the first and those that the walk passes over
     behind : drop h (shownAll src (n - 1) (rest ws tokenWords)) ≡ shownAll src (n - (h + 1)) (rest ws ((h + 1) * tokenWords))
     behind =
@@ -108,10 +134,13 @@ module _ {rd : Reading} {src b₀ t₀ tokens : List ℕ} {count : ℕ} {b t : L
         let d : drop (h + 1) (shownAll src n ws) ≡ drop h (shownAll src (n - 1) (rest ws tokenWords)) = rw (add-one h, shown-some src n ws y) in
         sym d ∙ shown-drop src (h + 1) n ws c
 
-    abbrev later : Stream Refusal Piece
-    later = from rd (stackOf (movedBy m states′)) (g .run) (shownAll src (n - (h + 1)) (rest ws ((h + 1) * tokenWords)))
+    abbrev next : Found (List (List ℕ))
+    next = moved freshRow (held [] states depth) (moveOf rows (deedBy src deed))
 
-    front : from rd (held [] states depth) run (shownAll src n ws) ≡ said rows (held [] states depth) g (deedBy src deed) ▸▸ onward (movedBy m states′) later
+    abbrev later : Found (List (List ℕ)) → Stream Refusal Piece
+    later m = onward m (from rd (stackOf m) (g .run) (shownAll src (n - (h + 1)) (rest ws ((h + 1) * tokenWords))))
+
+    front : from rd (held [] states depth) run (shownAll src n ws) ≡ said rows (held [] states depth) g (deedBy src deed) ▸▸ later next
     front =
         let tk : Shown = shownOf src (itemAt ws) in
         let ts : List Shown = shownAll src (n - 1) (rest ws tokenWords) in
@@ -121,33 +150,36 @@ module _ {rd : Reading} {src b₀ t₀ tokens : List ℕ} {count : ℕ} {b t : L
         let de : d ≡ deedOf rd (stepOf tk ts) = rw e at (f src ts (q .0 src)) in
         ap (from rd st run) (shown-some src n ws y)
         ∙ from-one rd st run tk ts de (v src)
-        ∙ ap (λ (j : ℕ). said rows st g d ▸▸ onward (moved freshRow st (moveOf rows d)) (from rd (stackOf (moved freshRow st (moveOf rows d))) (g .run) (drop j ts))) (sym hp)
-        ∙ ap (λ (us : List Shown). said rows st g d ▸▸ onward (moved freshRow st (moveOf rows d)) (from rd (stackOf (moved freshRow st (moveOf rows d))) (g .run) us)) behind
-        ∙ ap (λ (x : Found (List (List ℕ))). said rows st g d ▸▸ onward x (from rd (stackOf x) (g .run) (shownAll src (n - (h + 1)) (rest ws ((h + 1) * tokenWords))))) (sym (k src .does))
+        ∙ ap (λ (j : ℕ). said rows st g d ▸▸ onward next (from rd (stackOf next) (g .run) (drop j ts))) (sym hp)
+        ∙ ap (λ (us : List Shown). said rows st g d ▸▸ onward next (from rd (stackOf next) (g .run) us)) behind
 
-    leads : layAll (told a b′ t′) (onward (movedBy m states′) later) ≡ whole rd src b₀ t₀ tokens count
-    leads =
-        ap (λ (x : Laying). layAll x (onward (movedBy m states′) later)) s
-        ∙ sym (lay-said (on p b t) (said rows (held [] states depth) g (deedBy src deed)) (onward (movedBy m states′) later))
+    leads : (z : Laying) → z ≡ laidAll (on p b t) (said rows (held [] states depth) g (deedBy src deed)) → layAll z (later next) ≡ whole rd src b₀ t₀ tokens count
+    leads z s =
+        ap (λ (x : Laying). layAll x (later next)) s
+        ∙ sym (lay-said (on p b t) (said rows (held [] states depth) g (deedBy src deed)) (later next))
         ∙ ap (layAll (on p b t)) (sym front)
         ∙ l .left
 
-    pub turn-full : {r : Refusal} → a ≡ Full r → off r ≡ whole rd src b₀ t₀ tokens count
-    turn-full {r} z = sym (lay-off r (onward (movedBy m states′) later)) ∙ (rw z at leads)
+    pub turn-full : (a : Laid) (b′ t′ : List ℕ) → told a b′ t′ ≡ laidAll (on p b t) (said rows (held [] states depth) g (deedBy src deed)) → {r : Refusal} → a ≡ Full r
+        → off r ≡ whole rd src b₀ t₀ tokens count
+    turn-full a b′ t′ s {r} z = sym (lay-off r (later next)) ∙ leads (off r) (rw z at s)
 
-    module _ {p′ : Page} (z : a ≡ On p′) where
+    module _ {p′ : Page} {b′ t′ : List ℕ} (s : Spoke states depth g (deedBy src deed) p b t p′ b′ t′) {m : Moved} {states′ : List (List ℕ)}
+        (k : (x : List ℕ) → Took m states′ (moved freshRow (held [] states depth) (moveOf rows (deedBy x deed)))) where
+      goes : layAll (on p′ b′ t′) (later (movedBy m states′)) ≡ whole rd src b₀ t₀ tokens count
+      goes = ap (λ (x : Found (List (List ℕ))). layAll (on p′ b′ t′) (later x)) (k src .does) ∙ leads (on p′ b′ t′) (s .laid)
+
       pub turn-refused : {why : Why} {r : Refusal} → m ≡ Refuses why → r ≡ refusal why → off r ≡ whole rd src b₀ t₀ tokens count
-      turn-refused {why} u w = ap off w ∙ sym (lay-stop p′ b′ t′ (refusal why)) ∙ (rw (z, u) at leads)
+      turn-refused {why} u w = ap off w ∙ sym (lay-stop p′ b′ t′ (refusal why)) ∙ (rw u at goes)
 
-      pub turn-on : {d : ℕ} → m ≡ Holds d → Still a (length b) (length t) → length b′ ≡ length b → length t′ ≡ length t
-          → Loop rd src b₀ t₀ tokens count b′ t′ states′ d (g .run) p′ (rest ws ((h + 1) * tokenWords)) (n - (h + 1))
-      turn-on {d} u w lb lt = record {
+      pub turn-on : {d : ℕ} → m ≡ Holds d → Loop rd src b₀ t₀ tokens count b′ t′ states′ d (g .run) p′ (rest ws ((h + 1) * tokenWords)) (n - (h + 1))
+      turn-on {d} u = record {
         deep = rw u at (k src .deep);
         all = k src .all;
         words = words-behind (h + 1) n ws (l .words);
         few = let x : n ≤ 65536 = l .few in omega arith;
-        long-b = lb ∙ l .long-b;
-        long-t = lt ∙ l .long-t;
-        ready = rw (lb, lt) (still-on w z);
-        left = rw (z, u) at leads;
+        long-b = s .long-b ∙ l .long-b;
+        long-t = s .long-t ∙ l .long-t;
+        ready = s .ready;
+        left = rw u at goes;
       }

@@ -3,7 +3,7 @@
 use Prim.Native.Nat.{ℕ, _≤_, _<_}
 use mathlib.Core.Path.{_≡_}
 use mathlib.Core.List.{List, [], _∷_}
-use mathlib.Core.Bool.{Bool, cond}
+use mathlib.Core.Bool.{Bool, true, false, cond}
 use lib.ListN.{length}
 use Rattle.answers.specs.Answers.{refusal, Found, found, refused}
 use Rattle.tokens.specs.Items.{part}
@@ -57,6 +57,11 @@ pub record Took (r : Moved) (states : List (List ℕ)) (m : Found (List (List �
   pub does : movedBy r states ≡ m
   pub deep : Deep r
   pub all : length states ≡ stackLimit
+
+-- whether there is a text
+abbrev pub any : List (List ℕ) → Bool
+any [] = false
+any (bs ∷ texts) = true
 
 -- a scalar value, if there is one
 abbrev pub valueIf : Bool → ℕ → List ℕ

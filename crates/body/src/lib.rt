@@ -13,6 +13,7 @@ use crate::deed::passed;
 use crate::say::finish;
 use crate::say::gave;
 use crate::say::say;
+use crate::say::speaks;
 use crate::stack::Moved;
 use crate::stack::take;
 use answers::Refusal;
@@ -58,20 +59,22 @@ pub fn lay_body(
         let h = passed(i, &t[TOKEN_WORDS..], n - 1);
         let deed = deed_of(reading, i, h);
         let g = gave(&states, depth, run, deed);
-        let laid = say(source, &states, depth, g, deed, page, blocks, text);
+        if speaks(g, deed) {
+            let laid = say(source, &states, depth, g, deed, page, blocks, text);
+            match laid {
+                Laid::Full(refusal) => {
+                    return Laid::Full(refusal);
+                }
+                Laid::On(p) => {
+                    page = p;
+                }
+            }
+        }
         let moved = take(&mut states, depth, deed);
         let at = (h + 1) * TOKEN_WORDS;
         t = &t[at..];
         n -= h + 1;
         run = g.run;
-        match laid {
-            Laid::Full(refusal) => {
-                return Laid::Full(refusal);
-            }
-            Laid::On(p) => {
-                page = p;
-            }
-        }
         match moved {
             Moved::Refuses(why) => {
                 return Laid::Full(Refusal::of(why));

@@ -1,6 +1,7 @@
 // What is said at a token, laid onto a page: what its run of units gives, then its own text (01, Body).
 //
 //   gave     what a run gives at a token
+//   speaks   whether anything is said there
 //   say      what is said there
 //   finish   what a run that is under way at the end still owes
 use crate::deed::Deed;
@@ -29,7 +30,7 @@ ghost use Rattle.machine.specs.Machine.{gave as gaveOf, ended as endedOf, parts
 ghost use Rattle.blocks.specs.Laying.{told, on, Ready, Still};
 ghost use Rattle.blocks.specs.Laying.{addOf};
 ghost use Rattle.body.specs.Body.{rows, doing};
-ghost use Rattle.body.specs.Turns.{deedBy, valueIf, laidAll};
+ghost use Rattle.body.specs.Turns.{deedBy, any, valueIf, laidAll};
 
 // A run that ends: a surrogate that waits is lost.
 fn ended(run: Run) -> Gave
@@ -148,6 +149,47 @@ fn lay_text(source: &[u8], states: &[[u32; WIDTH]; STATES], d: usize, deed: Deed
     }
 }
 
+// Whether an act writes a character.
+fn writes(act: Act) -> bool
+    ensures { λ r. ⌜ r ≡ any (textsOf (doing (meaning act))) ⌝ }
+{
+    match act {
+        Act::Says(_) => true,
+        Act::Nothing => false,
+        Act::Sets(_, _) => false,
+        Act::Lines(_, _) => false,
+        Act::Plain => false,
+        Act::Pard => false,
+        Act::Refuses(_) => false,
+    }
+}
+
+// Whether a token has text of its own.
+fn talks(deed: Deed) -> bool
+    ensures { λ r. ⌜ ((src : List ℕ) → r ≡ any (textsOf (deedBy src deed))) ⌝ }
+{
+    match deed {
+        Deed::Text(_, _) => true,
+        Deed::Break => true,
+        Deed::Does(a) => writes(a),
+        Deed::Opens => false,
+        Deed::Closes => false,
+        Deed::Unit(_) => false,
+        Deed::Parts => false,
+        Deed::Stops(_) => false,
+    }
+}
+
+// Whether anything is said at a token: most of them say nothing, and need no page.
+pub fn speaks(g: Gave, deed: Deed) -> bool
+    ensures { λ r. ⌜ ((src : List ℕ) → r ≡ any (writtenAll (values g) ++ textsOf (deedBy src deed))) ⌝ }
+{
+    if g.lost | g.some {
+        return true;
+    }
+    talks(deed)
+}
+
 // What is said at a token.
 pub fn say(
     source: &[u8],
@@ -167,11 +209,18 @@ pub fn say(
         return Laid::On(page);
     }
     let d = depth - 1;
-    let given = lay_values(states, d, g, page, blocks, text);
-    match given {
-        Laid::Full(refusal) => Laid::Full(refusal),
-        Laid::On(p) => lay_text(source, states, d, deed, p, blocks, text),
+    if g.lost | g.some {
+        let given = lay_values(states, d, g, page, blocks, text);
+        match given {
+            Laid::Full(refusal) => {
+                return Laid::Full(refusal);
+            }
+            Laid::On(p) => {
+                return lay_text(source, states, d, deed, p, blocks, text);
+            }
+        }
     }
+    lay_text(source, states, d, deed, page, blocks, text)
 }
 
 // What a run that is under way at the end still owes.

@@ -2,11 +2,12 @@
 -- leads. The measure is how many tokens are left.
 use borrow.Author.Needs.{needs}
 use mathlib.Core.Path.{ap, _∙_}
+use mathlib.Core.Logic.{⊎-elim}
 use Prim.Native.Nat.{_-_}
 use native.Mathlib.Omega.{arith}
-use lib.ListN.{length-take, length-drop}
+use lib.ListN.{length, length-take, length-drop}
 use Rattle.settings.specs.Fields.{rowOf}
-use Rattle.body.proofs.Turns.{Loop, loop-start, loop-end, turn-full, turn-refused, turn-on}
+use Rattle.body.proofs.Turns.{Loop, Spoke, spoke-some, spoke-none, loop-start, loop-end, turn-full, turn-refused, turn-on}
 use Rattle.body.proofs.lay_body.Statement.{statement}
 use Rattle.body.proofs.lay_body.Tie as tie
 use Rattle.body.proofs.lay_body.Reads as reads
@@ -18,6 +19,7 @@ use Rattle.body.proofs.deed.passed.Reads as passed-reads
 use Rattle.body.proofs.say.finish.Reads as finish-reads
 use Rattle.body.proofs.say.gave.Reads as gave-reads
 use Rattle.body.proofs.say.say.Reads as say-reads
+use Rattle.body.proofs.say.speaks.Reads as speaks-reads
 use Rattle.body.proofs.stack.take.Reads as take-reads
 use Rattle.settings.proofs.State.fresh.Reads as fresh-reads
 use Rattle.settings.proofs.State.row.Reads as row-reads
@@ -70,50 +72,53 @@ deed-of-requires c κs = search needs
 gave-requires : tie.Need-gave-requires Inv-loop μ-loop
 gave-requires c κs = (c .before .before .before .before .before .before .loop .inv .deep, c .before .before .before .before .before .before .loop .inv .all)
 
+speaks-requires : tie.Need-speaks-requires Inv-loop μ-loop
+speaks-requires c κs = search needs
+
 say-requires : tie.Need-say-requires Inv-loop μ-loop
-say-requires c κs = (c .before .before .before .before .before .before .before .before .before .before .loop .inv .deep, c .before .before .before .before .before .before .before .before .before .before .loop .inv .all, c .before .before .before .before .before .before .before .before .before .before .loop .inv .ready)
-
-take-requires : tie.Need-take-requires Inv-loop μ-loop
-take-requires c κs = (c .before .before .before .before .before .before .before .before .before .before .before .before .before .before .before .before .loop .inv .deep, c .before .before .before .before .before .before .before .before .before .before .before .before .before .before .before .before .loop .inv .all, c .before .before .before .before .before .before .before .before .before .before .before .deed-of .ensures .1)
-
-add-at : tie.Need-add-at Inv-loop μ-loop
-add-at c = let u = c .before .before .before .before .before .before .before .before .before .before .before .before .before .passed .ensures .1 in let z = c .before .before .before .before .before .before .before .before .before .before .before .before .before .before .before .before .loop-test .taken in let w = c .before .before .before .before .before .before .before .before .before .before .before .before .before .before .before .before .before .loop .inv .words in let v = c .before .before .before .before .before .before .before .before .before .before .before .before .before .before .before .before .before .loop .inv .few in omega (arith, u, z, w, v)
-
-mul-at : tie.Need-mul-at Inv-loop μ-loop
-mul-at c = let u = c .before .before .before .before .before .before .before .before .before .before .before .before .before .passed .ensures .1 in let z = c .before .before .before .before .before .before .before .before .before .before .before .before .before .before .before .before .loop-test .taken in let w = c .before .before .before .before .before .before .before .before .before .before .before .before .before .before .before .before .before .loop .inv .words in let v = c .before .before .before .before .before .before .before .before .before .before .before .before .before .before .before .before .before .loop .inv .few in omega (arith, u, z, w, v)
-
-mul-t : tie.Need-mul-t Inv-loop μ-loop
-mul-t c = let u = c .before .before .before .before .before .before .before .before .before .before .before .before .before .passed .ensures .1 in let z = c .before .before .before .before .before .before .before .before .before .before .before .before .before .before .before .before .loop-test .taken in let w = c .before .before .before .before .before .before .before .before .before .before .before .before .before .before .before .before .before .loop .inv .words in let v = c .before .before .before .before .before .before .before .before .before .before .before .before .before .before .before .before .before .loop .inv .few in omega (arith, u, z, w, v)
-
-sub-t : tie.Need-sub-t Inv-loop μ-loop
-sub-t c = let u = c .before .before .before .before .before .before .before .before .before .before .before .before .before .passed .ensures .1 in let z = c .before .before .before .before .before .before .before .before .before .before .before .before .before .before .before .before .loop-test .taken in let w = c .before .before .before .before .before .before .before .before .before .before .before .before .before .before .before .before .before .loop .inv .words in let v = c .before .before .before .before .before .before .before .before .before .before .before .before .before .before .before .before .before .loop .inv .few in omega (arith, u, z, w, v)
-
-part-t-start : tie.Need-part-t-start Inv-loop μ-loop
-part-t-start c = let u = c .before .before .before .before .before .before .before .before .before .before .before .before .before .passed .ensures .1 in let z = c .before .before .before .before .before .before .before .before .before .before .before .before .before .before .before .before .loop-test .taken in let w = c .before .before .before .before .before .before .before .before .before .before .before .before .before .before .before .before .before .loop .inv .words in let v = c .before .before .before .before .before .before .before .before .before .before .before .before .before .before .before .before .before .loop .inv .few in omega (arith, u, z, w, v)
-
-part-t-end : tie.Need-part-t-end Inv-loop μ-loop
-part-t-end c = omega arith
-
-add-n : tie.Need-add-n Inv-loop μ-loop
-add-n c = let u = c .before .before .before .before .before .before .before .before .before .before .before .before .before .before .passed .ensures .1 in let z = c .before .before .before .before .before .before .before .before .before .before .before .before .before .before .before .before .before .loop-test .taken in let w = c .before .before .before .before .before .before .before .before .before .before .before .before .before .before .before .before .before .before .loop .inv .words in let v = c .before .before .before .before .before .before .before .before .before .before .before .before .before .before .before .before .before .before .loop .inv .few in omega (arith, u, z, w, v)
-
-sub-n : tie.Need-sub-n Inv-loop μ-loop
-sub-n c = let u = c .before .before .before .before .before .before .before .before .before .before .before .before .before .before .passed .ensures .1 in let z = c .before .before .before .before .before .before .before .before .before .before .before .before .before .before .before .before .before .loop-test .taken in let w = c .before .before .before .before .before .before .before .before .before .before .before .before .before .before .before .before .before .before .loop .inv .words in let v = c .before .before .before .before .before .before .before .before .before .before .before .before .before .before .before .before .before .before .loop .inv .few in omega (arith, u, z, w, v)
+say-requires c κs = (c .before .before .before .before .before .before .before .before .before .before .before .before .loop .inv .deep, c .before .before .before .before .before .before .before .before .before .before .before .before .loop .inv .all, c .before .before .before .before .before .before .before .before .before .before .before .before .loop .inv .ready)
 
 enum-known-laid : tie.Need-enum-known-laid Inv-loop μ-loop
 enum-known-laid c = search needs
 
 same-length : tie.Need-same-length Inv-loop μ-loop
-same-length c = c .before .before .before .before .before .before .before .before .before .before .before .say .kept .1 .1 .1 .1 .1 .1 .0 ∙ c .before .before .before .before .before .before .before .before .before .before .before .before .before .before .before .before .before .before .before .before .before .before .loop .inv .long-b
+same-length c = c .before .before .before .before .before .before .before .say .kept .1 .1 .1 .1 .1 .1 .0 ∙ c .before .before .before .before .before .before .before .before .before .before .before .before .before .before .before .before .before .before .before .before .loop .inv .long-b
 
 same-length-2 : tie.Need-same-length-2 Inv-loop μ-loop
-same-length-2 c = c .before .before .before .before .before .before .before .before .before .before .before .say .kept .1 .1 .1 .1 .1 .1 .1 .0 ∙ c .before .before .before .before .before .before .before .before .before .before .before .before .before .before .before .before .before .before .before .before .before .before .loop .inv .long-t
+same-length-2 c = c .before .before .before .before .before .before .before .say .kept .1 .1 .1 .1 .1 .1 .1 .0 ∙ c .before .before .before .before .before .before .before .before .before .before .before .before .before .before .before .before .before .before .before .before .loop .inv .long-t
 
 returns : tie.Need-returns Inv-loop μ-loop
-returns c = (turn-full (c .before .before .before .before .before .before .before .before .before .before .before .before .before .before .before .before .before .before .before .before .before .before .loop .inv) (c .before .before .before .before .before .before .before .before .before .before .before .before .before .before .before .before .before .before .before .before .before .loop-test .taken) (c .before .before .before .before .before .before .before .before .before .before .before .before .before .before .before .before .before .before .before .before .item-at .ensures) (c .before .before .before .before .before .before .before .before .before .before .before .before .before .before .before .before .before .before .passed .ensures) (c .before .before .before .before .before .before .before .before .before .before .before .before .before .before .before .before .before .deed-of .result) (c .before .before .before .before .before .before .before .before .before .before .before .before .before .before .before .before .before .deed-of .ensures .0) (c .before .before .before .before .before .before .before .before .before .before .before .before .before .before .before .gave .ensures) _ _ _ (c .before .before .before .before .before .before .before .before .before .before .before .say .ensures .0) (c .before .before .before .before .before .take .ensures) (c .before .laid .given .1), omega arith)
+returns c = (turn-full (c .before .before .before .before .before .before .before .before .before .before .before .before .before .before .before .before .before .before .before .before .loop .inv) (c .before .before .before .before .before .before .before .before .before .before .before .before .before .before .before .before .before .before .before .loop-test .taken) (c .before .before .before .before .before .before .before .before .before .before .before .before .before .before .before .before .before .before .item-at .ensures) (c .before .before .before .before .before .before .before .before .before .before .before .before .before .before .before .before .passed .ensures) (c .before .before .before .before .before .before .before .before .before .before .before .before .before .before .before .deed-of .result) (c .before .before .before .before .before .before .before .before .before .before .before .before .before .before .before .deed-of .ensures .0) (c .before .before .before .before .before .before .before .before .before .before .before .before .before .gave .ensures) _ _ _ (c .before .before .before .before .before .before .before .say .ensures .0) (c .before .laid .given .1), omega arith)
 
 enum-known-laid-2 : tie.Need-enum-known-laid-2 Inv-loop μ-loop
 enum-known-laid-2 c = search needs
+
+take-requires : tie.Need-take-requires Inv-loop μ-loop
+take-requires c κs = (c .before .before .before .before .before .before .before .before .before .before .loop .inv .deep, c .before .before .before .before .before .before .before .before .before .before .loop .inv .all, c .before .before .before .before .before .deed-of .ensures .1)
+
+add-at : tie.Need-add-at Inv-loop μ-loop
+add-at c = let u = c .before .before .before .before .before .before .before .passed .ensures .1 in let z = c .before .before .before .before .before .before .before .before .before .before .loop-test .taken in let w = c .before .before .before .before .before .before .before .before .before .before .before .loop .inv .words in let v = c .before .before .before .before .before .before .before .before .before .before .before .loop .inv .few in omega (arith, u, z, w, v)
+
+mul-at : tie.Need-mul-at Inv-loop μ-loop
+mul-at c = let u = c .before .before .before .before .before .before .before .passed .ensures .1 in let z = c .before .before .before .before .before .before .before .before .before .before .loop-test .taken in let w = c .before .before .before .before .before .before .before .before .before .before .before .loop .inv .words in let v = c .before .before .before .before .before .before .before .before .before .before .before .loop .inv .few in omega (arith, u, z, w, v)
+
+mul-t : tie.Need-mul-t Inv-loop μ-loop
+mul-t c = let u = c .before .before .before .before .before .before .before .passed .ensures .1 in let z = c .before .before .before .before .before .before .before .before .before .before .loop-test .taken in let w = c .before .before .before .before .before .before .before .before .before .before .before .loop .inv .words in let v = c .before .before .before .before .before .before .before .before .before .before .before .loop .inv .few in omega (arith, u, z, w, v)
+
+sub-t : tie.Need-sub-t Inv-loop μ-loop
+sub-t c = let u = c .before .before .before .before .before .before .before .passed .ensures .1 in let z = c .before .before .before .before .before .before .before .before .before .before .loop-test .taken in let w = c .before .before .before .before .before .before .before .before .before .before .before .loop .inv .words in let v = c .before .before .before .before .before .before .before .before .before .before .before .loop .inv .few in omega (arith, u, z, w, v)
+
+part-t-start : tie.Need-part-t-start Inv-loop μ-loop
+part-t-start c = let u = c .before .before .before .before .before .before .before .passed .ensures .1 in let z = c .before .before .before .before .before .before .before .before .before .before .loop-test .taken in let w = c .before .before .before .before .before .before .before .before .before .before .before .loop .inv .words in let v = c .before .before .before .before .before .before .before .before .before .before .before .loop .inv .few in omega (arith, u, z, w, v)
+
+part-t-end : tie.Need-part-t-end Inv-loop μ-loop
+part-t-end c = omega arith
+
+add-n : tie.Need-add-n Inv-loop μ-loop
+add-n c = let u = c .before .before .before .before .before .before .before .before .passed .ensures .1 in let z = c .before .before .before .before .before .before .before .before .before .before .before .loop-test .taken in let w = c .before .before .before .before .before .before .before .before .before .before .before .before .loop .inv .words in let v = c .before .before .before .before .before .before .before .before .before .before .before .before .loop .inv .few in omega (arith, u, z, w, v)
+
+sub-n : tie.Need-sub-n Inv-loop μ-loop
+sub-n c = let u = c .before .before .before .before .before .before .before .before .passed .ensures .1 in let z = c .before .before .before .before .before .before .before .before .before .before .before .loop-test .taken in let w = c .before .before .before .before .before .before .before .before .before .before .before .before .loop .inv .words in let v = c .before .before .before .before .before .before .before .before .before .before .before .before .loop .inv .few in omega (arith, u, z, w, v)
 
 enum-known-moved : tie.Need-enum-known-moved Inv-loop μ-loop
 enum-known-moved c = search needs
@@ -122,24 +127,34 @@ of-requires : tie.Need-of-requires Inv-loop μ-loop
 of-requires c κs = search needs
 
 same-length-3 : tie.Need-same-length-3 Inv-loop μ-loop
-same-length-3 c = c .before .before .before .before .before .before .before .before .before .before .before .before .before .before .before .say .kept .1 .1 .1 .1 .1 .1 .0 ∙ c .before .before .before .before .before .before .before .before .before .before .before .before .before .before .before .before .before .before .before .before .before .before .before .before .before .before .loop .inv .long-b
+same-length-3 c = ⊎-elim (λ x. ap length (x .12) ∙ x .4 .kept .1 .1 .1 .1 .1 .1 .0) (λ x. ap length (x .1)) (c .before .before .before .before .before .before .before .before .if1 .came) ∙ c .before .before .before .before .before .before .before .before .before .before .before .before .before .before .before .before .before .loop .inv .long-b
 
 same-length-4 : tie.Need-same-length-4 Inv-loop μ-loop
-same-length-4 c = c .before .before .before .before .before .before .before .before .before .before .before .before .before .before .before .say .kept .1 .1 .1 .1 .1 .1 .1 .0 ∙ c .before .before .before .before .before .before .before .before .before .before .before .before .before .before .before .before .before .before .before .before .before .before .before .before .before .before .loop .inv .long-t
+same-length-4 c = ⊎-elim (λ x. ap length (x .13) ∙ x .4 .kept .1 .1 .1 .1 .1 .1 .1 .0) (λ x. ap length (x .2)) (c .before .before .before .before .before .before .before .before .if1 .came) ∙ c .before .before .before .before .before .before .before .before .before .before .before .before .before .before .before .before .before .loop .inv .long-t
 
 returns-2 : tie.Need-returns-2 Inv-loop μ-loop
-returns-2 c = (turn-refused (c .before .before .before .before .before .before .before .before .before .before .before .before .before .before .before .before .before .before .before .before .before .before .before .before .before .before .loop .inv) (c .before .before .before .before .before .before .before .before .before .before .before .before .before .before .before .before .before .before .before .before .before .before .before .before .before .loop-test .taken) (c .before .before .before .before .before .before .before .before .before .before .before .before .before .before .before .before .before .before .before .before .before .before .before .before .item-at .ensures) (c .before .before .before .before .before .before .before .before .before .before .before .before .before .before .before .before .before .before .before .before .before .before .passed .ensures) (c .before .before .before .before .before .before .before .before .before .before .before .before .before .before .before .before .before .before .before .before .before .deed-of .result) (c .before .before .before .before .before .before .before .before .before .before .before .before .before .before .before .before .before .before .before .before .before .deed-of .ensures .0) (c .before .before .before .before .before .before .before .before .before .before .before .before .before .before .before .before .before .before .before .gave .ensures) _ _ _ (c .before .before .before .before .before .before .before .before .before .before .before .before .before .before .before .say .ensures .0) (c .before .before .before .before .before .before .before .before .before .take .ensures) (c .before .before .before .before .before .laid2 .given .1) (c .before .before .moved .given .1) (c .of .ensures), omega arith)
+returns-2 c =
+    (turn-refused (c .before .before .before .before .before .before .before .before .before .before .before .before .before .before .before .before .before .loop .inv) (c .before .before .before .before .before .before .before .before .before .before .before .before .before .before .before .before .loop-test .taken) (c .before .before .before .before .before .before .before .before .before .before .before .before .before .before .before .item-at .ensures) (c .before .before .before .before .before .before .before .before .before .before .before .before .before .passed .ensures) (c .before .before .before .before .before .before .before .before .before .before .before .before .deed-of .result) (c .before .before .before .before .before .before .before .before .before .before .before .before .deed-of .ensures .0) (c .before .before .before .before .before .before .before .before .before .before .gave .ensures)
+    (⊎-elim
+    (λ x. spoke-some _ _ _ _ _ _ _ (x .4 .result) _ _ (x .4 .ensures .0) (x .4 .ensures .1) (x .4 .kept .1 .1 .1 .1 .1 .1 .0) (x .4 .kept .1 .1 .1 .1 .1 .1 .1 .0) (x .10 .given .1) (x .12) (x .13) (x .14))
+    (λ x. spoke-none _ _ _ _ _ _ _ (c .before .before .before .before .before .before .before .before .before .speaks .ensures (c .before .before .before .before .before .before .before .before .before .before .before .before .before .before .before .before .before .before .before .before .before .before .before .before .before .before .args .source .now)) (x .0 .left) (c .before .before .before .before .before .before .before .before .before .before .before .before .before .before .before .before .before .loop .inv .ready) (x .1) (x .2) (x .3))
+    (c .before .before .before .before .before .before .before .before .if1 .came))
+    (c .before .before .before .before .before .before .take .ensures) (c .before .before .moved .given .1) (c .of .ensures), omega arith)
 
 enum-known-moved-2 : tie.Need-enum-known-moved-2 Inv-loop μ-loop
 enum-known-moved-2 c = search needs
 
 loop-less : tie.Need-loop-less Inv-loop μ-loop
-loop-less c = let u = c .before .before .before .before .before .before .before .before .before .before .before .before .before .before .before .before .before .before .before .before .before .passed .ensures .1 in let z = c .before .before .before .before .before .before .before .before .before .before .before .before .before .before .before .before .before .before .before .before .before .before .before .before .loop-test .taken in let w = c .before .before .before .before .before .before .before .before .before .before .before .before .before .before .before .before .before .before .before .before .before .before .before .before .before .loop .inv .words in let v = c .before .before .before .before .before .before .before .before .before .before .before .before .before .before .before .before .before .before .before .before .before .before .before .before .before .loop .inv .few in omega (arith, u, z, w, v)
+loop-less c = let u = c .before .before .before .before .before .before .before .before .before .before .before .before .passed .ensures .1 in let z = c .before .before .before .before .before .before .before .before .before .before .before .before .before .before .before .loop-test .taken in let w = c .before .before .before .before .before .before .before .before .before .before .before .before .before .before .before .before .loop .inv .words in let v = c .before .before .before .before .before .before .before .before .before .before .before .before .before .before .before .before .loop .inv .few in omega (arith, u, z, w, v)
 
 loop-again : tie.Need-loop-again Inv-loop μ-loop
 loop-again c =
-    turn-on (c .before .before .before .before .before .before .before .before .before .before .before .before .before .before .before .before .before .before .before .before .before .before .before .before .before .loop .inv) (c .before .before .before .before .before .before .before .before .before .before .before .before .before .before .before .before .before .before .before .before .before .before .before .before .loop-test .taken) (c .before .before .before .before .before .before .before .before .before .before .before .before .before .before .before .before .before .before .before .before .before .before .before .item-at .ensures) (c .before .before .before .before .before .before .before .before .before .before .before .before .before .before .before .before .before .before .before .before .before .passed .ensures) (c .before .before .before .before .before .before .before .before .before .before .before .before .before .before .before .before .before .before .before .before .deed-of .result) (c .before .before .before .before .before .before .before .before .before .before .before .before .before .before .before .before .before .before .before .before .deed-of .ensures .0) (c .before .before .before .before .before .before .before .before .before .before .before .before .before .before .before .before .before .before .gave .ensures) _ _ _ (c .before .before .before .before .before .before .before .before .before .before .before .before .before .before .say .ensures .0) (c .before .before .before .before .before .before .before .before .take .ensures) (c .before .before .before .before .laid2 .given .1) (c .before .moved2 .given .1) (c .before .before .before .before .before .before .before .before .before .before .before .before .before .before .say .ensures .1)
-    (c .before .before .before .before .before .before .before .before .before .before .before .before .before .before .say .kept .1 .1 .1 .1 .1 .1 .0) (c .before .before .before .before .before .before .before .before .before .before .before .before .before .before .say .kept .1 .1 .1 .1 .1 .1 .1 .0)
+    turn-on (c .before .before .before .before .before .before .before .before .before .before .before .before .before .before .before .before .loop .inv) (c .before .before .before .before .before .before .before .before .before .before .before .before .before .before .before .loop-test .taken) (c .before .before .before .before .before .before .before .before .before .before .before .before .before .before .item-at .ensures) (c .before .before .before .before .before .before .before .before .before .before .before .before .passed .ensures) (c .before .before .before .before .before .before .before .before .before .before .before .deed-of .result) (c .before .before .before .before .before .before .before .before .before .before .before .deed-of .ensures .0) (c .before .before .before .before .before .before .before .before .before .gave .ensures)
+    (⊎-elim
+    (λ x. spoke-some _ _ _ _ _ _ _ (x .4 .result) _ _ (x .4 .ensures .0) (x .4 .ensures .1) (x .4 .kept .1 .1 .1 .1 .1 .1 .0) (x .4 .kept .1 .1 .1 .1 .1 .1 .1 .0) (x .10 .given .1) (x .12) (x .13) (x .14))
+    (λ x. spoke-none _ _ _ _ _ _ _ (c .before .before .before .before .before .before .before .before .speaks .ensures (c .before .before .before .before .before .before .before .before .before .before .before .before .before .before .before .before .before .before .before .before .before .before .before .before .before .args .source .now)) (x .0 .left) (c .before .before .before .before .before .before .before .before .before .before .before .before .before .before .before .before .loop .inv .ready) (x .1) (x .2) (x .3))
+    (c .before .before .before .before .before .before .before .if1 .came))
+    (c .before .before .before .before .before .take .ensures) (c .before .moved2 .given .1)
 
 finish-requires : tie.Need-finish-requires Inv-loop μ-loop
 finish-requires c κs = (c .before .before .before .before .loop .inv .deep, c .before .before .before .before .loop .inv .all, c .before .before .before .before .loop .inv .ready)
@@ -174,7 +189,13 @@ lay-body-spec =
     passed-requires
     deed-of-requires
     gave-requires
+    speaks-requires
     say-requires
+    enum-known-laid
+    same-length
+    same-length-2
+    returns
+    enum-known-laid-2
     take-requires
     add-at
     mul-at
@@ -184,11 +205,6 @@ lay-body-spec =
     part-t-end
     add-n
     sub-n
-    enum-known-laid
-    same-length
-    same-length-2
-    returns
-    enum-known-laid-2
     enum-known-moved
     of-requires
     same-length-3
