@@ -173,9 +173,10 @@ ending-sound Paragraphs = tt
 resets-fit : (f n : ℕ) → f + n ≤ field.kind → All Fits (resets f n)
 unfolding resets
 resets-fit f zero l = tt
-resets-fit f (suc n) l =
-    ((below-at freshRow limits (fresh-sound .below) f, ne-eqb field.kind f (λ e. omega arith), ne-eqb field.line f (λ e. omega arith)),
-    resets-fit (suc f) n (omega (arith, l)))
+resets-fit f (suc n) l = (
+  (below-at freshRow limits (fresh-sound .below) f, ne-eqb field.kind f (λ e. omega arith), ne-eqb field.line f (λ e. omega arith)),
+  resets-fit (suc f) n (omega (arith, l)),
+)
 
 -- `plain`
 painter-resets : SoundEffect (sets (resets field.colour field.painterWidth))
