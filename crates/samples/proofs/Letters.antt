@@ -2,7 +2,6 @@
 use mathlib.Core.Path.{_≡_, refl}
 use mathlib.Core.List.{List, [], _∷_}
 use mathlib.Core.Bool.{Bool, true, _&&_}
-use Prim.Native.Nat.{ℕ}
 use lib.ListN.{length}
 use lib.Dec.{eqb}
 use Rattle.answers.specs.Answers.{Found, found, refused}
@@ -10,7 +9,7 @@ use Rattle.bytes.specs.Bytes.{lead, body, any}
 use Rattle.bytes.specs.Texts.{bytesOf}
 use Rattle.names.specs.Names.{sameBytes, placeIn, wordNumber}
 use Rattle.numbers.specs.Numbers.{hexDigit, hexPair, digitsFrom, digits, decimal}
-use Rattle.rooms.specs.Streams.{andThen, each, answer, items, ended}
+use Rattle.rooms.specs.Streams.{andThen, each, items, ended}
 use Rattle.rooms.specs.Rooms.{settled, tableLimit}
 use Rattle.slices.specs.Slices.{split, slices}
 use Rattle.tokens.specs.Tokens.{recordOf, shownBy}

@@ -10,7 +10,7 @@ use Rattle.bytes.specs.Bytes.{lead, body, any}
 use Rattle.bytes.specs.Texts.{bytesOf}
 use Rattle.names.specs.Names.{sameBytes, placeIn, wordNumber}
 use Rattle.numbers.specs.Numbers.{hexDigit, hexPair, digitsFrom, digits, decimal}
-use Rattle.rooms.specs.Streams.{andThen, each, answer, items, ended}
+use Rattle.rooms.specs.Streams.{andThen, each, items, ended}
 use Rattle.rooms.specs.Rooms.{settled, tableLimit}
 use Rattle.slices.specs.Slices.{split, slices}
 use Rattle.tokenize.specs.Tokenize.{mark, plain, hexValue, hexEscape, lineBreakAnd, shownWord, numbered, named, bareLength}
