@@ -75,7 +75,14 @@ pub fn gave(states: &[[u32; WIDTH]; STATES], depth: usize, run: Run, deed: Deed)
 }
 
 // Text in the state at place d.
-fn lay(states: &[[u32; WIDTH]; STATES], d: usize, bytes: &[u8], page: Page, blocks: &mut [u32], text: &mut [u8]) -> Laid
+fn lay(
+    states: &[[u32; WIDTH]; STATES],
+    d: usize,
+    bytes: &[u8],
+    page: Page,
+    blocks: &mut [u32],
+    text: &mut [u8],
+) -> Laid
     requires { ⌜ (d < stackLimit) × (length (now states) ≡ stackLimit) × Ready page (length (now blocks)) (length (now text)) ⌝ }
     ensures { λ r. ⌜ told r (now (blocks .exit)) (now (text .exit)) ≡ addOf page (styleOf (getD (now (states .entry)) d [])) (now (bytes .entry)) (now (blocks .entry)) (now (text .entry)) ⌝ }
     ensures { λ r. ⌜ Still r (length (now (blocks .entry))) (length (now (text .entry))) ⌝ }
@@ -85,7 +92,15 @@ fn lay(states: &[[u32; WIDTH]; STATES], d: usize, bytes: &[u8], page: Page, bloc
 }
 
 // A scalar value, if there is one.
-fn lay_value(states: &[[u32; WIDTH]; STATES], d: usize, some: bool, value: u32, page: Page, blocks: &mut [u32], text: &mut [u8]) -> Laid
+fn lay_value(
+    states: &[[u32; WIDTH]; STATES],
+    d: usize,
+    some: bool,
+    value: u32,
+    page: Page,
+    blocks: &mut [u32],
+    text: &mut [u8],
+) -> Laid
     requires { ⌜ (d < stackLimit) × (length (now states) ≡ stackLimit) × Ready page (length (now blocks)) (length (now text)) ⌝ }
     ensures { λ r. ⌜ told r (now (blocks .exit)) (now (text .exit)) ≡ laidAll (on page (now (blocks .entry)) (now (text .entry))) (spoken rows (getD (now (states .entry)) d []) (writtenAll (valueIf some value))) ⌝ }
     ensures { λ r. ⌜ Still r (length (now (blocks .entry))) (length (now (text .entry))) ⌝ }
@@ -99,7 +114,14 @@ fn lay_value(states: &[[u32; WIDTH]; STATES], d: usize, some: bool, value: u32, 
 }
 
 // What a run gave: a lost surrogate, and then a value.
-fn lay_values(states: &[[u32; WIDTH]; STATES], d: usize, g: Gave, page: Page, blocks: &mut [u32], text: &mut [u8]) -> Laid
+fn lay_values(
+    states: &[[u32; WIDTH]; STATES],
+    d: usize,
+    g: Gave,
+    page: Page,
+    blocks: &mut [u32],
+    text: &mut [u8],
+) -> Laid
     requires { ⌜ (d < stackLimit) × (length (now states) ≡ stackLimit) × Ready page (length (now blocks)) (length (now text)) ⌝ }
     ensures { λ r. ⌜ told r (now (blocks .exit)) (now (text .exit)) ≡ laidAll (on page (now (blocks .entry)) (now (text .entry))) (spoken rows (getD (now (states .entry)) d []) (writtenAll (values g))) ⌝ }
     ensures { λ r. ⌜ Still r (length (now (blocks .entry))) (length (now (text .entry))) ⌝ }
@@ -112,7 +134,14 @@ fn lay_values(states: &[[u32; WIDTH]; STATES], d: usize, g: Gave, page: Page, bl
 }
 
 // A character that a word writes.
-fn lay_act(states: &[[u32; WIDTH]; STATES], d: usize, act: Act, page: Page, blocks: &mut [u32], text: &mut [u8]) -> Laid
+fn lay_act(
+    states: &[[u32; WIDTH]; STATES],
+    d: usize,
+    act: Act,
+    page: Page,
+    blocks: &mut [u32],
+    text: &mut [u8],
+) -> Laid
     requires { ⌜ (d < stackLimit) × (length (now states) ≡ stackLimit) × Ready page (length (now blocks)) (length (now text)) ⌝ }
     ensures { λ r. ⌜ told r (now (blocks .exit)) (now (text .exit)) ≡ laidAll (on page (now (blocks .entry)) (now (text .entry))) (spoken rows (getD (now (states .entry)) d []) (textsOf (doing (meaning act)))) ⌝ }
     ensures { λ r. ⌜ Still r (length (now (blocks .entry))) (length (now (text .entry))) ⌝ }
@@ -129,7 +158,15 @@ fn lay_act(states: &[[u32; WIDTH]; STATES], d: usize, act: Act, page: Page, bloc
 }
 
 // A token's own text.
-fn lay_text(source: &[u8], states: &[[u32; WIDTH]; STATES], d: usize, deed: Deed, page: Page, blocks: &mut [u32], text: &mut [u8]) -> Laid
+fn lay_text(
+    source: &[u8],
+    states: &[[u32; WIDTH]; STATES],
+    d: usize,
+    deed: Deed,
+    page: Page,
+    blocks: &mut [u32],
+    text: &mut [u8],
+) -> Laid
     requires { ⌜ (d < stackLimit) × (length (now states) ≡ stackLimit) × Ready page (length (now blocks)) (length (now text)) ⌝ }
     ensures { λ r. ⌜ told r (now (blocks .exit)) (now (text .exit)) ≡ laidAll (on page (now (blocks .entry)) (now (text .entry))) (spoken rows (getD (now (states .entry)) d []) (textsOf (deedBy (now (source .entry)) deed))) ⌝ }
     ensures { λ r. ⌜ Still r (length (now (blocks .entry))) (length (now (text .entry))) ⌝ }

@@ -24,8 +24,18 @@ module _ (w : ℕ) where
   unfolding painterWord
   no-painter num x a b c d e f g h i j k l =
       rw (
-        ne-eqb w 11 a, ne-eqb w 9 b, ne-eqb w 10 c, ne-eqb w 13 d, ne-eqb w 12 e, ne-eqb w 14 f, ne-eqb w 16 g, ne-eqb w 17 h, ne-eqb w 18 i,
-        ne-eqb w 19 j, ne-eqb w 15 k, ne-eqb w 23 l,
+        ne-eqb w 11 a,
+        ne-eqb w 9 b,
+        ne-eqb w 10 c,
+        ne-eqb w 13 d,
+        ne-eqb w 12 e,
+        ne-eqb w 14 f,
+        ne-eqb w 16 g,
+        ne-eqb w 17 h,
+        ne-eqb w 18 i,
+        ne-eqb w 19 j,
+        ne-eqb w 15 k,
+        ne-eqb w 23 l,
       )
 
   pub no-paragraph : (num : Property) (x : Effect) → Not w 21 → Not w 35 → Not w 33 → Not w 34 → Not w 36 → Not w 25 → Not w 3 → Not w 26 → Not w 27 → Not w 29
@@ -33,15 +43,32 @@ module _ (w : ℕ) where
   unfolding paragraphWord
   no-paragraph num x a b c d e f g h i j k =
       rw (
-        ne-eqb w 21 a, ne-eqb w 35 b, ne-eqb w 33 c, ne-eqb w 34 d, ne-eqb w 36 e, ne-eqb w 25 f, ne-eqb w 3 g, ne-eqb w 26 h, ne-eqb w 27 i,
-        ne-eqb w 29 j, ne-eqb w 28 k,
+        ne-eqb w 21 a,
+        ne-eqb w 35 b,
+        ne-eqb w 33 c,
+        ne-eqb w 34 d,
+        ne-eqb w 36 e,
+        ne-eqb w 25 f,
+        ne-eqb w 3 g,
+        ne-eqb w 26 h,
+        ne-eqb w 27 i,
+        ne-eqb w 29 j,
+        ne-eqb w 28 k,
       )
 
   pub no-character : (x : Effect) → Not w 40 → Not w 41 → Not w 42 → Not w 43 → Not w 44 → Not w 45 → Not w 46 → Not w 47 → Not w 48 → characterWord w x ≡ x
   unfolding characterWord
   no-character x a b c d e f g h i =
       rw (
-        ne-eqb w 40 a, ne-eqb w 41 b, ne-eqb w 42 c, ne-eqb w 43 d, ne-eqb w 44 e, ne-eqb w 45 f, ne-eqb w 46 g, ne-eqb w 47 h, ne-eqb w 48 i,
+        ne-eqb w 40 a,
+        ne-eqb w 41 b,
+        ne-eqb w 42 c,
+        ne-eqb w 43 d,
+        ne-eqb w 44 e,
+        ne-eqb w 45 f,
+        ne-eqb w 46 g,
+        ne-eqb w 47 h,
+        ne-eqb w 48 i,
       )
 
   pub no-ending : (rd : Reading) (x : Effect) → Not w 20 → endingWord rd w x ≡ x

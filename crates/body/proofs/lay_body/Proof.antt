@@ -133,13 +133,15 @@ same-length-4 : tie.Need-same-length-4 Inv-loop μ-loop
 same-length-4 c = ⊎-elim (λ x. ap length (x .13) ∙ x .4 .kept .1 .1 .1 .1 .1 .1 .1 .0) (λ x. ap length (x .2)) (c .before .before .before .before .before .before .before .before .if1 .came) ∙ c .before .before .before .before .before .before .before .before .before .before .before .before .before .before .before .before .before .loop .inv .long-t
 
 returns-2 : tie.Need-returns-2 Inv-loop μ-loop
-returns-2 c =
-    (turn-refused (c .before .before .before .before .before .before .before .before .before .before .before .before .before .before .before .before .before .loop .inv) (c .before .before .before .before .before .before .before .before .before .before .before .before .before .before .before .before .loop-test .taken) (c .before .before .before .before .before .before .before .before .before .before .before .before .before .before .before .item-at .ensures) (c .before .before .before .before .before .before .before .before .before .before .before .before .before .passed .ensures) (c .before .before .before .before .before .before .before .before .before .before .before .before .deed-of .result) (c .before .before .before .before .before .before .before .before .before .before .before .before .deed-of .ensures .0) (c .before .before .before .before .before .before .before .before .before .before .gave .ensures)
-    (⊎-elim
-    (λ x. spoke-some _ _ _ _ _ _ _ (x .4 .result) _ _ (x .4 .ensures .0) (x .4 .ensures .1) (x .4 .kept .1 .1 .1 .1 .1 .1 .0) (x .4 .kept .1 .1 .1 .1 .1 .1 .1 .0) (x .10 .given .1) (x .12) (x .13) (x .14))
-    (λ x. spoke-none _ _ _ _ _ _ _ (c .before .before .before .before .before .before .before .before .before .speaks .ensures (c .before .before .before .before .before .before .before .before .before .before .before .before .before .before .before .before .before .before .before .before .before .before .before .before .before .before .args .source .now)) (x .0 .left) (c .before .before .before .before .before .before .before .before .before .before .before .before .before .before .before .before .before .loop .inv .ready) (x .1) (x .2) (x .3))
-    (c .before .before .before .before .before .before .before .before .if1 .came))
-    (c .before .before .before .before .before .before .take .ensures) (c .before .before .moved .given .1) (c .of .ensures), omega arith)
+returns-2 c = (
+  turn-refused (c .before .before .before .before .before .before .before .before .before .before .before .before .before .before .before .before .before .loop .inv) (c .before .before .before .before .before .before .before .before .before .before .before .before .before .before .before .before .loop-test .taken) (c .before .before .before .before .before .before .before .before .before .before .before .before .before .before .before .item-at .ensures) (c .before .before .before .before .before .before .before .before .before .before .before .before .before .passed .ensures) (c .before .before .before .before .before .before .before .before .before .before .before .before .deed-of .result) (c .before .before .before .before .before .before .before .before .before .before .before .before .deed-of .ensures .0) (c .before .before .before .before .before .before .before .before .before .before .gave .ensures)
+      (⊎-elim
+      (λ x. spoke-some _ _ _ _ _ _ _ (x .4 .result) _ _ (x .4 .ensures .0) (x .4 .ensures .1) (x .4 .kept .1 .1 .1 .1 .1 .1 .0) (x .4 .kept .1 .1 .1 .1 .1 .1 .1 .0) (x .10 .given .1) (x .12) (x .13) (x .14))
+      (λ x. spoke-none _ _ _ _ _ _ _ (c .before .before .before .before .before .before .before .before .before .speaks .ensures (c .before .before .before .before .before .before .before .before .before .before .before .before .before .before .before .before .before .before .before .before .before .before .before .before .before .before .args .source .now)) (x .0 .left) (c .before .before .before .before .before .before .before .before .before .before .before .before .before .before .before .before .before .loop .inv .ready) (x .1) (x .2) (x .3))
+      (c .before .before .before .before .before .before .before .before .if1 .came))
+      (c .before .before .before .before .before .before .take .ensures) (c .before .before .moved .given .1) (c .of .ensures),
+  omega arith,
+)
 
 enum-known-moved-2 : tie.Need-enum-known-moved-2 Inv-loop μ-loop
 enum-known-moved-2 c = search needs
@@ -166,9 +168,10 @@ same-length-6 : tie.Need-same-length-6 Inv-loop μ-loop
 same-length-6 c = c .before .before .before .before .finish .kept .1 .1 .1 .1 .1 .0 ∙ c .before .before .before .before .before .before .before .before .before .loop .inv .long-t
 
 returns-3 : tie.Need-returns-3 Inv-loop μ-loop
-returns-3 c =
-    (loop-end (c .before .before .before .before .before .before .before .before .before .loop .inv) (c .before .before .before .before .before .before .before .before .loop-test .left) (c .before .before .before .before .finish .ensures .0),
-    rw (c .before .before .before .before .before .before .before .before .before .loop .inv .long-b, c .before .before .before .before .before .before .before .before .before .loop .inv .long-t) at (c .before .before .before .before .finish .ensures .1))
+returns-3 c = (
+  loop-end (c .before .before .before .before .before .before .before .before .before .loop .inv) (c .before .before .before .before .before .before .before .before .loop-test .left) (c .before .before .before .before .finish .ensures .0),
+  rw (c .before .before .before .before .before .before .before .before .before .loop .inv .long-b, c .before .before .before .before .before .before .before .before .before .loop .inv .long-t) at (c .before .before .before .before .finish .ensures .1),
+)
 
 pub lay-body-spec : {M : Type 1} → statement M
 lay-body-spec =

@@ -39,9 +39,10 @@ same-length-4 c = search needs
 
 returns-2 : tie.Need-returns-2
 returns-2 c =
-    let first = c .before .before .before .before .before .before .before .before .before .before .before .before .before .before .lay-value in
-    (values-on _ _ (c .before .before .before .before .before .before .before .before .before .before .before .before .before .before .before .before .before .before .before .args .g) _ _ _ (first .ensures .0) (c .before .before .before .before .before .before .before .before .first2 .given .1) (c .before .before .before .before .lay-value2 .ensures .0),
-    rw (first .kept .1 .1 .1 .1 .1 .0, first .kept .1 .1 .1 .1 .1 .1 .0) at (c .before .before .before .before .lay-value2 .ensures .1))
+    let first = c .before .before .before .before .before .before .before .before .before .before .before .before .before .before .lay-value in (
+      values-on _ _ (c .before .before .before .before .before .before .before .before .before .before .before .before .before .before .before .before .before .before .before .args .g) _ _ _ (first .ensures .0) (c .before .before .before .before .before .before .before .before .first2 .given .1) (c .before .before .before .before .lay-value2 .ensures .0),
+      rw (first .kept .1 .1 .1 .1 .1 .0, first .kept .1 .1 .1 .1 .1 .1 .0) at (c .before .before .before .before .lay-value2 .ensures .1),
+    )
 
 pub lay-values-spec : {M : Type 1} → statement M
 lay-values-spec =

@@ -49,9 +49,10 @@ same-length-4 c = search needs
 
 returns-3 : tie.Need-returns-3
 returns-3 c =
-    let first = c .before .before .before .before .before .before .before .before .before .before .before .before .before .before .lay-values in
-    (said-on _ _ _ _ _ (ne-pos (c .before .before .before .before .before .before .before .before .before .before .before .before .before .before .before .before .before .before .before .if1 .left)) _ _ _ (first .ensures .0) (c .before .before .before .before .before .before .before .before .given2 .given .1) (c .before .before .before .before .lay-text .ensures .0),
-    rw (first .kept .1 .1 .1 .1 .0, first .kept .1 .1 .1 .1 .1 .0) at (c .before .before .before .before .lay-text .ensures .1))
+    let first = c .before .before .before .before .before .before .before .before .before .before .before .before .before .before .lay-values in (
+      said-on _ _ _ _ _ (ne-pos (c .before .before .before .before .before .before .before .before .before .before .before .before .before .before .before .before .before .before .before .if1 .left)) _ _ _ (first .ensures .0) (c .before .before .before .before .before .before .before .before .given2 .given .1) (c .before .before .before .before .lay-text .ensures .0),
+      rw (first .kept .1 .1 .1 .1 .0, first .kept .1 .1 .1 .1 .1 .0) at (c .before .before .before .before .lay-text .ensures .1),
+    )
 
 lay-text-requires-2 : tie.Need-lay-text-requires-2
 lay-text-requires-2 c κs = (omega arith, c .before .before .before .before .before .before .before .before .pre .1, c .before .before .before .before .before .before .before .before .pre .2)
