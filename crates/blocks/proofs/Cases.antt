@@ -2,7 +2,6 @@
 -- Assumes nothing.
 use mathlib.Core.Path.{_≡_, refl}
 use mathlib.Core.List.{List, [], _∷_}
-use mathlib.Core.Bool.{true}
 use Prim.Native.Nat.{ℕ}
 use lib.ListN.{replicate}
 use Rattle.answers.specs.declared.Why.the-variants.{BlockRoom, TextRoom}
@@ -10,8 +9,9 @@ use Rattle.answers.specs.Answers.{refusal}
 use Rattle.rooms.specs.Streams.{end, stop, _▸_}
 use Rattle.rooms.specs.Rooms.{put}
 use Rattle.styles.specs.declared.Style.{Style}
+use Rattle.styles.specs.Styles.{styleAt}
 use Rattle.blocks.specs.Pages.{Piece, piece, blocksFrom, blocks, blockRecord, records, none, roomy}
-use Rattle.blocks.specs.Laying.{on, off, blank, startOf, appendOf, addOf, layAll}
+use Rattle.blocks.specs.Laying.{on, off, blank, styleIn, startOf, appendOf, addOf, layAll}
 
 -- a style by its size
 abbrev sized : ℕ → Style
@@ -75,15 +75,15 @@ byte-too-many : roomy 1 2 none (a (65 ∷ []) ▸ a (66 ∷ 67 ∷ []) ▸ end) 
 unfolding roomy
 byte-too-many = refl
 
--- laid into rooms of two records and three bytes: the first block's record is written, the second block is open
+-- laid into rooms of two records and three bytes: the second block's length has grown with its text
 laid : layAll (on blank (replicate 26 0) (0 ∷ 0 ∷ 0 ∷ [])) (a (65 ∷ []) ▸ b (66 ∷ []) ▸ b (67 ∷ []) ▸ end)
-    ≡ on (record { blocks = 1; text = 3; begun = true; style = sized 24; from = 1 })
-    (0 ∷ 0 ∷ 12 ∷ 0 ∷ 0 ∷ 0 ∷ 0 ∷ 0 ∷ 0 ∷ 0 ∷ 0 ∷ 0 ∷ 1 ∷ 0 ∷ 0 ∷ 0 ∷ 0 ∷ 0 ∷ 0 ∷ 0 ∷ 0 ∷ 0 ∷ 0 ∷ 0 ∷ 0 ∷ 0 ∷ [])
+    ≡ on (record { blocks = 2; text = 3; from = 1 })
+    (0 ∷ 0 ∷ 12 ∷ 0 ∷ 0 ∷ 0 ∷ 0 ∷ 0 ∷ 0 ∷ 0 ∷ 0 ∷ 0 ∷ 1 ∷ 0 ∷ 0 ∷ 24 ∷ 0 ∷ 0 ∷ 0 ∷ 0 ∷ 0 ∷ 0 ∷ 0 ∷ 0 ∷ 1 ∷ 2 ∷ [])
     (65 ∷ 66 ∷ 67 ∷ [])
-unfolding layAll addOf startOf appendOf put blockRecord
+unfolding layAll addOf startOf appendOf put blockRecord styleIn styleAt
 laid = refl
 
 -- a room of a record and a half holds one
 half-record : layAll (on blank (replicate 25 0) (0 ∷ 0 ∷ 0 ∷ [])) (a (65 ∷ []) ▸ b (66 ∷ []) ▸ end) ≡ off (refusal BlockRoom)
-unfolding layAll addOf startOf appendOf put blockRecord
+unfolding layAll addOf startOf appendOf put blockRecord styleIn styleAt
 half-record = refl

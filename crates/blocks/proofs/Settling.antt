@@ -4,17 +4,18 @@
 --     meets-.., settle         where a block is open: rooms that hold what came before hold the next blocks behind it
 --     begins                   the same from two rooms on
 --     lay-refuses, lay-joins   by how the laying ends
---     Filled, joined-filled    rooms that are finished and cleared behind what they hold
---     blocks-small, count-words   a page's blocks fit their room
+--     Filled, joined-filled    rooms that are cleared behind what they hold
+--     count-words              the words of a page's blocks fit their room
 -- Assumes nothing.
 use mathlib.Core.Path.{_≡_, refl, sym, ap, _∙_}
 use mathlib.Core.List.{List, [], _++_, append-nil, append-assoc}
-use mathlib.Core.Bool.{Bool, true, false}
+use mathlib.Core.Bool.{Bool, true, false, not}
 use Prim.Native.Nat.{ℕ, suc, _+_, _-_, _*_, _<_, _≤_}
 use native.Mathlib.Nat.{div-mul-le-self, mul-le-mul-right, le-trans}
+use native.Mathlib.Numerals.{add-one}
 use native.Mathlib.Omega.{arith}
 use borrow.Author.Tests.{lt-ltb, le-ltb, ltb-true, ltb-false, eq-eqb, ne-eqb, eqb-true, eqb-false}
-use lib.ListN.{length, take, drop, replicate, length-append}
+use lib.ListN.{length, take, drop, replicate, length-append, length-set}
 use lib.Seq.{sets, sets-eq, length-sets, length-take-le, take-at}
 use lib.Dec.{ltb, eqb}
 use Rattle.answers.specs.declared.Refusal.{Refusal}
@@ -28,11 +29,12 @@ use Rattle.rooms.proofs.Clearing.{filled-front}
 use Rattle.styles.specs.declared.Style.{Style}
 use Rattle.styles.specs.Styles.{sameStyle}
 use Rattle.blocks.specs.declared.Page.{Page}
-use Rattle.blocks.specs.Pages.{Piece, blockWords, blockRecord, records, textCapacity, textOf, blocks, blocksFrom, none, last, roomy}
-use Rattle.blocks.specs.Laying.{Laying, on, off, blank, lastPut, blockCount, startOf, addOf, layAll, Ready}
-use Rattle.blocks.proofs.Writing.{cap-le, start-same, start-new, start-full, append-full, append-more}
+use Rattle.blocks.specs.Pages.{Piece, blockWords, blockRecord, records, textCapacity, textOf, blocks, blocksFrom, none, last, starts, roomy}
+use Rattle.blocks.specs.Laying.{Laying, on, off, blank, lastIn, longer, measured, startOf, addOf, layAll, Ready}
+use Rattle.blocks.proofs.Writing.{twice, cap-le, start-same, start-new, start-full, append-full, append-more}
 use Rattle.blocks.proofs.Blocks.{sameStyle-eq, length-record, length-records}
-use Rattle.blocks.proofs.Laying.{lay-off, length-last, ready-count}
+use Rattle.blocks.proofs.Records.{style-last, record-grown}
+use Rattle.blocks.proofs.Laying.{lay-off}
 
 -- words behind what stands before them
 sets-take : (l : List ℕ) (i : ℕ) (vs : List ℕ) → i + length vs ≤ length l → take (i + length vs) (sets l i vs) ≡ take i l ++ vs
@@ -46,76 +48,78 @@ put-take b k ws h l =
     let n : (k + 1) * blockWords ≡ k * blockWords + length ws = omega arith in
     rw (← put-in blockWords b k ws h, n) (sets-take b (k * blockWords) ws (omega arith))
 
--- a page whose last block is open
-abbrev page : ℕ → ℕ → Style → ℕ → Page
-page k n st f = record { blocks = k; text = n; begun = true; style = st; from = f }
+-- a page with an open block behind k others
+abbrev page : ℕ → ℕ → ℕ → Page
+page k n f = record { blocks = k + 1; text = n; from = f }
 
--- where a block is open: room for B blocks and C bytes is left; W is written, P is the text before the open block, D its text
-record Going (w v B C k n f : ℕ) (W P D b t : List ℕ) : Type 0 where
+-- room for B blocks and C bytes is left; W are the records before the open block's, P the text before its text D
+record Going (w v B C k n f : ℕ) (st : Style) (W P D b t : List ℕ) : Type 0 where
   wide : length b ≡ w
   long : length t ≡ v
   left : B + (k + 1) ≡ capacity blockWords w
   room : C + n ≡ textCapacity v
   front : length P ≡ f
   behind : f + length D ≡ n
-  written : take (k * blockWords) b ≡ W
+  before : length W ≡ k * blockWords
+  written : take ((k + 1) * blockWords) b ≡ W ++ blockRecord st f (length D)
   text : take n t ≡ P ++ D
 
-module _ {w v B C k n f : ℕ} {W P D b t : List ℕ} (g : Going w v B C k n f W P D b t) where
+module _ {w v B C k n f : ℕ} {st : Style} {W P D b t : List ℕ} (g : Going w v B C k n f st W P D b t) where
   cap-left : textCapacity (length t) - n ≡ C
   cap-left = rw (g .long) (omega (arith, g .room))
 
-  text-in : (c : List ℕ) → length c ≤ C → n + length c ≤ length t
-  text-in c h = let l = cap-le v in omega (arith, g .room, g .long, h, l .0)
+  last-style : lastIn b (k + 1) ≡ last st
+  last-style = rw (add-one k) (ap last (style-last W b k st f (length D) (g .before) (g .written)))
 
-  text-more : (c : List ℕ) → length c ≤ C → take (n + length c) (sets t n c) ≡ P ++ D ++ c
-  text-more c h = sets-take t n c (text-in c h) ∙ rw (g .text)
+  joins : (s : Style) (x : Bool) → sameStyle st s ≡ x → x ≡ not (starts (lastIn b (k + 1)) s)
+  joins s x e = rw last-style (sym e ∙ twice (sameStyle st s))
 
-  going-same : (c : List ℕ) → length c ≤ C → Going w v B (C - length c) k (n + length c) f W P (D ++ c) b (sets t n c)
-  going-same c h = record {
-    wide = g .wide;
-    long = length-sets t n c ∙ g .long;
-    left = g .left;
-    room = omega (arith, g .room, h);
-    front = g .front;
-    behind = rw (length-append D c) (omega (arith, g .behind));
-    written = g .written;
-    text = text-more c h ∙ append-assoc P D c;
-  }
+  -- text goes behind the text
+  going-same : (c : List ℕ) → length c ≤ C
+      → Going w v B (C - length c) k (n + length c) f st W P (D ++ c) (measured (page k (n + length c) f) b) (sets t n c)
+  going-same c h =
+      let l = cap-le v in
+      let e : n + length c - f ≡ length (D ++ c) = rw (length-append D c) (omega (arith, g .behind)) in
+      record {
+        wide = length-set b ((k + 1) * blockWords - 1) (n + length c - f) ∙ g .wide;
+        long = length-sets t n c ∙ g .long;
+        left = g .left;
+        room = omega (arith, g .room, h);
+        front = g .front;
+        behind = rw (length-append D c) (omega (arith, g .behind));
+        before = g .before;
+        written = record-grown W b k st f (length D) (g .before) (g .written) (n + length c - f) ∙ rw e;
+        text = sets-take t n c (omega (arith, g .room, g .long, h, l .0)) ∙ rw (g .text) (append-assoc P D c);
+      }
 
-  words-more : (st : Style) → take ((k + 1) * blockWords) (put blockWords b k (blockRecord st f (n - f))) ≡ W ++ blockRecord st f (length D)
-  words-more st =
-      let e : n - f ≡ length D = omega (arith, g .behind) in
-      put-take b k (blockRecord st f (n - f)) (rw (g .wide) (omega (arith, g .left))) (length-record st f (n - f)) ∙ rw (g .written, e)
-
-  going-new : (st : Style) (c : List ℕ) → 0 < B → length c ≤ C
-      → Going w v (B - 1) (C - length c) (k + 1) (n + length c) n (W ++ blockRecord st f (length D)) (P ++ D) c
-      (put blockWords b k (blockRecord st f (n - f))) (sets t n c)
-  going-new st c l h = record {
-    wide = length-put blockWords b k (blockRecord st f (n - f)) ∙ g .wide;
-    long = length-sets t n c ∙ g .long;
+  -- a block starts, without text as yet
+  going-new : (s : Style) → 0 < B
+      → Going w v (B - 1) C (k + 1) n n s (W ++ blockRecord st f (length D)) (P ++ D) [] (put blockWords b (k + 1) (blockRecord s n 0)) t
+  going-new s l = record {
+    wide = length-put blockWords b (k + 1) (blockRecord s n 0) ∙ g .wide;
+    long = g .long;
     left = omega (arith, g .left, l);
-    room = omega (arith, g .room, h);
+    room = g .room;
     front = length-append P D ∙ rw (g .front) (g .behind);
-    behind = refl;
-    written = words-more st;
-    text = text-more c h;
+    behind = omega arith;
+    before = length-append W (blockRecord st f (length D)) ∙ rw (g .before, length-record st f (length D)) (omega arith);
+    written = put-take b (k + 1) (blockRecord s n 0) (rw (g .wide) (omega (arith, g .left, l))) (length-record s n 0) ∙ rw (g .written);
+    text = g .text ∙ sym (append-nil (P ++ D));
   }
 
-going-first : (b t c : List ℕ) → 0 < capacity blockWords (length b) → length c ≤ textCapacity (length t)
-    → Going (length b) (length t) (capacity blockWords (length b) - 1) (textCapacity (length t) - length c) 0 (0 + length c) 0 [] [] c b (sets t 0 c)
-going-first b t c l h =
-    let k = cap-le (length t) in
-    record {
-      wide = refl;
-      long = length-sets t 0 c;
-      left = omega (arith, l);
-      room = omega (arith, h);
-      front = refl;
-      behind = refl;
-      written = refl;
-      text = sets-take t 0 c (omega (arith, h, k .0));
-    }
+going-first : (b t : List ℕ) (s : Style) → 0 < capacity blockWords (length b)
+    → Going (length b) (length t) (capacity blockWords (length b) - 1) (textCapacity (length t)) 0 0 0 s [] [] [] (put blockWords b 0 (blockRecord s 0 0)) t
+going-first b t s l = record {
+  wide = length-put blockWords b 0 (blockRecord s 0 0);
+  long = refl;
+  left = omega (arith, l);
+  room = omega arith;
+  front = refl;
+  behind = refl;
+  before = refl;
+  written = put-take b 0 (blockRecord s 0 0) l (length-record s 0 0);
+  text = refl;
+}
 
 -- the next piece, by whether it starts a block and finds room
 module _ (B C : ℕ) (st : Style) (x : Piece) (s : Stream Refusal Piece) where
@@ -163,8 +167,7 @@ module _ (p q : Page) (s : Style) (c b b′ t : List ℕ) (e : on q b′ t ≡ s
   then-over h = rw (← e) (sym (append-full q c b′ t refl h refl))
 
   then-fits : length c ≤ textCapacity (length t) - q .text
-      → addOf p s c b t
-      ≡ on (record { blocks = q .blocks; text = q .text + length c; begun = q .begun; style = q .style; from = q .from }) b′ (sets t (q .text) c)
+      → addOf p s c b t ≡ on (longer q (length c)) (measured (longer q (length c)) b′) (sets t (q .text) c)
   unfolding addOf
   then-fits h = rw (← e) (sym (append-more q c b′ t refl h refl))
 
@@ -174,13 +177,13 @@ then-full p s c b t e = rw (← e)
 
 -- what is in the rooms, where blocks bs with the text u came to what was there before
 record Settled (w v k : ℕ) (W T : List ℕ) (place : ℕ) (bs : List Piece) (u : List ℕ) (p : Page) (b t : List ℕ) : Type 0 where
-  counted : blockCount p ≡ k + length bs
+  counted : p .blocks ≡ k + length bs
   text : p .text ≡ length T + length u
-  words : take (blockCount p * blockWords) (lastPut p b) ≡ W ++ records place bs
+  words : take (p .blocks * blockWords) b ≡ W ++ records place bs
   bytes : take (p .text) t ≡ T ++ u
   wide : length b ≡ w
   long : length t ≡ v
-  fits : blockCount p ≤ capacity blockWords w
+  fits : p .blocks ≤ capacity blockWords w
   room : p .text ≤ textCapacity v
 
 abbrev Meets : ℕ → ℕ → ℕ → List ℕ → List ℕ → ℕ → (List Piece → List Piece) → Stream Refusal Piece → Laying → Type 0
@@ -256,8 +259,8 @@ meets-stop w v k place W T join r s = rw (lay-off r s) (λ m. refl)
 
 abbrev Settles : ℕ → ℕ → Stream Refusal Piece → Type 0
 Settles w v s =
-    (B C k n f : ℕ) (st : Style) (W P D b t : List ℕ) → Going w v B C k n f W P D b t
-    → Meets w v k W (P ++ D) f (blocksFrom st D) (roomy B C (last st) s) (layAll (on (page k n st f) b t) s)
+    (B C k n f : ℕ) (st : Style) (W P D b t : List ℕ) → Going w v B C k n f st W P D b t
+    → Meets w v k W (P ++ D) f (blocksFrom st D) (roomy B C (last st) s) (layAll (on (page k n f) b t) s)
 
 settle-end : (w v : ℕ) → Settles w v end
 unfolding layAll roomy items ended count blocksFrom textOf records
@@ -265,7 +268,7 @@ settle-end w v B C k n f st W P D b t g = (
   record {
     counted = refl;
     text = rw length-append (omega (arith, g .front, g .behind));
-    words = words-more g st ∙ ap (λ (l : List ℕ). W ++ l) (sym (append-nil (blockRecord st f (length D))));
+    words = g .written ∙ ap (λ (l : List ℕ). W ++ l) (sym (append-nil (blockRecord st f (length D))));
     bytes = g .text ∙ sym (append-nil (P ++ D));
     wide = g .wide;
     long = g .long;
@@ -280,58 +283,61 @@ unfolding layAll roomy ended
 settle-stop w v r B C k n f st W P D b t g = λ m. refl
 
 module _ (w v : ℕ) (x : Piece) (s : Stream Refusal Piece) (ih : Settles w v s) (B C k n f : ℕ) (st : Style) (W P D b t : List ℕ)
-    (g : Going w v B C k n f W P D b t) where
+    (g : Going w v B C k n f st W P D b t) where
   abbrev Goal : Type 0
-  Goal = Meets w v k W (P ++ D) f (blocksFrom st D) (roomy B C (last st) (x ▸ s)) (layAll (on (page k n st f) b t) (x ▸ s))
+  Goal = Meets w v k W (P ++ D) f (blocksFrom st D) (roomy B C (last st) (x ▸ s)) (layAll (on (page k n f) b t) (x ▸ s))
 
   module _ (e : sameStyle st (x .style) ≡ true) where
-    begun : on (page k n st f) b t ≡ startOf (page k n st f) (x .style) b t
-    begun = start-same (page k n st f) (x .style) b t refl e
+    stays : on (page k n f) b t ≡ startOf (page k n f) (x .style) b t
+    stays = start-same (page k n f) (x .style) b t (joins g (x .style) true e) refl
 
     step-over : C < length (x .bytes) → Goal
     unfolding layAll
     step-over h =
-        rw (roomy-over B C st x s e h, then-over (page k n st f) (page k n st f) (x .style) (x .bytes) b b t begun (rw (cap-left g) h))
+        rw (roomy-over B C st x s e h, then-over (page k n f) (page k n f) (x .style) (x .bytes) b b t stays (rw (cap-left g) h))
         (meets-stop w v k f W (P ++ D) (blocksFrom st D) (refusal TextRoom) s)
 
     step-same : length (x .bytes) ≤ C → Goal
     unfolding layAll
     step-same h =
-        rw (roomy-same B C st x s e h, then-fits (page k n st f) (page k n st f) (x .style) (x .bytes) b b t begun (rw (cap-left g) h))
-        (meets-same w v k f W x (roomy B (C - length (x .bytes)) (last st) s) st P D e
-        (layAll (on (page k (n + length (x .bytes)) st f) b (sets t n (x .bytes))) s)
-        (ih B (C - length (x .bytes)) k (n + length (x .bytes)) f st W P (D ++ x .bytes) b (sets t n (x .bytes)) (going-same g (x .bytes) h)))
+        let q : Page = page k (n + length (x .bytes)) f in
+        rw (roomy-same B C st x s e h, then-fits (page k n f) (page k n f) (x .style) (x .bytes) b b t stays (rw (cap-left g) h))
+        (meets-same w v k f W x (roomy B (C - length (x .bytes)) (last st) s) st P D e (layAll (on q (measured q b) (sets t n (x .bytes))) s)
+        (ih B (C - length (x .bytes)) k (n + length (x .bytes)) f st W P (D ++ x .bytes) (measured q b) (sets t n (x .bytes)) (going-same g (x .bytes) h)))
 
   module _ (e : sameStyle st (x .style) ≡ false) where
     step-full : B ≡ 0 → Goal
     unfolding layAll
     step-full z =
         let h : capacity blockWords (length b) ≤ k + 1 = rw (g .wide) (omega (arith, g .left, z)) in
-        rw (roomy-full B C st x s e z, then-full (page k n st f) (x .style) (x .bytes) b t (start-full (page k n st f) (x .style) b t refl e refl h refl))
+        let full : off (refusal BlockRoom) ≡ startOf (page k n f) (x .style) b t =
+        start-full (page k n f) (x .style) b t (joins g (x .style) false e) refl h refl in
+        rw (roomy-full B C st x s e z, then-full (page k n f) (x .style) (x .bytes) b t full)
         (meets-stop w v k f W (P ++ D) (blocksFrom st D) (refusal BlockRoom) s)
 
     module _ (z : B ≡ 0 → ⊥) where
       abbrev b′ : List ℕ
-      b′ = put blockWords b k (blockRecord st f (n - f))
+      b′ = put blockWords b (k + 1) (blockRecord (x .style) n 0)
 
-      opens : on (page (k + 1) n (x .style) n) b′ t ≡ startOf (page k n st f) (x .style) b t
-      opens = start-new (page k n st f) (x .style) b t refl e refl (rw (g .wide) (omega (arith, g .left, z))) refl
+      opens : on (page (k + 1) n n) b′ t ≡ startOf (page k n f) (x .style) b t
+      unfolding blockRecord
+      opens = start-new (page k n f) (x .style) b t (joins g (x .style) false e) refl (rw (g .wide) (omega (arith, g .left, z))) refl
 
       step-new-over : C < length (x .bytes) → Goal
       unfolding layAll
       step-new-over h =
-          rw (roomy-new-over B C st x s e z h, then-over (page k n st f) (page (k + 1) n (x .style) n) (x .style) (x .bytes) b b′ t opens (rw (cap-left g) h))
+          rw (roomy-new-over B C st x s e z h, then-over (page k n f) (page (k + 1) n n) (x .style) (x .bytes) b b′ t opens (rw (cap-left g) h))
           (meets-stop w v k f W (P ++ D) (blocksFrom st D) (refusal TextRoom) s)
 
       step-new : length (x .bytes) ≤ C → Goal
       unfolding layAll
       step-new h =
-          rw (roomy-new B C st x s e z h, then-fits (page k n st f) (page (k + 1) n (x .style) n) (x .style) (x .bytes) b b′ t opens (rw (cap-left g) h))
+          let q : Page = page (k + 1) (n + length (x .bytes)) n in
+          rw (roomy-new B C st x s e z h, then-fits (page k n f) (page (k + 1) n n) (x .style) (x .bytes) b b′ t opens (rw (cap-left g) h))
           (meets-new w v k f W x (roomy (B - 1) (C - length (x .bytes)) (last (x .style)) s) st (P ++ D) D n e (g .behind)
-          (layAll (on (page (k + 1) (n + length (x .bytes)) (x .style) n) b′ (sets t n (x .bytes))) s)
-          (ih (B - 1) (C - length (x .bytes)) (k + 1) (n + length (x .bytes)) n (x .style) (W ++ blockRecord st f (length D)) (P ++ D) (x .bytes) b′
-          (sets t n (x .bytes))
-          (going-new g st (x .bytes) (omega (arith, z)) h)))
+          (layAll (on q (measured q b′) (sets t n (x .bytes))) s)
+          (ih (B - 1) (C - length (x .bytes)) (k + 1) (n + length (x .bytes)) n (x .style) (W ++ blockRecord st f (length D)) (P ++ D) (x .bytes)
+          (measured q b′) (sets t n (x .bytes)) (going-same (going-new g (x .style) (omega (arith, z))) (x .bytes) h)))
 
   step : Goal
   step = at (sameStyle st (x .style)) refl (eqb B 0) refl (ltb C (length (x .bytes))) refl
@@ -381,20 +387,24 @@ module _ (b t : List ℕ) (x : Piece) (s : Stream Refusal Piece) where
       let h : capacity blockWords (length b) ≤ 0 = omega (arith, z) in
       rw (
         first-full (capacity blockWords (length b)) (textCapacity (length t)) x s z,
-        then-full blank (x .style) (x .bytes) b t (start-full blank (x .style) b t refl refl refl h refl),
+        then-full blank (x .style) (x .bytes) b t (start-full blank (x .style) b t {x = false} refl refl h refl),
       )
       (meets-stop (length b) (length t) 0 0 [] [] blocks (refusal BlockRoom) s)
 
   module _ (z : capacity blockWords (length b) ≡ 0 → ⊥) where
-    first-opens : on (page 0 0 (x .style) 0) b t ≡ startOf blank (x .style) b t
-    first-opens = start-new blank (x .style) b t refl refl refl (omega (arith, z)) refl
+    abbrev b₁ : List ℕ
+    b₁ = put blockWords b 0 (blockRecord (x .style) 0 0)
+
+    first-opens : on (page 0 0 0) b₁ t ≡ startOf blank (x .style) b t
+    unfolding blockRecord
+    first-opens = start-new blank (x .style) b t {x = false} refl refl (omega (arith, z)) refl
 
     begin-over : textCapacity (length t) < length (x .bytes) → Begins b t (x ▸ s)
     unfolding layAll
     begin-over h =
         rw (
           first-over (capacity blockWords (length b)) (textCapacity (length t)) x s z h,
-          then-over blank (page 0 0 (x .style) 0) (x .style) (x .bytes) b b t first-opens (omega (arith, h)),
+          then-over blank (page 0 0 0) (x .style) (x .bytes) b b₁ t first-opens (omega (arith, h)),
         )
         (meets-stop (length b) (length t) 0 0 [] [] blocks (refusal TextRoom) s)
 
@@ -403,14 +413,14 @@ module _ (b t : List ℕ) (x : Piece) (s : Stream Refusal Piece) where
     begin-fits h =
         let B : ℕ = capacity blockWords (length b) - 1 in
         let C : ℕ = textCapacity (length t) - length (x .bytes) in
+        let q : Page = page 0 (0 + length (x .bytes)) 0 in
         rw (
           first-fits (capacity blockWords (length b)) (textCapacity (length t)) x s z h,
-          then-fits blank (page 0 0 (x .style) 0) (x .style) (x .bytes) b b t first-opens (omega (arith, h)),
+          then-fits blank (page 0 0 0) (x .style) (x .bytes) b b₁ t first-opens (omega (arith, h)),
         )
-        (meets-first (length b) (length t) 0 0 [] x (roomy B C (last (x .style)) s)
-        (layAll (on (page 0 (0 + length (x .bytes)) (x .style) 0) b (sets t 0 (x .bytes))) s)
-        (settle (length b) (length t) s B C 0 (0 + length (x .bytes)) 0 (x .style) [] [] (x .bytes) b
-        (sets t 0 (x .bytes)) (going-first b t (x .bytes) (omega (arith, z)) h)))
+        (meets-first (length b) (length t) 0 0 [] x (roomy B C (last (x .style)) s) (layAll (on q (measured q b₁) (sets t 0 (x .bytes))) s)
+        (settle (length b) (length t) s B C 0 (0 + length (x .bytes)) 0 (x .style) [] [] (x .bytes) (measured q b₁) (sets t 0 (x .bytes))
+        (going-same (going-first b t (x .style) (omega (arith, z))) (x .bytes) h)))
 
   begin-more : Begins b t (x ▸ s)
   begin-more = at (eqb (capacity blockWords (length b)) 0) refl (ltb (textCapacity (length t)) (length (x .bytes))) refl
@@ -428,13 +438,13 @@ begins b t (x ▸ s) = begin-more b t x s
 -- what the rooms hold when all the pieces of q are laid
 pub record Joined (q : Stream Refusal Piece) (b t : List ℕ) (p : Page) (b′ t′ : List ℕ) : Type 0 where
   pub done : answer 0 q ≡ Done (count q)
-  pub counted : blockCount p ≡ length (blocks (items q))
+  pub counted : p .blocks ≡ length (blocks (items q))
   pub text : p .text ≡ length (textOf (items q))
-  pub words : take (blockCount p * blockWords) (lastPut p b′) ≡ records 0 (blocks (items q))
+  pub words : take (p .blocks * blockWords) b′ ≡ records 0 (blocks (items q))
   pub bytes : take (p .text) t′ ≡ textOf (items q)
   pub wide : length b′ ≡ length b
   pub long : length t′ ≡ length t
-  pub fits : blockCount p ≤ capacity blockWords (length b)
+  pub fits : p .blocks ≤ capacity blockWords (length b)
   pub room : p .text ≤ textCapacity (length t)
 
 -- the pieces that find room
@@ -463,33 +473,26 @@ lay-joins s b t {p} {b′} {t′} e = joined (rw e at (begins b t s))
           room = g .room;
         }
 
--- rooms that are finished and cleared behind what they hold
+-- rooms that are cleared behind what they hold
 pub record Filled (q : Stream Refusal Piece) (b t : List ℕ) (n m : ℕ) (b′ t′ : List ℕ) : Type 0 where
   pub counted : n ≡ length (blocks (items q))
   pub text : m ≡ length (textOf (items q))
   pub words : b′ ≡ filled (length b) (records 0 (blocks (items q)))
   pub bytes : t′ ≡ filled (length t) (textOf (items q))
 
-pub joined-filled : {q : Stream Refusal Piece} {b t : List ℕ} {p : Page} {b₁ t₁ : List ℕ} → Joined q b t p b₁ t₁ → {n : ℕ} {b₂ b₃ t₂ : List ℕ} → b₂ ≡ lastPut p b₁ → n ≡ blockCount p
-    → b₃ ≡ take (n * blockWords) b₂ ++ replicate (length b₂ - n * blockWords) 0 → t₂ ≡ take (p .text) t₁ ++ replicate (length t₁ - p .text) 0 → Filled q b t n (p .text) b₃ t₂
-joined-filled {q} {b} {t} {p} {b₁} {t₁} j {n} {b₂} {b₃} {t₂} g e u v =
+pub joined-filled : {q : Stream Refusal Piece} {b t : List ℕ} {p : Page} {b₁ t₁ : List ℕ} → Joined q b t p b₁ t₁ → {b₂ t₂ : List ℕ}
+    → b₂ ≡ take (p .blocks * blockWords) b₁ ++ replicate (length b₁ - p .blocks * blockWords) 0
+    → t₂ ≡ take (p .text) t₁ ++ replicate (length t₁ - p .text) 0 → Filled q b t (p .blocks) (p .text) b₂ t₂
+joined-filled {q} {b} {t} {p} {b₁} {t₁} j {b₂} {t₂} u v =
     let bl : List Piece = blocks (items q) in
-    let k : n ≡ length bl = e ∙ j .counted in
-    let w : take (n * blockWords) b₂ ≡ records 0 bl = rw (e, g) (j .words) in
-    let lr : length (records 0 bl) ≡ n * blockWords = length-records bl 0 ∙ rw k in
-    let lb : length b₂ ≡ length b = ap length g ∙ length-last p b₁ ∙ j .wide in
+    let lr : length (records 0 bl) ≡ p .blocks * blockWords = length-records bl 0 ∙ rw (j .counted) in
     record {
-      counted = k;
+      counted = j .counted;
       text = j .text;
-      words = filled-front (length b) (n * blockWords) (records 0 bl) b₂ b₃ u w lr lb;
+      words = filled-front (length b) (p .blocks * blockWords) (records 0 bl) b₁ b₂ u (j .words) lr (j .wide);
       bytes = filled-front (length t) (p .text) (textOf (items q)) t₁ t₂ v (j .bytes) (sym (j .text)) (j .long);
     }
 
--- a page's blocks fit their room, and so do their words
-pub blocks-small : {p : Page} (w v : ℕ) → Ready p w v → w < 18446744073709551616 → p .blocks ≤ 4611686018427387904
-blocks-small {p} w v h k = let a = ready-count p w v h in let b = div-mul-le-self w blockWords in omega arith
-
-pub count-words : {p : Page} (w v : ℕ) {cnt : ℕ} → Ready p w v → cnt ≡ blockCount p → cnt * blockWords ≤ w
-count-words {p} w v {cnt} h e =
-    let a : cnt ≤ capacity blockWords w = rw e (h .page .blocks) in
-    le-trans (mul-le-mul-right blockWords a) (div-mul-le-self w blockWords)
+-- the words of a page's blocks fit their room
+pub count-words : {p : Page} (w v : ℕ) → Ready p w v → p .blocks * blockWords ≤ w
+count-words w v h = le-trans (mul-le-mul-right blockWords (h .page .blocks)) (div-mul-le-self w blockWords)

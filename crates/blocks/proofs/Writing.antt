@@ -1,19 +1,17 @@
 -- The code's steps, one law for each way through it: what its tests say, what its callees promise.
---     last-put, last-none   the open block's record
---     count-.., cap-le      how much is counted
---     copy-more, copy-end   a copy, byte by byte
+--     cap-..                        how much of a text room counts
+--     twice, joins-.., joined       whether text of a style joins the last block
 --     start-.., append-.., add-..   what the code answers is what laying says
---     still-..              and what it asks holds again
+--     still-..                      and what it asks holds again
 -- Assumes nothing.
 use mathlib.Core.Path.{_≡_, refl, sym, _∙_}
 use mathlib.Core.List.{List, [], _∷_, _++_}
-use mathlib.Core.Bool.{Bool, true, false, cond, _&&_}
-use Prim.Native.Nat.{ℕ, _+_, _-_, _<_, _≤_}
-use native.Mathlib.Numerals.{add-one}
+use mathlib.Core.Bool.{Bool, true, false, cond, not, true≢false}
+use Prim.Native.Nat.{ℕ, zero, suc, _+_, _-_, _<_, _≤_}
 use native.Mathlib.Omega.{arith}
-use borrow.Author.Tests.{lt-ltb, le-ltb, ltb-true, ltb-false}
-use lib.ListN.{length, set, getD}
-use lib.Seq.{sets, sets-eq, paste, paste-suc, take-length}
+use borrow.Author.Tests.{lt-ltb, le-ltb, ltb-true, ltb-false, not-true, not-false}
+use lib.ListN.{length}
+use lib.Seq.{sets}
 use lib.Dec.{ltb}
 use Rattle.answers.specs.declared.Refusal.{Refusal}
 use Rattle.answers.specs.declared.Why.the-variants.{BlockRoom, TextRoom}
@@ -22,24 +20,8 @@ use Rattle.rooms.specs.Rooms.{capacity, put}
 use Rattle.styles.specs.declared.Style.{Style}
 use Rattle.styles.specs.Styles.{styleWords, sameStyle}
 use Rattle.blocks.specs.declared.Page.{Page}
-use Rattle.blocks.specs.Pages.{blockWords, blockRecord, textCapacity}
-use Rattle.blocks.specs.Laying.{Laying, on, off, lastPut, blockCount, startOf, appendOf, addOf, ReadyBlocks, Ready}
-
-module _ (p : Page) where
-  pub last-put : (b : List ℕ) {b′ : List ℕ} → p .begun ≡ true
-      → b′ ≡ put blockWords b (p .blocks) (styleWords (p .style) ++ (p .from ∷ (p .text - p .from) ∷ [])) → b′ ≡ lastPut p b
-  unfolding blockRecord
-  last-put b e h = rw e h
-
-  pub last-none : (b : List ℕ) → p .begun ≡ false → b ≡ lastPut p b
-  last-none b e = rw e
-
-  pub count-le : p .blocks ≤ blockCount p
-  count-le = go (p .begun)
-    where
-      go : (t : Bool) → p .blocks ≤ cond t (p .blocks + 1) (p .blocks)
-      go true = omega arith
-      go false = omega arith
+use Rattle.blocks.specs.Pages.{blockWords, blockRecord, textCapacity, starts}
+use Rattle.blocks.specs.Laying.{Laying, on, off, styleIn, lastIn, opened, longer, measured, startOf, appendOf, addOf, ReadyBlocks, Ready}
 
 pub cap-in : (n : ℕ) → n < 2147483647 → n ≡ textCapacity n
 cap-in n h = rw (lt-ltb n 2147483647 h)
@@ -54,29 +36,38 @@ cap-le n = go (ltb n 2147483647) refl
     go true e = let h : n < 2147483647 = ltb-true n 2147483647 e in (omega arith, omega arith)
     go false e = let h : 2147483647 ≤ n = ltb-false n 2147483647 e in (omega arith, omega arith)
 
-module _ (d : List ℕ) (at : ℕ) (s l : List ℕ) (i : ℕ) where
-  pub copy-more : at + i < length d → i < length s → l ≡ paste d at s i → set l (at + i) (getD s i 0) ≡ paste d at s (i + 1)
-  copy-more h g e = rw (add-one, e) (paste-suc d at s i 0 h g)
+pub twice : (x : Bool) → x ≡ not (not x)
+twice true = refl
+twice false = refl
 
-  pub copy-end : at + length s ≤ length d → i ≤ length s → length s ≤ i → l ≡ paste d at s i → l ≡ sets d at s
-  copy-end k h g e =
-      let q : i ≡ length s = omega arith in
-      e ∙ rw (q, take-length) (sym (sets-eq s d at k))
+module _ (b : List ℕ) (s : Style) where
+  pub joins-none : (n : ℕ) → n ≡ 0 → false ≡ not (starts (lastIn b n) s)
+  joins-none n z = rw z
 
-module _ (p : Page) (s : Style) (b t : List ℕ) {x : Bool} (same : x ≡ sameStyle (p .style) s) where
-  pub start-same : (p .begun && x) ≡ true → on p b t ≡ startOf p s b t
+  pub joins-last : (n : ℕ) {l : Style} {x : Bool} → (n ≡ 0 → ⊥) → l ≡ styleIn b (n - 1) → x ≡ sameStyle l s → x ≡ not (starts (lastIn b n) s)
+  joins-last zero z e q = absurd (z refl)
+  joins-last (suc n) z e q =
+      let k : suc n - 1 ≡ n = omega arith in
+      q ∙ rw (e, k) (twice (sameStyle (styleIn b n) s))
+
+  pub joined : (n : ℕ) {x : Bool} → x ≡ not (starts (lastIn b n) s) → x ≡ true → 0 < n
+  joined zero j e = absurd (true≢false (sym e ∙ j))
+  joined (suc n) j e = omega arith
+
+module _ (p : Page) (s : Style) (b t : List ℕ) {x : Bool} (j : x ≡ not (starts (lastIn b (p .blocks)) s)) where
+  pub start-same : x ≡ true → on p b t ≡ startOf p s b t
   unfolding startOf
-  start-same e = rw (← same, e)
+  start-same e = rw (not-true (starts (lastIn b (p .blocks)) s) (sym j ∙ e))
 
-  module _ (e : (p .begun && x) ≡ false) {n : ℕ} (c : n ≡ blockCount p) where
-    pub start-new : {b′ : List ℕ} → n < capacity blockWords (length b) → b′ ≡ lastPut p b
-        → on (record { blocks = n; text = p .text; begun = true; style = s; from = p .text }) b′ t ≡ startOf p s b t
-    unfolding startOf
-    start-new h q = rw (← same, e, ← c, lt-ltb n (capacity blockWords (length b)) h, q)
+  module _ (e : x ≡ false) where
+    pub start-new : {b′ : List ℕ} → p .blocks < capacity blockWords (length b) → b′ ≡ put blockWords b (p .blocks) (styleWords s ++ (p .text ∷ 0 ∷ []))
+        → on (opened p) b′ t ≡ startOf p s b t
+    unfolding startOf blockRecord
+    start-new h q = rw (not-false (starts (lastIn b (p .blocks)) s) (sym j ∙ e), lt-ltb (p .blocks) (capacity blockWords (length b)) h, q)
 
-    pub start-full : {r : Refusal} → capacity blockWords (length b) ≤ n → r ≡ refusal BlockRoom → off r ≡ startOf p s b t
+    pub start-full : {r : Refusal} → capacity blockWords (length b) ≤ p .blocks → r ≡ refusal BlockRoom → off r ≡ startOf p s b t
     unfolding startOf
-    start-full h q = rw (← same, e, ← c, le-ltb n (capacity blockWords (length b)) h, q)
+    start-full h q = rw (not-false (starts (lastIn b (p .blocks)) s) (sym j ∙ e), le-ltb (p .blocks) (capacity blockWords (length b)) h, q)
 
 module _ (p : Page) (bytes b t : List ℕ) where
   pub append-full : {r : Refusal} {k : ℕ} → k ≡ textCapacity (length t) → k - p .text < length bytes → r ≡ refusal TextRoom → off r ≡ appendOf p bytes b t
@@ -84,16 +75,14 @@ module _ (p : Page) (bytes b t : List ℕ) where
   append-full {k = k} c h q = rw (← c, lt-ltb (k - p .text) (length bytes) h, q)
 
   pub append-more : {t′ : List ℕ} {k : ℕ} → k ≡ textCapacity (length t) → length bytes ≤ k - p .text → t′ ≡ sets t (p .text) bytes
-      → on (record { blocks = p .blocks; text = p .text + length bytes; begun = p .begun; style = p .style; from = p .from }) b t′ ≡ appendOf p bytes b t
+      → on (longer p (length bytes)) (measured (longer p (length bytes)) b) t′ ≡ appendOf p bytes b t
   unfolding appendOf
   append-more {k = k} c h q = rw (← c, le-ltb (k - p .text) (length bytes) h, q)
 
-pub still-new : (p : Page) (s : Style) (w v n : ℕ) → ReadyBlocks p w → n < capacity blockWords w → p .text ≤ textCapacity v
-    → Ready (record { blocks = n; text = p .text; begun = true; style = s; from = p .text }) w v
-still-new p s w v n h l k = record { page = record { blocks = omega arith; small = h .small; from = omega arith }; text = k }
+pub still-new : (p : Page) (w v : ℕ) → ReadyBlocks p w → p .blocks < capacity blockWords w → p .text ≤ textCapacity v → Ready (opened p) w v
+still-new p w v h l k = record { page = record { blocks = omega arith; small = h .small; from = omega arith }; text = k }
 
-pub still-more : (p : Page) (w v m n : ℕ) → ReadyBlocks p w → m ≡ textCapacity v → p .text ≤ m → n ≤ m - p .text
-    → Ready (record { blocks = p .blocks; text = p .text + n; begun = p .begun; style = p .style; from = p .from }) w v
+pub still-more : (p : Page) (w v m n : ℕ) → ReadyBlocks p w → m ≡ textCapacity v → p .text ≤ m → n ≤ m - p .text → Ready (longer p n) w v
 still-more p w v m n h e k l =
     let c : m ≤ 2147483647 = rw e (cap-le v .1) in
     record { page = record { blocks = h .blocks; small = omega arith; from = omega (arith, h .from) }; text = rw (← e) (omega arith) }

@@ -1,9 +1,9 @@
--- Pieces laid into lent rooms one after the other, as the code does it: the last block's record is written when the next one
--- starts, or at the end. Assumes nothing: these are definitions.
-use Prim.Native.Nat.{ℕ, _+_, _-_, _≤_}
+-- Pieces laid into lent rooms one after the other, as the code does it: a block's record is written when it starts, and its
+-- length grows with its text. Assumes nothing: these are definitions.
+use Prim.Native.Nat.{ℕ, zero, suc, _+_, _-_, _*_, _≤_, _<_}
 use mathlib.Core.List.{List}
-use mathlib.Core.Bool.{true, false, cond, _&&_}
-use lib.ListN.{length}
+use mathlib.Core.Bool.{cond}
+use lib.ListN.{length, drop, set}
 use lib.Seq.{sets}
 use lib.Dec.{ltb}
 use Rattle.answers.specs.declared.Refusal.{Refusal}
@@ -12,11 +12,11 @@ use Rattle.answers.specs.Answers.{refusal}
 use Rattle.rooms.specs.Streams.{Stream, end, stop, _▸_}
 use Rattle.rooms.specs.Rooms.{capacity, put}
 use Rattle.styles.specs.declared.Style.{Style}
-use Rattle.styles.specs.Styles.{sameStyle}
+use Rattle.styles.specs.Styles.{styleAt}
 use Rattle.blocks.specs.declared.Page.{Page}
 use Rattle.blocks.specs.declared.Laid.{Laid}
 use Rattle.blocks.specs.declared.Laid.the-variants.{On, Full}
-use Rattle.blocks.specs.Pages.{Piece, blockRecord, blockWords, textCapacity}
+use Rattle.blocks.specs.Pages.{Piece, blockRecord, blockWords, textCapacity, Last, none, last, starts}
 
 -- a page with its two rooms, or a refusal
 pub data Laying : Type 0 where
@@ -29,37 +29,43 @@ told (On p) b t = on p b t
 told (Full r) b t = off r
 
 -- nothing is laid yet
-abbrev pub noStyle : Style
-noStyle = record { colour = 0; font = 0; size = 0; flags = 0; alignment = 0; before = 0; after = 0; kind = 0; line = 0; multiplier = 0; tab = 0 }
-
 abbrev pub blank : Page
-blank = record { blocks = 0; text = 0; begun = false; style = noStyle; from = 0 }
+blank = record { blocks = 0; text = 0; from = 0 }
 
--- the record of the last block, at its place
-abbrev pub lastPut : Page → List ℕ → List ℕ
-lastPut p b = cond (p .begun) (put blockWords b (p .blocks) (blockRecord (p .style) (p .from) (p .text - p .from))) b
+-- the style that a room's record n says, and that of the last of n blocks
+unfoldable pub styleIn : List ℕ → ℕ → Style
+styleIn b n = styleAt (drop (n * blockWords) b)
 
--- how many blocks there are, the last one counted
-abbrev pub blockCount : Page → ℕ
-blockCount p = cond (p .begun) (p .blocks + 1) (p .blocks)
+abbrev pub lastIn : List ℕ → ℕ → Last
+lastIn b zero = none
+lastIn b (suc n) = last (styleIn b n)
 
--- a new block starts, and the one before it is written
-abbrev pub opened : Page → Style → Page
-opened p s = record { blocks = blockCount p; text = p .text; begun = true; style = s; from = p .text }
+-- a new block starts: it has no text as yet
+abbrev pub opened : Page → Page
+opened p = record { blocks = p .blocks + 1; text = p .text; from = p .text }
 
 -- the block that text of a style goes to
 unfoldable pub startOf : Page → Style → List ℕ → List ℕ → Laying
 startOf p s b t =
-    cond (p .begun && sameStyle (p .style) s) (on p b t)
-    (cond (ltb (blockCount p) (capacity blockWords (length b))) (on (opened p s) (lastPut p b) t)
+    cond (starts (lastIn b (p .blocks)) s)
+    (cond (ltb (p .blocks) (capacity blockWords (length b)))
+    (on (opened p) (put blockWords b (p .blocks) (blockRecord s (p .text) 0)) t)
     (off (refusal BlockRoom)))
+    (on p b t)
 
--- text goes behind the text
+-- n bytes more
+abbrev pub longer : Page → ℕ → Page
+longer p n = record { blocks = p .blocks; text = p .text + n; from = p .from }
+
+-- the last block's length, in the last word of its record
+abbrev pub measured : Page → List ℕ → List ℕ
+measured p b = set b (p .blocks * blockWords - 1) (p .text - p .from)
+
+-- text goes behind the text, in the last block
 unfoldable pub appendOf : Page → List ℕ → List ℕ → List ℕ → Laying
 appendOf p bytes b t =
     cond (ltb (textCapacity (length t) - p .text) (length bytes)) (off (refusal TextRoom))
-    (on (record { blocks = p .blocks; text = p .text + length bytes; begun = p .begun; style = p .style; from = p .from }) b
-    (sets t (p .text) bytes))
+    (on (longer p (length bytes)) (measured (longer p (length bytes)) b) (sets t (p .text) bytes))
 
 abbrev pub appendTo : Laying → List ℕ → Laying
 appendTo (on p b t) bytes = appendOf p bytes b t
@@ -85,7 +91,7 @@ layAll l (x ▸ s) = layAll (laidOn l x) s
 
 -- a page that fits a block room of w words: what the code's functions ask and keep
 pub record ReadyBlocks (p : Page) (w : ℕ) : Type 0 where
-  pub blocks : blockCount p ≤ capacity blockWords w
+  pub blocks : p .blocks ≤ capacity blockWords w
   pub small : p .text ≤ 2147483647
   pub from : p .from ≤ p .text
 
@@ -97,3 +103,8 @@ pub record Ready (p : Page) (w v : ℕ) : Type 0 where
 abbrev pub Still : Laid → ℕ → ℕ → Type 0
 Still (On p) w v = Ready p w v
 Still (Full r) w v = 0 ≤ v
+
+-- there is a block
+abbrev pub Begun : Laid → Type 0
+Begun (On p) = 0 < p .blocks
+Begun (Full r) = 0 ≤ 0

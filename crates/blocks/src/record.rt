@@ -3,9 +3,12 @@ use crate::BLOCK_WORDS;
 use styles::Style;
 ghost use mathlib.Core.Path.{_≡_};
 ghost use mathlib.Core.List.{[], _∷_, _++_};
-ghost use Rattle.rooms.specs.Rooms.{put as putWords};
+ghost use Prim.Native.Nat.{_<_};
+ghost use lib.ListN.{length};
+ghost use Rattle.rooms.specs.Rooms.{put as putWords, capacity};
 ghost use Rattle.styles.specs.Styles.{styleWords};
 ghost use Rattle.blocks.specs.Pages.{blockWords};
+ghost use Rattle.blocks.specs.Laying.{styleIn};
 
 // A record of thirteen words at place n, if the room holds that place.
 pub fn put(room: &mut [u32], n: usize, s: Style, place: u32, count: u32)
@@ -26,5 +29,26 @@ pub fn put(room: &mut [u32], n: usize, s: Style, place: u32, count: u32)
         room[at + 10] = s.tab;
         room[at + 11] = place;
         room[at + 12] = count;
+    }
+}
+
+// The style that record n says.
+pub fn style_in(room: &[u32], n: usize) -> Style
+    requires { ⌜ n < capacity blockWords (length (now room)) ⌝ }
+    ensures { λ r. ⌜ r ≡ styleIn (now (room .entry)) n ⌝ }
+{
+    let at = n * BLOCK_WORDS;
+    Style {
+        colour: room[at],
+        font: room[at + 1],
+        size: room[at + 2],
+        flags: room[at + 3],
+        alignment: room[at + 4],
+        before: room[at + 5],
+        after: room[at + 6],
+        kind: room[at + 7],
+        line: room[at + 8],
+        multiplier: room[at + 9],
+        tab: room[at + 10],
     }
 }

@@ -1,4 +1,5 @@
--- Laws: Items, of the items that tokens give; Acts, of one token; Turns, of the loop over the tokens.
-pub mod Items
-pub mod Acts
-mod Turns
+-- Deeds: what a token does. Moves: what becomes of the states. Saying: what is laid. Turns: the loop over the tokens.
+pub mod Deeds
+pub mod Moves
+pub mod Saying
+pub mod Turns

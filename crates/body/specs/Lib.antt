@@ -1,3 +1,3 @@
--- Body: what the steps of the walk write. Acting: what a token asks for, as the code says it.
+-- Body: what the steps of the walk say. Turns: what the code answers for one token.
 pub mod Body
-pub mod Acting
+pub mod Turns

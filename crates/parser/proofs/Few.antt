@@ -1,5 +1,5 @@
 -- How much a letter that was read has: at most as many blocks as tokens, at most 256 fonts and colours, and a text that its room counts.
---     walk-few, gather-few, body-few   the walk, the items and the body give no more than there are tokens
+--     walk-few, deeds-few, body-few    the walk, its deeds and the body give no more than there are tokens
 --     roomy-few, roomy-short           nor do the pieces that find room, whose text is no longer than the room
 --     blocks-few                       nor do the blocks
 --     letter-few                       so it is with a letter
@@ -19,22 +19,22 @@ use Rattle.answers.specs.declared.Outcome.the-variants.{Done, Refused}
 use Rattle.answers.specs.Answers.{refusal, Found, found, refused}
 use Rattle.rooms.specs.Streams.{Stream, end, stop, _▸_, items, answer}
 use Rattle.rooms.specs.Rooms.{capacity, tableLimit}
-use Rattle.tokens.specs.declared.Property.{Property}
 use Rattle.tokens.specs.Tokens.{Shown}
 use Rattle.tokens.specs.Tokens
-use Rattle.tokens.specs.WordNumbers as words
 use Rattle.readings.specs.declared.Reading.{Reading}
-use Rattle.styles.specs.declared.State.{State}
 use Rattle.styles.specs.declared.Style.{Style}
-use Rattle.styles.specs.Styles.{fresh, sameStyle}
-use Rattle.walk.specs.Walk.{Step, kept, hidden, fontTable, colourTable, stepsAt, leftAt, walkFrom, walk}
+use Rattle.styles.specs.Styles.{sameStyle}
+use Rattle.settings.specs.Fields.{freshRow}
+use Rattle.walk.specs.Walk.{Step, leftAt, walkFrom, walk}
+use Rattle.units.specs.Units.{before}
+use Rattle.machine.proofs.Few.{machine-few}
 use Rattle.fonts.specs.Rows.{fontWords}
 use Rattle.colours.specs.Colours.{colourWords}
 use Rattle.header.specs.Entering.{Tables}
 use Rattle.header.specs.Header.{tables}
 use Rattle.header.proofs.Tables.{tables-few-256}
 use Rattle.blocks.specs.Pages.{Piece, piece, blocksFrom, blocks, textOf, blockWords, textCapacity, Last, none, last, starts, roomy}
-use Rattle.body.specs.Body.{Item, token, run, apart, joined, keptItems, stepItems, gather, Asked, stops, goes, says, statesOf, pieceOf, uttered, asks, bodyFrom, body}
+use Rattle.body.specs.Body.{rows, deeds, body}
 use Rattle.parser.specs.Parsing.{begun, Sizes, Letter, letterFrom, placed, bodied, headed, walked, FewIn}
 
 walk-few : (w : ℕ) (ts : List Shown) → length (walkFrom w ts) ≤ length ts
@@ -43,49 +43,16 @@ walk-few w [] = omega arith
 walk-few zero (t ∷ ts) = let h = walk-few (leftAt zero t ts) ts in omega arith
 walk-few (suc w) (t ∷ ts) = let h = walk-few w ts in omega arith
 
-joined-few : (num : Property) (is : List Item) → length (joined num is) ≤ suc (length is)
-joined-few num [] = omega arith
-joined-few num (run nums ∷ is) = omega arith
-joined-few num (token t ∷ is) = omega arith
-joined-few num (apart ∷ is) = omega arith
+deeds-few : (rd : Reading) (ss : List Step) → length (deeds rd ss) ≡ length ss
+unfolding deeds
+deeds-few rd [] = refl
+deeds-few rd (s ∷ ss) = ap suc (deeds-few rd ss)
 
-kept-few : (t : Shown) (is : List Item) → length (keptItems t is) ≤ suc (length is)
-kept-few (Shown.word w num) is = go (eqb w words.unicode)
-  where
-    go : (b : Bool) → length (cond b (joined num is) (token (Shown.word w num) ∷ is)) ≤ suc (length is)
-    go true = joined-few num is
-    go false = omega arith
-kept-few (Shown.text p bs) is = omega arith
-kept-few Shown.opening is = omega arith
-kept-few Shown.closing is = omega arith
-kept-few Shown.lineBreak is = omega arith
-kept-few Shown.ignorable is = omega arith
-kept-few (Shown.unknown p bs num) is = omega arith
-
-step-few : (s : Step) (is : List Item) → length (stepItems s is) ≤ suc (length is)
-step-few (kept t) is = kept-few t is
-step-few hidden is = omega arith
-step-few (fontTable late ts) is = omega arith
-step-few (colourTable late ts) is = omega arith
-
-gather-few : (ss : List Step) → length (gather ss) ≤ length ss
-unfolding gather
-gather-few [] = omega arith
-gather-few (s ∷ ss) = let h = step-few s (gather ss) in let k = gather-few ss in omega arith
-
-uttered-few : (a : Asked) (more : Stream Refusal Piece) → length (items (uttered a more)) ≤ suc (length (items more))
-unfolding items
-uttered-few (stops r) more = omega arith
-uttered-few (goes st) more = omega arith
-uttered-few (says st bs) more = omega arith
-
-body-few : (rd : Reading) (st : List State) (is : List Item) → length (items (bodyFrom rd st is)) ≤ length is
-unfolding bodyFrom items
-body-few rd st [] = omega arith
-body-few rd st (i ∷ is) =
-    let a : Asked = asks rd st i in
-    let h = uttered-few a (bodyFrom rd (statesOf a) is) in
-    let k = body-few rd (statesOf a) is in
+body-few : (rd : Reading) (ss : List Step) → length (items (body rd ss)) ≤ length ss
+unfolding body
+body-few rd ss =
+    let h = machine-few rows (freshRow ∷ []) before (deeds rd ss) in
+    let k = deeds-few rd ss in
     omega arith
 
 module _ (x : Piece) (more : Stream Refusal Piece) (y z : Bool) where
@@ -155,8 +122,7 @@ placed-few rd b t ts =
     let s : Stream Refusal Piece = body rd (walk ts) in
     let p = blocks-few (items (roomy (capacity blockWords b) (textCapacity t) none s)) in
     let q = roomy-few s (capacity blockWords b) (textCapacity t) none in
-    let u = body-few rd (fresh ∷ []) (gather (walk ts)) in
-    let v = gather-few (walk ts) in
+    let u = body-few rd (walk ts) in
     let w = walk-few 0 ts in
     let x = roomy-short s (capacity blockWords b) (textCapacity t) none in
     let y = capacity-most t in

@@ -28,7 +28,7 @@ use Rattle.blocks.specs.declared.Laid.the-variants.{On, Full}
 use Rattle.rooms.specs.Rooms.{filled, tableLimit}
 use Rattle.rooms.proofs.Clearing.{filled-front}
 use Rattle.blocks.specs.Pages.{Piece, blocks, blockWords}
-use Rattle.blocks.specs.Laying.{on, told, blank, blockCount, lastPut, layAll}
+use Rattle.blocks.specs.Laying.{on, told, blank, layAll}
 use Rattle.blocks.proofs.Settling.{lay-refuses, lay-joins, Joined, Filled, joined-filled}
 use Rattle.walk.specs.Walk.{walk}
 use Rattle.body.specs.Body.{body}
@@ -77,11 +77,11 @@ module _ (rd : Reading) (ts : List Shown) (b t : List ℕ) (n f c : ℕ) where
       unfolding placed
       joined = lay-joins (body rd (walk ts)) b t (sym h ∙ ap (λ (m : Laid). told m b₁ t₁) e)
 
-      pub body-laid : {cnt : ℕ} {b₂ b₃ t₂ : List ℕ} → b₂ ≡ lastPut p b₁ → cnt ≡ blockCount p → b₃ ≡ take (cnt * blockWords) b₂ ++ replicate (length b₂ - cnt * blockWords) 0
+      pub body-laid : {b₂ t₂ : List ℕ} → b₂ ≡ take (p .blocks * blockWords) b₁ ++ replicate (length b₁ - p .blocks * blockWords) 0
           → t₂ ≡ take (p .text) t₁ ++ replicate (length t₁ - p .text) 0
-          → BodyInto (answer 0 stream) (items stream) n f c (Read (record { tokens = n; fonts = f; colours = c; blocks = cnt; text = p .text })) b₃ t₂ (length b) (length t)
-      body-laid {cnt} {b₂} {b₃} {t₂} g q u v =
-          let i : Filled stream b t cnt (p .text) b₃ t₂ = joined-filled joined g q u v in
+          → BodyInto (answer 0 stream) (items stream) n f c (Read (record { tokens = n; fonts = f; colours = c; blocks = p .blocks; text = p .text })) b₂ t₂ (length b) (length t)
+      body-laid {b₂} {t₂} u v =
+          let i : Filled stream b t (p .blocks) (p .text) b₂ t₂ = joined-filled joined u v in
           let n′ : ℕ = length (blocks (items stream)) in
           rw (joined .done) (
             ap (λ (m : ℕ). Read (record { tokens = n; fonts = f; colours = c; blocks = m; text = p .text })) (i .counted)

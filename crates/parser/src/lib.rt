@@ -9,8 +9,6 @@ use answers::Refusal;
 use answers::Why;
 use blocks::BLOCK_WORDS;
 use blocks::Laid;
-use blocks::Page;
-use blocks::finish;
 use body::lay_body;
 use header::Header;
 use header::read_header;
@@ -92,8 +90,7 @@ fn read_body(
     match laid {
         Laid::Full(refusal) => Answer::Refuses(refusal),
         Laid::On(page) => {
-            finish(page, blocks);
-            let count = page.count();
+            let count = page.blocks;
             let length = page.text;
             clear_from(blocks, count * BLOCK_WORDS);
             clear_bytes_from(text, length);

@@ -1,50 +1,54 @@
--- What the body writes: pieces that a stored block can be made of.
---     walk-fine      the walk keeps tokens as they are
---     gather-fine    and so do the items of the body
---     asks-fine      what an item asks for, in states that keep their ranges
---     body-storable  the pieces of the body
+-- What the body says: pieces that a stored block can be made of.
+--     walk-fine           the walk keeps tokens as they are
+--     deeds-fine          what they do: texts are whole, and settings keep the ranges of a row
+--     moved-sound         so all rows of the stack keep them
+--     machine-storable    and all that is said is such a piece, what a run of units gives too, since any number is written as a character
+--     body-storable       the pieces of the body
 -- Assumes nothing.
 use mathlib.Core.Path.{_≡_, refl, sym, ap, _∙_}
 use mathlib.Core.List.{List, [], _∷_, _++_, append-nil}
-use mathlib.Core.Bool.{Bool, true, false, cond, false≢true}
+use mathlib.Core.Bool.{Bool, true, false, cond}
 use Prim.Native.Nat.{ℕ, zero, suc, _<_}
 use native.Mathlib.Omega.{arith}
 use lib.ListN.{length}
 use lib.Dec.{eqb}
+use Rattle.answers.specs.declared.Refusal.{Refusal}
 use Rattle.answers.specs.declared.Why.the-variants.{TooDeep}
-use Rattle.answers.specs.Answers.{refusal}
+use Rattle.answers.specs.Answers.{refusal, Found, found, refused}
 use Rattle.bytes.specs.Bytes.{any, isHigh}
-use Rattle.rooms.specs.Streams.{Stream}
+use Rattle.rooms.specs.Streams.{Stream, end}
 use Rattle.rooms.proofs.Streams.{Each}
 use Rattle.tokens.specs.declared.Property.{Property}
-use Rattle.tokens.specs.Tokens.{Shown}
+use Rattle.tokens.specs.Tokens.{Shown, valueOf}
 use Rattle.tokens.specs.Tokens
+use Rattle.tokens.specs.WordNumbers as words
 use Rattle.utf8.specs.Utf8.{isScalar, utf8, written}
 use Rattle.utf8.proofs.Utf8.{length-written}
-use Rattle.units.specs.Units.{units, kept as keptUnits, decode, runText}
-use Rattle.units.proofs.Units.{Numbers32, run-scalars, runText-some}
+use Rattle.units.specs.declared.Run.{Run}
+use Rattle.units.specs.declared.Gave.{Gave}
+use Rattle.units.specs.Units.{before, values}
 use Rattle.wellformed.specs.WellFormed.{isUtf8}
-use Rattle.wellformed.proofs.WellFormed.{utf8-empty, utf8-ascii, utf8-one, utf8-all}
-use Rattle.styles.specs.declared.State.{State}
+use Rattle.wellformed.proofs.WellFormed.{utf8-empty, utf8-ascii, utf8-one}
 use Rattle.readings.specs.declared.Reading.{Reading}
-use Rattle.styles.specs.declared.Change.{Change}
-use Rattle.styles.specs.declared.Change.the-variants.{To, Says, Refuses}
-use Rattle.styles.specs.Styles.{fresh, change, styleWords}
+use Rattle.styles.specs.Styles.{styleWords}
 use Rattle.fields.specs.Fields.{inRange}
 use Rattle.blocks.specs.Pages.{Piece}
 use Rattle.walk.specs.declared.Aim.{Aim}
 use Rattle.walk.specs.declared.Aim.the-variants.{Nothing, Hide, Fonts, Colours}
 use Rattle.walk.specs.Walk.{aim, Step, kept, hidden, fontTable, colourTable, entered, stepOf, stepsAt, leftAt, passedBy}
 use Rattle.walk.specs.Walk.{walkFrom, walk}
-use Rattle.runs.specs.Runs.{some}
-use Rattle.body.specs.Body.{Item, token, run, apart, joined, keptItems, stepItems, gather, Asked, stops, goes, says, stackLimit}
-use Rattle.body.specs.Body.{changed, tokenAsks, bareAsks, runAsks, asks, statesOf, pieceOf, uttered, bodyFrom, body}
+use Rattle.settings.specs.Fields.{Setting, freshRow}
+use Rattle.settings.specs.Effects.{Effect, effect}
+use Rattle.settings.specs.Effects as does
+use Rattle.machine.specs.Stack.{stackLimit, moved, stackOf}
+use Rattle.machine.specs.Machine.{Deed, opens, closes, sets, says, unit, refuses, parts, stops, ended, gave, textsOf, writtenAll}
+use Rattle.machine.specs.Machine.{_▸▸_, onward, settle, moveOf, skipOf, spoken, said, machine}
+use Rattle.body.specs.Body.{rows, doing, tokenDeed, deedOf, deeds, body}
 use Rattle.roundtrips.specs.Trips.{Words}
 use Rattle.previews.proofs.Tokens.{All, Fine}
-use Rattle.previews.proofs.States.{Sound, SoundChange, fresh-sound, change-sound, sound-range, sound-words}
-use Rattle.answers.specs.declared.Refusal.{Refusal}
+use Rattle.previews.proofs.States.{Sound, SoundEffect, fresh-sound, all-sound, effect-sound, sound-range, sound-words}
 
--- ---- the walk and the items
+-- ---- the walk
 
 abbrev FineStep : Step → Type 0
 FineStep (kept t) = Fine t
@@ -76,41 +80,6 @@ walk-fine (t ∷ ts) w h = go w (λ k. walk-fine ts k (h .1))
     go zero more = (step-fine t ts (h .0), more (passedBy t ts))
     go (suc k) more = more k
 
-abbrev FineItem : Item → Type 0
-FineItem (token t) = Fine t
-FineItem (run nums) = Numbers32 nums
-FineItem apart = Unit {0}
-
-joined-fine : (num : Property) (is : List Item) → Fine (Shown.word 2 num) → All FineItem is → All FineItem (joined num is)
-joined-fine num [] h k = ((h, tt), tt)
-joined-fine num (run nums ∷ is) h k = ((h, k .0), k .1)
-joined-fine num (token t ∷ is) h k = ((h, tt), k)
-joined-fine num (apart ∷ is) h k = ((h, tt), k)
-
-kept-fine : (t : Shown) (is : List Item) → Fine t → All FineItem is → All FineItem (keptItems t is)
-kept-fine (Shown.word w num) is h k = go (eqb w 2)
-  where
-    go : (t : Bool) → All FineItem (cond t (joined num is) (token (Shown.word w num) ∷ is))
-    go true = joined-fine num is h k
-    go false = (h, k)
-kept-fine (Shown.text p bs) is h k = (h, k)
-kept-fine Shown.opening is h k = (tt, k)
-kept-fine Shown.closing is h k = (tt, k)
-kept-fine Shown.lineBreak is h k = (tt, k)
-kept-fine Shown.ignorable is h k = (tt, k)
-kept-fine (Shown.unknown p bs num) is h k = (tt, k)
-
-items-fine : (s : Step) (is : List Item) → FineStep s → All FineItem is → All FineItem (stepItems s is)
-items-fine (kept t) is h k = kept-fine t is h k
-items-fine hidden is h k = (tt, k)
-items-fine (fontTable late ts) is h k = (tt, k)
-items-fine (colourTable late ts) is h k = (tt, k)
-
-gather-fine : (ss : List Step) → All FineStep ss → All FineItem (gather ss)
-unfolding gather
-gather-fine [] h = tt
-gather-fine (s ∷ ss) h = items-fine s (gather ss) (h .0) (gather-fine ss (h .1))
-
 -- ---- texts
 
 -- "Text is not empty, whole UTF-8"
@@ -133,79 +102,96 @@ written-utf8 c = go (isScalar c) refl
 written-whole : (c : ℕ) → Whole (written c)
 written-whole c = record { some = length-written c .0; utf8 = written-utf8 c }
 
--- a run with a unit
-run-utf8 : (skip : ℕ) (nums : List Property) → Numbers32 nums → isUtf8 (runText skip nums) ≡ true
-unfolding runText
-run-utf8 skip nums h = utf8-all (decode (keptUnits skip (units nums))) (run-scalars skip nums h)
+writtenAll-whole : (cs : List ℕ) → All Whole (writtenAll cs)
+unfolding writtenAll
+writtenAll-whole [] = tt
+writtenAll-whole (c ∷ cs) = (written-whole c, writtenAll-whole cs)
 
-run-some : (skip : ℕ) (nums : List Property) → some (units nums) ≡ true → 0 < length (runText skip nums)
-run-some skip nums = go (units nums) refl
-  where
-    go : (us : List ℕ) → units nums ≡ us → some us ≡ true → 0 < length (runText skip nums)
-    go [] e h = absurd (false≢true h)
-    go (u ∷ us) e h = runText-some skip nums u us e
+both-whole : (a b : List (List ℕ)) → All Whole a → All Whole b → All Whole (a ++ b)
+both-whole [] b h k = k
+both-whole (x ∷ a) b h k = (h .0, both-whole a b (h .1) k)
 
--- ---- what an item asks for
+-- ---- what a token does
 
-abbrev FineAsked : Asked → Type 0
-FineAsked (stops r) = Unit {0}
-FineAsked (goes st) = All Sound st
-FineAsked (says st bs) = All Sound st × Whole bs
+-- settings that keep the ranges of a row, text that is whole
+abbrev FineDeed : Deed Setting → Type 0
+FineDeed (sets ss) = (r : List ℕ) → Sound r → Sound (settle rows ss r)
+FineDeed (says bs) = Whole bs
+FineDeed opens = Unit {0}
+FineDeed closes = Unit {0}
+FineDeed (unit num) = Unit {0}
+FineDeed (refuses why) = Unit {0}
+FineDeed parts = Unit {0}
+FineDeed (stops why) = Unit {0}
 
-changed-fine : (top : State) (rest : List State) (c : Change) → Sound top → All Sound rest → SoundChange c
-    → FineAsked (changed top rest c)
-changed-fine top rest (To s) h k g = (g, k)
-changed-fine top rest (Says c) h k g = ((h, k), written-whole c)
-changed-fine top rest (Refuses r) h k g = tt
+doing-fine : (e : Effect) → SoundEffect e → FineDeed (doing e)
+doing-fine (does.sets ss) h = h
+doing-fine (does.says c) h = written-whole c
+doing-fine (does.refuses why) h = tt
 
 line-low : any isHigh (10 ∷ []) ≡ false
 unfolding any
 line-low = refl
 
-module _ (rd : Reading) (top : State) (rest : List State) (h : Sound top) (k : All Sound rest) where
-  opening-fine : FineAsked (tokenAsks rd top rest Shown.opening)
-  opening-fine = go (eqb (suc (length rest)) stackLimit)
+module _ (rd : Reading) where
+  word-fine : (w : ℕ) (num : Property) → valueOf num < 4294967296 → FineDeed (tokenDeed rd (Shown.word w num))
+  word-fine w num h = go (eqb w words.unicode)
     where
-      go : (t : Bool) → FineAsked (cond t (stops (refusal TooDeep)) (goes (top ∷ top ∷ rest)))
+      go : (t : Bool) → FineDeed (cond t (unit num) (doing (effect rd w num)))
       go true = tt
-      go false = (h, (h, k))
+      go false = doing-fine (effect rd w num) (effect-sound w num rd h)
 
-  token-fine : (t : Shown) → Fine t → FineAsked (tokenAsks rd top rest t)
-  token-fine Shown.opening g = opening-fine
-  token-fine Shown.closing g = k
-  token-fine Shown.lineBreak g = ((h, k), record { some = omega arith; utf8 = utf8-ascii (10 ∷ []) line-low })
-  token-fine Shown.ignorable g = tt
-  token-fine (Shown.text p bs) g = ((h, k), record { some = g .0; utf8 = utf8-ascii bs (g .1) })
-  token-fine (Shown.word w num) g = changed-fine top rest (change rd top w num) h k (change-sound rd top w num h g)
-  token-fine (Shown.unknown p bs num) g = (h, k)
+  token-fine : (t : Shown) → Fine t → FineDeed (tokenDeed rd t)
+  token-fine Shown.opening h = tt
+  token-fine Shown.closing h = tt
+  token-fine Shown.lineBreak h = record { some = omega arith; utf8 = utf8-ascii (10 ∷ []) line-low }
+  token-fine Shown.ignorable h = tt
+  token-fine (Shown.text p bs) h = record { some = h .0; utf8 = utf8-ascii bs (h .1) }
+  token-fine (Shown.word w num) h = word-fine w num h
+  token-fine (Shown.unknown p bs num) h = all-sound [] tt
 
-  run-fine : (nums : List Property) → Numbers32 nums → FineAsked (runAsks top rest nums)
-  run-fine nums g = go (some (units nums)) refl
-    where
-      go : (t : Bool) → some (units nums) ≡ t
-          → FineAsked (cond t (says (top ∷ rest) (runText (top .skip) nums)) (goes (top ∷ rest)))
-      go true e = ((h, k), record { some = run-some (top .skip) nums e; utf8 = run-utf8 (top .skip) nums g })
-      go false e = (h, k)
+  deed-fine : (s : Step) → FineStep s → FineDeed (deedOf rd s)
+  deed-fine (kept t) h = token-fine t h
+  deed-fine hidden h = tt
+  deed-fine (fontTable late ts) h = tt
+  deed-fine (colourTable late ts) h = tt
 
-bare-fine : (t : Shown) → FineAsked (bareAsks t)
-bare-fine Shown.opening = (fresh-sound, tt)
-bare-fine Shown.closing = tt
-bare-fine Shown.lineBreak = tt
-bare-fine Shown.ignorable = tt
-bare-fine (Shown.text p bs) = tt
-bare-fine (Shown.word w num) = tt
-bare-fine (Shown.unknown p bs num) = tt
+  deeds-fine : (ss : List Step) → All FineStep ss → All FineDeed (deeds rd ss)
+  unfolding deeds
+  deeds-fine [] h = tt
+  deeds-fine (s ∷ ss) h = (deed-fine s (h .0), deeds-fine ss (h .1))
 
-asks-fine : (rd : Reading) (st : List State) (i : Item) → All Sound st → FineItem i → FineAsked (asks rd st i)
-unfolding asks
-asks-fine rd [] apart h g = tt
-asks-fine rd (top ∷ rest) apart h g = h
-asks-fine rd [] (token t) h g = bare-fine t
-asks-fine rd (top ∷ rest) (token t) h g = token-fine rd top rest (h .0) (h .1) t g
-asks-fine rd [] (run nums) h g = tt
-asks-fine rd (top ∷ rest) (run nums) h g = run-fine rd top rest (h .0) (h .1) nums g
+-- ---- the stack
 
--- ---- the body
+opened-sound : (top : List ℕ) (rest : List (List ℕ)) → Sound top → All Sound rest
+    → All Sound (stackOf (moved freshRow (top ∷ rest) (moveOf rows opens)))
+unfolding moved
+opened-sound top rest h k = go (eqb (suc (length rest)) stackLimit)
+  where
+    go : (t : Bool) → All Sound (stackOf (cond t (refused (refusal TooDeep)) (found (top ∷ top ∷ rest))))
+    go true = tt
+    go false = (h, (h, k))
+
+moved-sound : (st : List (List ℕ)) (d : Deed Setting) → All Sound st → FineDeed d → All Sound (stackOf (moved freshRow st (moveOf rows d)))
+unfolding moved
+moved-sound [] opens h g = (fresh-sound, tt)
+moved-sound [] closes h g = tt
+moved-sound [] (sets ss) h g = tt
+moved-sound [] (says bs) h g = tt
+moved-sound [] (unit num) h g = tt
+moved-sound [] (refuses why) h g = tt
+moved-sound [] parts h g = tt
+moved-sound [] (stops why) h g = tt
+moved-sound (top ∷ rest) opens h g = opened-sound top rest (h .0) (h .1)
+moved-sound (top ∷ rest) closes h g = h .1
+moved-sound (top ∷ rest) (sets ss) h g = (g top (h .0), h .1)
+moved-sound (top ∷ rest) (says bs) h g = h
+moved-sound (top ∷ rest) (unit num) h g = h
+moved-sound (top ∷ rest) (refuses why) h g = tt
+moved-sound (top ∷ rest) parts h g = h
+moved-sound (top ∷ rest) (stops why) h g = tt
+
+-- ---- what is said
 
 -- a piece that a stored block can be made of
 pub record Storable (x : Piece) : Type 0 where
@@ -213,29 +199,50 @@ pub record Storable (x : Piece) : Type 0 where
   pub words : Words (styleWords (x .style))
   pub text : Whole (x .bytes)
 
-piece-storable : (st : List State) (bs : List ℕ) → All Sound st → Whole bs → Storable (pieceOf st bs)
-piece-storable [] bs h g = record { range = sound-range fresh fresh-sound; words = sound-words fresh fresh-sound; text = g }
-piece-storable (top ∷ rest) bs h g = record { range = sound-range top (h .0); words = sound-words top (h .0); text = g }
+spoken-storable : (top : List ℕ) (texts : List (List ℕ)) → Sound top → All Whole texts → All Storable (spoken rows top texts)
+unfolding spoken
+spoken-storable top [] h k = tt
+spoken-storable top (bs ∷ texts) h k =
+    (record { range = sound-range top h; words = sound-words top h; text = k .0 }, spoken-storable top texts h (k .1))
 
-uttered-storable : (a : Asked) (more : Stream Refusal Piece) → FineAsked a → Each Storable more → Each Storable (uttered a more)
-uttered-storable (stops r) more h k = tt
-uttered-storable (goes st) more h k = k
-uttered-storable (says st bs) more h k = (piece-storable st bs (h .0) (h .1), k)
+own-whole : (d : Deed Setting) → FineDeed d → All Whole (textsOf d)
+own-whole (says bs) h = (h, tt)
+own-whole opens h = tt
+own-whole closes h = tt
+own-whole (sets ss) h = tt
+own-whole (unit num) h = tt
+own-whole (refuses why) h = tt
+own-whole parts h = tt
+own-whole (stops why) h = tt
 
-states-sound : (a : Asked) → FineAsked a → All Sound (statesOf a)
-states-sound (stops r) h = tt
-states-sound (goes st) h = h
-states-sound (says st bs) h = h .0
+said-storable : (st : List (List ℕ)) (g : Gave) (d : Deed Setting) → All Sound st → FineDeed d → All Storable (said rows st g d)
+unfolding said
+said-storable [] g d h k = tt
+said-storable (top ∷ rest) g d h k =
+    spoken-storable top (writtenAll (values g) ++ textsOf d) (h .0)
+    (both-whole (writtenAll (values g)) (textsOf d) (writtenAll-whole (values g)) (own-whole d k))
 
-from-storable : (rd : Reading) (is : List Item) (st : List State) → All Sound st → All FineItem is
-    → Each Storable (bodyFrom rd st is)
-unfolding bodyFrom
-from-storable rd [] st h g = tt
-from-storable rd (i ∷ is) st h g =
-    let a = asks-fine rd st i h (g .0) in
-    uttered-storable (asks rd st i) (bodyFrom rd (statesOf (asks rd st i)) is) a
-    (from-storable rd is (statesOf (asks rd st i)) (states-sound (asks rd st i) a) (g .1))
+front-storable : (xs : List Piece) (more : Stream Refusal Piece) → All Storable xs → Each Storable more → Each Storable (xs ▸▸ more)
+unfolding _▸▸_
+front-storable [] more h k = k
+front-storable (x ∷ xs) more h k = (h .0, front-storable xs more (h .1) k)
+
+onward-storable : (m : Found (List (List ℕ))) (more : Stream Refusal Piece) → Each Storable more → Each Storable (onward m more)
+onward-storable (found st) more h = h
+onward-storable (refused r) more h = tt
+
+machine-storable : (st : List (List ℕ)) (run : Run) (ds : List (Deed Setting)) → All Sound st → All FineDeed ds
+    → Each Storable (machine rows st run ds)
+unfolding machine
+machine-storable st run [] h k = front-storable (said rows st (ended run) parts) end (said-storable st (ended run) parts h tt) tt
+machine-storable st run (d ∷ ds) h k =
+    let g : Gave = gave (skipOf rows st) run d in
+    let m : Found (List (List ℕ)) = moved freshRow st (moveOf rows d) in
+    let more : Stream Refusal Piece = machine rows (stackOf m) (g .run) ds in
+    front-storable (said rows st g d) (onward m more) (said-storable st g d h (k .0))
+    (onward-storable m more (machine-storable (stackOf m) (g .run) ds (moved-sound st d h (k .0)) (k .1)))
 
 pub body-storable : (rd : Reading) (ts : List Shown) → All Fine ts → Each Storable (body rd (walk ts))
+unfolding body
 body-storable rd ts h =
-    from-storable rd (gather (walk ts)) (fresh ∷ []) (fresh-sound, tt) (gather-fine (walk ts) (walk-fine ts 0 h))
+    machine-storable (freshRow ∷ []) before (deeds rd (walk ts)) (fresh-sound, tt) (deeds-fine rd (walk ts) (walk-fine ts 0 h))

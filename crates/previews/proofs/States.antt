@@ -1,239 +1,315 @@
--- The ranges that a state keeps: whatever words come, the style of a state is one that a stored block can have, and each of its
--- fields has 32 bits.
---     fresh-sound     a fresh state
---     change-sound    a word's effect, where the word's number has 32 bits
---     sound-range     the style of such a state is in range
---     sound-words     and its fields have 32 bits
+-- The ranges that a state's row keeps: whatever words come, its style is one that a stored block can have, and each of the style's
+-- words has 32 bits.
+--     fresh-sound     a fresh row
+--     all-sound       settings of fields other than the line's, each to what it holds
+--     effect-sound    a word's settings, where the word's number has 32 bits
+--     sound-range     the style of such a row is in range
+--     sound-words     and its words have 32 bits
 -- Assumes nothing.
-use mathlib.Core.Path.{_≡_, refl}
+use mathlib.Core.Path.{_≡_, refl, ap}
 use mathlib.Core.List.{List, [], _∷_}
 use mathlib.Core.Bool.{Bool, true, false, cond, _||_}
-use Prim.Native.Nat.{ℕ, zero, suc, _-_, _≤_, _<_}
+use Prim.Native.Nat.{ℕ, zero, suc, _+_, _-_, _≤_, _<_}
 use native.Mathlib.Omega.{arith}
-use borrow.Author.Tests.{leb-true, ltb-true, ltb-false, eqb-false, le-leb}
+use borrow.Author.Tests.{leb-true, ltb-true, ltb-false, eqb-false, le-leb, ne-eqb}
 use lib.Dec.{leb, ltb, eqb}
+use lib.ListN.{length, getD, set, length-set}
+use lib.Seq.{getD-set-same, getD-set-other}
 use Rattle.answers.specs.declared.Why.the-variants.{NumberField, LineSpacing}
-use Rattle.answers.specs.Answers.{refusal}
 use Rattle.tokens.specs.declared.Property.{Property}
+use Rattle.tokens.specs.declared.Property.the-variants.{None, Value}
 use Rattle.tokens.specs.Tokens.{valueOf}
-use Rattle.styles.specs.declared.Flags.{Flags}
-use Rattle.styles.specs.declared.Painter.{Painter}
-use Rattle.styles.specs.declared.Paragraph.{Paragraph}
-use Rattle.styles.specs.declared.State.{State}
+use Rattle.tokens.specs.WordNumbers as words
 use Rattle.readings.specs.declared.Reading.{Reading}
 use Rattle.readings.specs.declared.Reading.the-variants.{Plain, Paragraphs}
-use Rattle.styles.specs.declared.Change.{Change}
-use Rattle.styles.specs.declared.Change.the-variants.{To, Says, Refuses}
-use Rattle.styles.specs.Styles.{freshPainter, freshParagraph, fresh, painted, isFlag, isFitted, fitted, fitting, isAligned}
-use Rattle.styles.specs.Styles.{alignment, lined, spacing, measured, isCharacter, ending, change, bit, flagsNumber, styleOf, styleWords}
+use Rattle.styles.specs.Styles.{styleWords}
+use Rattle.settings.specs.Fields.{Setting, _≔_, freshRow, resets, bit, flagsOf, styleOf}
+use Rattle.settings.specs.Fields as field
+use Rattle.settings.specs.Effects.{Effect, sets, says, refuses, setting, fitted, flagOf, lined, spacing, ending}
+use Rattle.settings.specs.Effects.{painterWord, paragraphWord, characterWord, endingWord, effect}
+use Rattle.machine.specs.Machine.{settle}
+use Rattle.body.specs.Body.{rows}
 use Rattle.fields.specs.Fields.{inRange}
 use Rattle.roundtrips.specs.Trips.{Words}
 use Rattle.previews.proofs.Tokens.{All}
-
--- "first three to 65,535"
-pub record SoundPainter (p : Painter) : Type 0 where
-  pub colour : p .colour ≤ 65535
-  pub font : p .font ≤ 65535
-  pub size : p .size ≤ 65535
 
 -- a number of 32 bits
 abbrev Word : ℕ → Type 0
 Word n = n ≤ 4294967295
 
--- "alignment to 3, kind to 1, line value to 2,147,483,647 and 0 if automatic"; the other four are any numbers of tokens
-pub record SoundParagraph (p : Paragraph) : Type 0 where
-  pub alignment : p .alignment ≤ 3
-  pub kind : p .kind ≤ 1
-  pub line : p .line ≤ 2147483647
-  pub automatic : eqb (p .kind) 1 || eqb (p .line) 0 ≡ true
-  pub measures : All Word (p .before ∷ p .after ∷ p .multiplier ∷ p .tab ∷ [])
+-- the most that each field holds: "first three to 65,535", "alignment to 3, kind to 1, line value to 2,147,483,647"; of the others,
+-- what a word holds
+abbrev limits : List ℕ
+limits =
+    65535 ∷ 65535 ∷ 65535
+    ∷ 4294967295 ∷ 4294967295 ∷ 4294967295 ∷ 4294967295 ∷ 4294967295 ∷ 4294967295 ∷ 4294967295
+    ∷ 3 ∷ 4294967295 ∷ 4294967295 ∷ 1 ∷ 2147483647 ∷ 4294967295 ∷ 4294967295
+    ∷ 4294967295 ∷ []
 
-pub record Sound (s : State) : Type 0 where
-  pub painter : SoundPainter (s .painter)
-  pub paragraph : SoundParagraph (s .paragraph)
+-- a row as long as its limits, and below them
+abbrev Below : List ℕ → List ℕ → Type 0
+Below [] [] = Unit {0}
+Below [] (n ∷ ns) = ⊥
+Below (a ∷ vs) [] = ⊥
+Below (a ∷ vs) (n ∷ ns) = (a ≤ n) × Below vs ns
 
-fresh-painter : SoundPainter freshPainter
-fresh-painter = record { colour = omega arith; font = omega arith; size = omega arith }
+-- "and 0 if automatic"
+abbrev Automatic : List ℕ → Type 0
+Automatic r = eqb (getD r field.kind 0) 1 || eqb (getD r field.line 0) 0 ≡ true
 
-fresh-paragraph : SoundParagraph freshParagraph
-fresh-paragraph = record {
-  alignment = omega arith;
-  kind = omega arith;
-  line = omega arith;
-  automatic = refl;
-  measures = omega arith;
+pub record Sound (r : List ℕ) : Type 0 where
+  pub below : Below r limits
+  pub automatic : Automatic r
+
+pub fresh-sound : Sound freshRow
+fresh-sound = record { below = omega arith; automatic = refl }
+
+below-at : (vs ns : List ℕ) → Below vs ns → (f : ℕ) → getD vs f 0 ≤ getD ns f 0
+below-at [] [] h f = omega arith
+below-at [] (n ∷ ns) h f = absurd h
+below-at (a ∷ vs) [] h f = absurd h
+below-at (a ∷ vs) (n ∷ ns) h zero = h .0
+below-at (a ∷ vs) (n ∷ ns) h (suc f) = below-at vs ns (h .1) f
+
+below-length : (vs ns : List ℕ) → Below vs ns → length vs ≡ length ns
+below-length [] [] h = refl
+below-length [] (n ∷ ns) h = absurd h
+below-length (a ∷ vs) [] h = absurd h
+below-length (a ∷ vs) (n ∷ ns) h = ap suc (below-length vs ns (h .1))
+
+below-set : (vs ns : List ℕ) (f v : ℕ) → Below vs ns → v ≤ getD ns f 0 → Below (set vs f v) ns
+below-set [] [] f v h k = tt
+below-set [] (n ∷ ns) f v h k = absurd h
+below-set (a ∷ vs) [] f v h k = absurd h
+below-set (a ∷ vs) (n ∷ ns) zero v h k = (k, h .1)
+below-set (a ∷ vs) (n ∷ ns) (suc f) v h k = (h .0, below-set vs ns f v (h .1) k)
+
+-- ---- settings
+
+-- a field that is neither the line's kind nor its value, set to what it holds
+abbrev Fits : Setting → Type 0
+Fits (f ≔ v) = (v ≤ getD limits f 0) × (eqb field.kind f ≡ false) × (eqb field.line f ≡ false)
+
+set-sound : (r : List ℕ) (s : Setting) → Fits s → Sound r → Sound (settle rows (s ∷ []) r)
+unfolding settle
+set-sound r (f ≔ v) k h = record {
+  below = below-set r limits f v (h .below) (k .0);
+  automatic =
+      rw (getD-set-other r f field.kind v 0 (eqb-false field.kind f (k .1)), getD-set-other r f field.line v 0 (eqb-false field.line f (k .2)))
+      (h .automatic);
 }
 
-pub fresh-sound : Sound fresh
-fresh-sound = record { painter = fresh-painter; paragraph = fresh-paragraph }
+pub all-sound : (ss : List Setting) → All Fits ss → (r : List ℕ) → Sound r → Sound (settle rows ss r)
+unfolding settle
+all-sound [] k r h = h
+all-sound (s ∷ ss) k r h = all-sound ss (k .1) (settle rows (s ∷ []) r) (set-sound r s (k .0) h)
+
+-- the line's kind and value, set together
+lined-sound : (k v : ℕ) → k ≤ 1 → v ≤ 2147483647 → eqb k 1 || eqb v 0 ≡ true → (r : List ℕ) → Sound r
+    → Sound (settle rows (field.kind ≔ k ∷ field.line ≔ v ∷ []) r)
+unfolding settle
+lined-sound k v a b e r h =
+    let n = below-length r limits (h .below) in
+    let m = length-set r field.kind k in
+    record {
+      below = below-set (set r field.kind k) limits field.line v (below-set r limits field.kind k (h .below) a) b;
+      automatic =
+          rw (
+            getD-set-other (set r field.kind k) field.line field.kind v 0 (eqb-false field.kind field.line refl),
+            getD-set-same r field.kind k 0 (omega arith),
+            getD-set-same (set r field.kind k) field.line v 0 (omega arith),
+          )
+          e;
+    }
 
 -- ---- a word's effect
 
-abbrev pub SoundChange : Change → Type 0
-SoundChange (To s) = Sound s
-SoundChange (Says c) = Unit {0}
-SoundChange (Refuses r) = Unit {0}
+abbrev pub SoundEffect : Effect → Type 0
+SoundEffect (sets ss) = (r : List ℕ) → Sound r → Sound (settle rows ss r)
+SoundEffect (says c) = Unit {0}
+SoundEffect (refuses why) = Unit {0}
 
 -- either way of a choice
-either : (t : Bool) (a b : Change) → SoundChange a → SoundChange b → SoundChange (cond t a b)
+either : (t : Bool) (a b : Effect) → SoundEffect a → SoundEffect b → SoundEffect (cond t a b)
 either true a b h k = h
 either false a b h k = k
 
-at-most : (t : Bool) (a b n : ℕ) → a ≤ n → b ≤ n → cond t a b ≤ n
-at-most true a b n h k = h
-at-most false a b n h k = k
+one-sound : (f v : ℕ) → Fits (f ≔ v) → SoundEffect (setting f v)
+one-sound f v k = all-sound (f ≔ v ∷ []) (k, tt)
 
-fitted-sound : (p : Painter) (w v : ℕ) → SoundPainter p → v ≤ 65535 → SoundPainter (fitted p w v)
+fitted-sound : (f v : ℕ) → getD limits f 0 ≡ 65535 → eqb field.kind f ≡ false → eqb field.line f ≡ false → SoundEffect (fitted f v)
 unfolding fitted
-fitted-sound p w v h l = record {
-  colour = at-most (eqb w 11) v (p .colour) 65535 l (h .colour);
-  font = at-most (eqb w 9) v (p .font) 65535 l (h .font);
-  size = at-most (eqb w 10) v (p .size) 65535 l (h .size);
-}
-
-fitting-sound : (s : State) (w v : ℕ) → Sound s → SoundChange (fitting s w v)
-fitting-sound s w v h = go (leb v 65535) refl
+fitted-sound f v e p q = go (leb v 65535) refl
   where
-    go : (t : Bool) → leb v 65535 ≡ t
-        → SoundChange (cond t (To (painted s (fitted (s .painter) w v))) (Refuses NumberField))
-    go true e = record { painter = fitted-sound (s .painter) w v (h .painter) (leb-true v 65535 e); paragraph = h .paragraph }
-    go false e = tt
+    go : (t : Bool) → leb v 65535 ≡ t → SoundEffect (cond t (setting f v) (refuses NumberField))
+    go true l = one-sound f v (omega (arith, e, leb-true v 65535 l), p, q)
+    go false l = tt
 
-alignment-most : (w : ℕ) → alignment w ≤ 3
-unfolding alignment
-alignment-most w =
-    at-most (eqb w 26) 0 _ 3 (omega arith)
-    (at-most (eqb w 27) 1 _ 3 (omega arith)
-    (at-most (eqb w 28) 3 2 3 (omega arith) (omega arith)))
+flag-word : (num : Property) → Word (flagOf num)
+flag-word None = omega arith
+flag-word (Value v) = go (eqb v 1)
+  where
+    go : (t : Bool) → Word (cond t 1 0)
+    go true = omega arith
+    go false = omega arith
 
-lined-sound : (s : State) (v : ℕ) → Sound s → v ≤ 2147483647 → Sound (lined s 1 v)
-lined-sound s v h l = record {
-  painter = h .painter;
-  paragraph = record {
-    alignment = h .paragraph .alignment;
-    kind = omega arith;
-    line = l;
-    automatic = refl;
-    measures = h .paragraph .measures;
-  };
-}
-
-spacing-sound : (s : State) (v : ℕ) → Sound s → SoundChange (spacing s v)
+spacing-sound : (v : ℕ) → SoundEffect (spacing v)
 unfolding spacing
-spacing-sound s v h =
-    either (eqb v 1000) _ _ automatic (go (eqb v 2147483648) (ltb v 2147483648) refl refl)
+spacing-sound v =
+    either (eqb v 1000) _ _ (lined-sound 0 0 (omega arith) (omega arith) refl) (go (eqb v 2147483648) (ltb v 2147483648) refl refl)
   where
-    automatic : Sound (lined s 0 0)
-    automatic = record {
-      painter = h .painter;
-      paragraph = record {
-        alignment = h .paragraph .alignment;
-        kind = omega arith;
-        line = omega arith;
-        automatic = refl;
-        measures = h .paragraph .measures;
-      };
-    }
-
     go : (t u : Bool) → eqb v 2147483648 ≡ t → ltb v 2147483648 ≡ u
-        → SoundChange (cond t (Refuses LineSpacing) (cond u (To (lined s 1 v)) (To (lined s 1 (4294967296 - v)))))
+        → SoundEffect (cond t (refuses LineSpacing) (cond u (lined 1 v) (lined 1 (4294967296 - v))))
     go true u e f = tt
-    go false true e f = lined-sound s v h (omega (arith, ltb-true v 2147483648 f))
-    go false false e f = lined-sound s (4294967296 - v) h (omega (arith, ltb-false v 2147483648 f, eqb-false v 2147483648 e))
+    go false true e f = lined-sound 1 v (omega arith) (omega (arith, ltb-true v 2147483648 f)) refl
+    go false false e f =
+        lined-sound 1 (4294967296 - v) (omega arith) (omega (arith, ltb-false v 2147483648 f, eqb-false v 2147483648 e)) refl
 
-ending-sound : (rd : Reading) (s : State) → Sound s → SoundChange (ending rd s)
-ending-sound Plain s h = h
-ending-sound Paragraphs s h = tt
+ending-sound : (rd : Reading) → SoundEffect (ending rd)
+ending-sound Plain = all-sound [] tt
+ending-sound Paragraphs = tt
 
-measured-sound : (p : Paragraph) (w v : ℕ) → SoundParagraph p → Word v → SoundParagraph (measured p w v)
-unfolding measured
-measured-sound p w v h l =
-    let m = h .measures in
-    record {
-      alignment = h .alignment;
-      kind = h .kind;
-      line = h .line;
-      automatic = h .automatic;
-      measures =
-          omega (
-            arith,
-            at-most (eqb w 33) v (p .before) 4294967295 l (m .0),
-            at-most (eqb w 34) v (p .after) 4294967295 l (m .1 .0),
-            at-most (eqb w 36) v (p .multiplier) 4294967295 l (m .1 .1 .0),
-            at-most (eqb w 25) v (p .tab) 4294967295 l (m .1 .1 .1 .0),
-          );
-    }
+-- fields before the line's, each to its fresh value
+resets-fit : (f n : ℕ) → f + n ≤ field.kind → All Fits (resets f n)
+unfolding resets
+resets-fit f zero l = tt
+resets-fit f (suc n) l = (
+  (below-at freshRow limits (fresh-sound .below) f, ne-eqb field.kind f (λ e. omega arith), ne-eqb field.line f (λ e. omega arith)),
+  resets-fit (suc f) n (omega (arith, l)),
+)
 
-pub change-sound : (rd : Reading) (s : State) (w : ℕ) (num : Property) → Sound s → valueOf num < 4294967296
-    → SoundChange (change rd s w num)
-unfolding change
-change-sound rd s w num h n =
-    let p = h .painter in
-    let q = h .paragraph in
-    either (isFlag w) _ _
-    (record { painter = record { colour = p .colour; font = p .font; size = p .size }; paragraph = q })
-    (either (isFitted w) _ _ (fitting-sound s w (valueOf num) h)
-    (either (isCharacter w) _ _ tt
-    (either (isAligned w) _ _
-    (record {
-      painter = p;
-      paragraph = record {
-        alignment = alignment-most w;
-        kind = q .kind;
-        line = q .line;
-        automatic = q .automatic;
-        measures = q .measures;
-      };
-    })
-    (either (eqb w 35) _ _ (spacing-sound s (valueOf num) h)
-    (either (eqb w 23) _ _ (record { painter = fresh-painter; paragraph = q })
-    (either (eqb w 21) _ _ (record { painter = p; paragraph = fresh-paragraph })
-    (either (eqb w 20) _ _ (ending-sound rd s h)
-    (either (eqb w 3) _ _ (record { painter = p; paragraph = q })
-    (record { painter = p; paragraph = measured-sound (s .paragraph) w (valueOf num) q (omega arith) })))))))))
+-- `plain`
+painter-resets : SoundEffect (sets (resets field.colour field.painterWidth))
+painter-resets = all-sound (resets field.colour field.painterWidth) (resets-fit field.colour field.painterWidth (omega arith))
+
+-- `pard`: three fields before the line's, the line's, two behind
+paragraph-resets : SoundEffect (sets (resets field.alignment field.paragraphWidth))
+unfolding resets settle
+paragraph-resets r h =
+    let front : List Setting = resets field.alignment 3 in
+    let line : List Setting = field.kind ≔ 0 ∷ field.line ≔ 0 ∷ [] in
+    all-sound (field.multiplier ≔ 0 ∷ field.tab ≔ 0 ∷ []) ((omega arith, refl, refl), ((omega arith, refl, refl), tt))
+    (settle rows line (settle rows front r))
+    (lined-sound 0 0 (omega arith) (omega arith) refl (settle rows front r)
+    (all-sound front (resets-fit field.alignment 3 (omega arith)) r h))
+
+module _ (w : ℕ) (num : Property) where
+  painter-sound : (next : Effect) → SoundEffect next → SoundEffect (painterWord w num next)
+  unfolding painterWord
+  painter-sound next k =
+      let flag = flag-word num in
+      either (eqb w words.colourNumber) _ _ (fitted-sound field.colour (valueOf num) refl refl refl)
+      (either (eqb w words.fontNumber) _ _ (fitted-sound field.font (valueOf num) refl refl refl)
+      (either (eqb w words.fontSize) _ _ (fitted-sound field.size (valueOf num) refl refl refl)
+      (either (eqb w words.bold) _ _ (one-sound field.bold (flagOf num) (flag, refl, refl))
+      (either (eqb w words.italic) _ _ (one-sound field.italic (flagOf num) (flag, refl, refl))
+      (either (eqb w words.underline) _ _ (one-sound field.underline (flagOf num) (flag, refl, refl))
+      (either (eqb w words.superscript) _ _ (one-sound field.superscript (flagOf num) (flag, refl, refl))
+      (either (eqb w words.subscript) _ _ (one-sound field.subscript (flagOf num) (flag, refl, refl))
+      (either (eqb w words.smallcaps) _ _ (one-sound field.smallcaps (flagOf num) (flag, refl, refl))
+      (either (eqb w words.strikethrough) _ _ (one-sound field.strike (flagOf num) (flag, refl, refl))
+      (either (eqb w words.underlineNone) _ _ (one-sound field.underline 0 (omega arith, refl, refl))
+      (either (eqb w words.plain) _ _ painter-resets k)))))))))))
+
+  paragraph-sound : (next : Effect) → Word (valueOf num) → SoundEffect next → SoundEffect (paragraphWord w num next)
+  unfolding paragraphWord
+  paragraph-sound next n k =
+      either (eqb w words.pard) _ _ paragraph-resets
+      (either (eqb w words.spaceBetweenLine) _ _ (spacing-sound (valueOf num))
+      (either (eqb w words.spaceBefore) _ _ (one-sound field.before (valueOf num) (n, refl, refl))
+      (either (eqb w words.spaceAfter) _ _ (one-sound field.after (valueOf num) (n, refl, refl))
+      (either (eqb w words.spaceLineMul) _ _ (one-sound field.multiplier (valueOf num) (n, refl, refl))
+      (either (eqb w words.parDefTab) _ _ (one-sound field.tab (valueOf num) (n, refl, refl))
+      (either (eqb w words.unicodeIgnoreCount) _ _ (one-sound field.skip (valueOf num) (n, refl, refl))
+      (either (eqb w words.leftAligned) _ _ (one-sound field.alignment 0 (omega arith, refl, refl))
+      (either (eqb w words.rightAligned) _ _ (one-sound field.alignment 1 (omega arith, refl, refl))
+      (either (eqb w words.center) _ _ (one-sound field.alignment 2 (omega arith, refl, refl))
+      (either (eqb w words.justify) _ _ (one-sound field.alignment 3 (omega arith, refl, refl)) k))))))))))
+
+  character-sound : (next : Effect) → SoundEffect next → SoundEffect (characterWord w next)
+  unfolding characterWord
+  character-sound next k =
+      either (eqb w words.emdash) _ _ tt
+      (either (eqb w words.endash) _ _ tt
+      (either (eqb w words.bullet) _ _ tt
+      (either (eqb w words.leftSingleQuote) _ _ tt
+      (either (eqb w words.rightSingleQuote) _ _ tt
+      (either (eqb w words.leftDoubleQuote) _ _ tt
+      (either (eqb w words.rightDoubleQuote) _ _ tt
+      (either (eqb w words.tab) _ _ tt
+      (either (eqb w words.line) _ _ tt k))))))))
+
+  word-sound : (rd : Reading) (next : Effect) → SoundEffect next → SoundEffect (endingWord rd w next)
+  unfolding endingWord
+  word-sound rd next k = either (eqb w words.par) _ _ (ending-sound rd) k
+
+  pub effect-sound : (rd : Reading) → valueOf num < 4294967296 → SoundEffect (effect rd w num)
+  unfolding effect
+  effect-sound rd n =
+      painter-sound _ (paragraph-sound _ (omega (arith, n)) (character-sound _ (word-sound rd _ (all-sound [] tt))))
 
 -- ---- the style
 
-bit-most : (b : Bool) (n : ℕ) → bit b n ≤ n
-bit-most true n = omega arith
-bit-most false n = omega arith
+bit-most : (v n : ℕ) → bit v n ≤ n
+bit-most v n = go (eqb v 1)
+  where
+    go : (t : Bool) → cond t n 0 ≤ n
+    go true = omega arith
+    go false = omega arith
 
-flags-most : (f : Flags) → flagsNumber f ≤ 127
-unfolding flagsNumber
-flags-most f =
+flags-most : (r : List ℕ) → flagsOf r ≤ 127
+unfolding flagsOf
+flags-most r =
     omega (
       arith,
-      bit-most (f .bold) 1,
-      bit-most (f .italic) 2,
-      bit-most (f .underline) 4,
-      bit-most (f .superscript) 8,
-      bit-most (f .subscript) 16,
-      bit-most (f .smallcaps) 32,
-      bit-most (f .strike) 64,
+      bit-most (getD r field.bold 0) 1,
+      bit-most (getD r field.italic 0) 2,
+      bit-most (getD r field.underline 0) 4,
+      bit-most (getD r field.superscript 0) 8,
+      bit-most (getD r field.subscript 0) 16,
+      bit-most (getD r field.smallcaps 0) 32,
+      bit-most (getD r field.strike 0) 64,
     )
 
-pub sound-range : (s : State) → Sound s → inRange (styleOf s) ≡ true
-unfolding inRange styleOf
-sound-range s h =
-    let p = s .painter in
-    let q = s .paragraph in
-    rw (
-      le-leb (p .colour) 65535 (h .painter .colour),
-      le-leb (p .font) 65535 (h .painter .font),
-      le-leb (p .size) 65535 (h .painter .size),
-      le-leb (flagsNumber (p .flags)) 127 (flags-most (p .flags)),
-      le-leb (q .alignment) 3 (h .paragraph .alignment),
-      le-leb (q .kind) 1 (h .paragraph .kind),
-      le-leb (q .line) 2147483647 (h .paragraph .line),
-      h .paragraph .automatic,
-    )
+module _ (r : List ℕ) (h : Sound r) where
+  field-most : (f : ℕ) → getD r f 0 ≤ getD limits f 0
+  field-most = below-at r limits (h .below)
+
+  pub sound-range : inRange (styleOf r) ≡ true
+  unfolding inRange styleOf
+  sound-range =
+      rw (
+        le-leb (getD r field.colour 0) 65535 (field-most field.colour),
+        le-leb (getD r field.font 0) 65535 (field-most field.font),
+        le-leb (getD r field.size 0) 65535 (field-most field.size),
+        le-leb (flagsOf r) 127 (flags-most r),
+        le-leb (getD r field.alignment 0) 3 (field-most field.alignment),
+        le-leb (getD r field.kind 0) 1 (field-most field.kind),
+        le-leb (getD r field.line 0) 2147483647 (field-most field.line),
+        h .automatic,
+      )
 
 words-all : (ns : List ℕ) → All Word ns → Words ns
 words-all [] h i = omega arith
 words-all (n ∷ ns) h zero = omega (arith, h .0)
 words-all (n ∷ ns) h (suc i) = words-all ns (h .1) i
 
-pub sound-words : (s : State) → Sound s → Words (styleWords (styleOf s))
+pub sound-words : (r : List ℕ) → Sound r → Words (styleWords (styleOf r))
 unfolding styleOf
-sound-words s h =
-    words-all (styleWords (styleOf s)) (omega (arith, h .painter, h .paragraph, flags-most (s .painter .flags)))
+sound-words r h =
+    let most = field-most r h in
+    words-all (styleWords (styleOf r))
+    (omega (
+      arith,
+      most field.colour,
+      most field.font,
+      most field.size,
+      flags-most r,
+      most field.alignment,
+      most field.before,
+      most field.after,
+      most field.kind,
+      most field.line,
+      most field.multiplier,
+      most field.tab,
+    ))

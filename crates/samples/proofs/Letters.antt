@@ -2,7 +2,6 @@
 use mathlib.Core.Path.{_≡_, refl}
 use mathlib.Core.List.{List, [], _∷_}
 use mathlib.Core.Bool.{Bool, true, _&&_}
-use Prim.Native.Nat.{ℕ}
 use lib.ListN.{length}
 use lib.Dec.{eqb}
 use Rattle.answers.specs.Answers.{Found, found, refused}
@@ -10,23 +9,26 @@ use Rattle.bytes.specs.Bytes.{lead, body, any}
 use Rattle.bytes.specs.Texts.{bytesOf}
 use Rattle.names.specs.Names.{sameBytes, placeIn, wordNumber}
 use Rattle.numbers.specs.Numbers.{hexDigit, hexPair, digitsFrom, digits, decimal}
-use Rattle.rooms.specs.Streams.{andThen, each, answer, items, ended}
+use Rattle.rooms.specs.Streams.{andThen, each, items, ended}
 use Rattle.rooms.specs.Rooms.{settled, tableLimit}
 use Rattle.slices.specs.Slices.{split, slices}
 use Rattle.tokens.specs.Tokens.{recordOf, shownBy}
 use Rattle.tokenize.specs.Tokenize.{mark, plain, hexValue, hexEscape, lineBreakAnd, shownWord, numbered, named, bareLength, wordTail, word, other, escaped, tokens}
 use Rattle.cutter.specs.Cutting.{located, last, allSlices, trimmed, tokenStream, cutAnswer}
 use Rattle.utf8.specs.Utf8.{utf8, written}
-use Rattle.units.specs.Units.{unitOf, units, later, kept, decode, utf8All, runText}
+use Rattle.units.specs.Units.{unitOf, taken, met, metAny, step, values}
+use Rattle.machine.specs.Stack.{moved}
+use Rattle.machine.specs.Machine.{gave, writtenAll, _▸▸_, settle, spoken, said, machine}
 use Rattle.walk.specs.Walk.{aimFrom, extent, walkFrom}
 use Rattle.fonts.specs.Rows.{fontRecord, tableWords, hasKey, inserted, stored}
 use Rattle.fonts.specs.Fonts.{named as fontNamed, fontWord, fontToken, fontsFrom, fonts}
 use Rattle.colours.specs.Colours.{colourWordOf, colourToken, coloursFrom, colours}
 use Rattle.header.specs.Header.{tablesFrom}
 use Rattle.readings.specs.declared.Reading.the-variants.{Plain}
-use Rattle.styles.specs.Styles.{flagged, fitted, alignment, spacing, measured, character, change, flagsNumber, styleOf}
+use Rattle.settings.specs.Fields.{resets, flagsOf, styleOf}
+use Rattle.settings.specs.Effects.{fitted, spacing, painterWord, paragraphWord, characterWord, endingWord, effect}
 use Rattle.blocks.specs.Pages.{blockRecord, blocksFrom, blocks, textOf, records, roomy}
-use Rattle.body.specs.Body.{gather, asks, bodyFrom}
+use Rattle.body.specs.Body.{deeds, body as bodyOf}
 use Rattle.parser.specs.declared.Answer.the-variants.{Read}
 use Rattle.parser.specs.Parsing.{Sizes, Letter, placed, bodied, answerNumber}
 use Rattle.reader.specs.Reading.{letterOf, answered, readAnswer, blockRoom, textRoom}
@@ -47,11 +49,11 @@ holds z [] = true
 holds z (s ∷ ss) = says s (letterOf Plain (bytesOf (s .letter)) z) && holds z ss
 
 sample-letters : holds room samples ≡ true
-unfolding holds says samples room letterOf shownBy bodied placed roomy bodyFrom asks gather blocks blocksFrom textOf records tableWords fontRecord walkFrom extent aimFrom tablesFrom fonts fontsFrom fontToken fontWord stored inserted hasKey fontNamed colours coloursFrom colourToken colourWordOf tableLimit runText utf8All decode kept later units unitOf utf8 written change styleOf flagsNumber flagged fitted alignment spacing measured character cutAnswer tokenStream trimmed allSlices last located settled ended items each andThen split slices lead body any tokens escaped other word wordTail bareLength named numbered shownWord lineBreakAnd hexEscape hexValue plain mark wordNumber placeIn sameBytes hexDigit hexPair digitsFrom digits decimal recordOf
+unfolding holds says samples room letterOf shownBy bodied placed roomy bodyOf deeds machine moved said spoken gave settle writtenAll _▸▸_ blocks blocksFrom textOf records tableWords fontRecord walkFrom extent aimFrom tablesFrom fonts fontsFrom fontToken fontWord stored inserted hasKey fontNamed colours coloursFrom colourToken colourWordOf tableLimit values step metAny met taken unitOf utf8 written effect painterWord paragraphWord characterWord endingWord fitted spacing resets styleOf flagsOf cutAnswer tokenStream trimmed allSlices last located settled ended items each andThen split slices lead body any tokens escaped other word wordTail bareLength named numbered shownWord lineBreakAnd hexEscape hexValue plain mark wordNumber placeIn sameBytes hexDigit hexPair digitsFrom digits decimal recordOf
 sample-letters = refl
 
 telling-letters : holds room telling ≡ true
-unfolding holds says telling room letterOf shownBy bodied placed roomy bodyFrom asks gather blocks blocksFrom textOf records tableWords fontRecord walkFrom extent aimFrom tablesFrom fonts fontsFrom fontToken fontWord stored inserted hasKey fontNamed colours coloursFrom colourToken colourWordOf tableLimit runText utf8All decode kept later units unitOf utf8 written change styleOf flagsNumber flagged fitted alignment spacing measured character cutAnswer tokenStream trimmed allSlices last located settled ended items each andThen split slices lead body any tokens escaped other word wordTail bareLength named numbered shownWord lineBreakAnd hexEscape hexValue plain mark wordNumber placeIn sameBytes hexDigit hexPair digitsFrom digits decimal recordOf
+unfolding holds says telling room letterOf shownBy bodied placed roomy bodyOf deeds machine moved said spoken gave settle writtenAll _▸▸_ blocks blocksFrom textOf records tableWords fontRecord walkFrom extent aimFrom tablesFrom fonts fontsFrom fontToken fontWord stored inserted hasKey fontNamed colours coloursFrom colourToken colourWordOf tableLimit values step metAny met taken unitOf utf8 written effect painterWord paragraphWord characterWord endingWord fitted spacing resets styleOf flagsOf cutAnswer tokenStream trimmed allSlices last located settled ended items each andThen split slices lead body any tokens escaped other word wordTail bareLength named numbered shownWord lineBreakAnd hexEscape hexValue plain mark wordNumber placeIn sameBytes hexDigit hexPair digitsFrom digits decimal recordOf
 telling-letters = refl
 
 -- no room, and room for tokens alone
@@ -62,11 +64,11 @@ tokens-alone : Sizes
 tokens-alone = record { tokens = 96; fonts = 0; colours = 0; blocks = 0; text = 0 }
 
 crowded-letters : holds nowhere crowded ≡ true
-unfolding holds says crowded nowhere letterOf shownBy bodied placed roomy bodyFrom asks gather blocks blocksFrom textOf records tableWords fontRecord walkFrom extent aimFrom tablesFrom fonts fontsFrom fontToken fontWord stored inserted hasKey fontNamed colours coloursFrom colourToken colourWordOf tableLimit runText utf8All decode kept later units unitOf utf8 written change styleOf flagsNumber flagged fitted alignment spacing measured character cutAnswer tokenStream trimmed allSlices last located settled ended items each andThen split slices lead body any tokens escaped other word wordTail bareLength named numbered shownWord lineBreakAnd hexEscape hexValue plain mark wordNumber placeIn sameBytes hexDigit hexPair digitsFrom digits decimal recordOf
+unfolding holds says crowded nowhere letterOf shownBy bodied placed roomy bodyOf deeds machine moved said spoken gave settle writtenAll _▸▸_ blocks blocksFrom textOf records tableWords fontRecord walkFrom extent aimFrom tablesFrom fonts fontsFrom fontToken fontWord stored inserted hasKey fontNamed colours coloursFrom colourToken colourWordOf tableLimit values step metAny met taken unitOf utf8 written effect painterWord paragraphWord characterWord endingWord fitted spacing resets styleOf flagsOf cutAnswer tokenStream trimmed allSlices last located settled ended items each andThen split slices lead body any tokens escaped other word wordTail bareLength named numbered shownWord lineBreakAnd hexEscape hexValue plain mark wordNumber placeIn sameBytes hexDigit hexPair digitsFrom digits decimal recordOf
 crowded-letters = refl
 
 cramped-letters : holds tokens-alone cramped ≡ true
-unfolding holds says cramped tokens-alone letterOf shownBy bodied placed roomy bodyFrom asks gather blocks blocksFrom textOf records tableWords fontRecord walkFrom extent aimFrom tablesFrom fonts fontsFrom fontToken fontWord stored inserted hasKey fontNamed colours coloursFrom colourToken colourWordOf tableLimit runText utf8All decode kept later units unitOf utf8 written change styleOf flagsNumber flagged fitted alignment spacing measured character cutAnswer tokenStream trimmed allSlices last located settled ended items each andThen split slices lead body any tokens escaped other word wordTail bareLength named numbered shownWord lineBreakAnd hexEscape hexValue plain mark wordNumber placeIn sameBytes hexDigit hexPair digitsFrom digits decimal recordOf
+unfolding holds says cramped tokens-alone letterOf shownBy bodied placed roomy bodyOf deeds machine moved said spoken gave settle writtenAll _▸▸_ blocks blocksFrom textOf records tableWords fontRecord walkFrom extent aimFrom tablesFrom fonts fontsFrom fontToken fontWord stored inserted hasKey fontNamed colours coloursFrom colourToken colourWordOf tableLimit values step metAny met taken unitOf utf8 written effect painterWord paragraphWord characterWord endingWord fitted spacing resets styleOf flagsOf cutAnswer tokenStream trimmed allSlices last located settled ended items each andThen split slices lead body any tokens escaped other word wordTail bareLength named numbered shownWord lineBreakAnd hexEscape hexValue plain mark wordNumber placeIn sameBytes hexDigit hexPair digitsFrom digits decimal recordOf
 cramped-letters = refl
 
 -- the sample listing, in rooms that its records fill
@@ -74,13 +76,13 @@ just : Sizes
 just = record { tokens = 36; fonts = 0; colours = 0; blocks = 26; text = 2 }
 
 listing-answer : readAnswer Plain (bytesOf listed) just ≡ Read listedCounts
-unfolding readAnswer listed listedCounts just letterOf shownBy bodied placed roomy bodyFrom asks gather blocks blocksFrom textOf records tableWords fontRecord walkFrom extent aimFrom tablesFrom fonts fontsFrom fontToken fontWord stored inserted hasKey fontNamed colours coloursFrom colourToken colourWordOf tableLimit runText utf8All decode kept later units unitOf utf8 written change styleOf flagsNumber flagged fitted alignment spacing measured character cutAnswer tokenStream trimmed allSlices last located settled ended items each andThen split slices lead body any tokens escaped other word wordTail bareLength named numbered shownWord lineBreakAnd hexEscape hexValue plain mark wordNumber placeIn sameBytes hexDigit hexPair digitsFrom digits decimal recordOf
+unfolding readAnswer listed listedCounts just letterOf shownBy bodied placed roomy bodyOf deeds machine moved said spoken gave settle writtenAll _▸▸_ blocks blocksFrom textOf records tableWords fontRecord walkFrom extent aimFrom tablesFrom fonts fontsFrom fontToken fontWord stored inserted hasKey fontNamed colours coloursFrom colourToken colourWordOf tableLimit values step metAny met taken unitOf utf8 written effect painterWord paragraphWord characterWord endingWord fitted spacing resets styleOf flagsOf cutAnswer tokenStream trimmed allSlices last located settled ended items each andThen split slices lead body any tokens escaped other word wordTail bareLength named numbered shownWord lineBreakAnd hexEscape hexValue plain mark wordNumber placeIn sameBytes hexDigit hexPair digitsFrom digits decimal recordOf
 listing-answer = refl
 
 listing-blocks : blockRoom Plain (bytesOf listed) just ≡ listedBlocks
-unfolding blockRoom blockRecord listed listedBlocks just letterOf shownBy bodied placed roomy bodyFrom asks gather blocks blocksFrom textOf records tableWords fontRecord walkFrom extent aimFrom tablesFrom fonts fontsFrom fontToken fontWord stored inserted hasKey fontNamed colours coloursFrom colourToken colourWordOf tableLimit runText utf8All decode kept later units unitOf utf8 written change styleOf flagsNumber flagged fitted alignment spacing measured character cutAnswer tokenStream trimmed allSlices last located settled ended items each andThen split slices lead body any tokens escaped other word wordTail bareLength named numbered shownWord lineBreakAnd hexEscape hexValue plain mark wordNumber placeIn sameBytes hexDigit hexPair digitsFrom digits decimal recordOf
+unfolding blockRoom blockRecord listed listedBlocks just letterOf shownBy bodied placed roomy bodyOf deeds machine moved said spoken gave settle writtenAll _▸▸_ blocks blocksFrom textOf records tableWords fontRecord walkFrom extent aimFrom tablesFrom fonts fontsFrom fontToken fontWord stored inserted hasKey fontNamed colours coloursFrom colourToken colourWordOf tableLimit values step metAny met taken unitOf utf8 written effect painterWord paragraphWord characterWord endingWord fitted spacing resets styleOf flagsOf cutAnswer tokenStream trimmed allSlices last located settled ended items each andThen split slices lead body any tokens escaped other word wordTail bareLength named numbered shownWord lineBreakAnd hexEscape hexValue plain mark wordNumber placeIn sameBytes hexDigit hexPair digitsFrom digits decimal recordOf
 listing-blocks = refl
 
 listing-text : textRoom Plain (bytesOf listed) just ≡ listedText
-unfolding textRoom listed listedText just letterOf shownBy bodied placed roomy bodyFrom asks gather blocks blocksFrom textOf records tableWords fontRecord walkFrom extent aimFrom tablesFrom fonts fontsFrom fontToken fontWord stored inserted hasKey fontNamed colours coloursFrom colourToken colourWordOf tableLimit runText utf8All decode kept later units unitOf utf8 written change styleOf flagsNumber flagged fitted alignment spacing measured character cutAnswer tokenStream trimmed allSlices last located settled ended items each andThen split slices lead body any tokens escaped other word wordTail bareLength named numbered shownWord lineBreakAnd hexEscape hexValue plain mark wordNumber placeIn sameBytes hexDigit hexPair digitsFrom digits decimal recordOf
+unfolding textRoom listed listedText just letterOf shownBy bodied placed roomy bodyOf deeds machine moved said spoken gave settle writtenAll _▸▸_ blocks blocksFrom textOf records tableWords fontRecord walkFrom extent aimFrom tablesFrom fonts fontsFrom fontToken fontWord stored inserted hasKey fontNamed colours coloursFrom colourToken colourWordOf tableLimit values step metAny met taken unitOf utf8 written effect painterWord paragraphWord characterWord endingWord fitted spacing resets styleOf flagsOf cutAnswer tokenStream trimmed allSlices last located settled ended items each andThen split slices lead body any tokens escaped other word wordTail bareLength named numbered shownWord lineBreakAnd hexEscape hexValue plain mark wordNumber placeIn sameBytes hexDigit hexPair digitsFrom digits decimal recordOf
 listing-text = refl

@@ -1,6 +1,7 @@
--- What the code does to a number, byte by byte, is the mark of each byte.
---     each         a test that holds of all bytes, by one computation
---     marks-right  the code's steps over eight bytes
+-- What is done to a number of eight bytes at once is done to each byte.
+--     each          a test that holds of all bytes, by one computation
+--     word-right    steps that stay within a byte, done to the number
+--     marks-right   the code's steps make the marks
 -- Assumes nothing.
 use mathlib.Core.Path.{_≡_, refl, ap, ap₂, _∙_}
 use mathlib.Core.List.{List, [], _∷_, map}
@@ -31,124 +32,101 @@ each p (suc n) t b h = go (eq-or-lt-of-le (le-of-suc-le-suc h)) (each p n (and-r
     go (inl q) ih = ap p q ∙ and-left (p n) (below p n) t
     go (inr l) ih = ih l
 
--- the code's steps on one byte
-abbrev low : ℕ → ℕ
-low b = bitAnd b 127
+-- what leaves each byte in its place
+pub data Op : Type 0 where
+  and : Op
+  or : Op
+  xor : Op
 
-abbrev off : ℕ → ℕ → ℕ
-off c b = bitXor (low b) c + 127
+abbrev pub op : Op → ℕ → ℕ → ℕ
+op and = bitAnd
+op or = bitOr
+op xor = bitXor
 
-abbrev two : ℕ → ℕ
-two b = bitAnd (off 92 b) (off 123 b)
+op-none : (o : Op) → op o zero zero ≡ zero
+op-none and = refl
+op-none or = refl
+op-none xor = refl
 
-abbrev three : ℕ → ℕ
-three b = bitAnd (two b) (off 125 b)
+op-block : (o : Op) (a b r t : ℕ) → r < 256 → t < 256 → op o (a * 256 + r) (b * 256 + t) ≡ op o a b * 256 + op o r t
+op-block and = and-block 8
+op-block or = or-block 8
+op-block xor = xor-block 8
 
-abbrev four : ℕ → ℕ
-four b = bitAnd (three b) (off 10 b)
+-- steps: the number itself, a byte in each place, two numbers made one
+pub data Steps : Type 0 where
+  own : Steps
+  all : ℕ → Steps
+  bits : Op → Steps → Steps → Steps
+  plus : Steps → Steps → Steps
 
-abbrev whole : ℕ → ℕ
-whole b = bitOr (four b) b
+-- done to a number whose places are the ones of k: k is 1 for a byte, and ones for eight
+unfoldable pub done : ℕ → Steps → ℕ → ℕ
+done k own n = n
+done k (all c) n = c * k
+done k (bits o t u) n = op o (done k t n) (done k u n)
+done k (plus t u) n = done k t n + done k u n
 
-abbrev high : ℕ → ℕ
-high b = bitAnd (whole b) 128
+abbrev pub ones : ℕ
+ones = 72340172838076673
 
-abbrev Small : (ℕ → ℕ) → Type 0
-Small f = (b : ℕ) → b < 256 → f b < 256
+abbrev Small : Steps → Bool
+Small t = below (λ (b : ℕ). ltb (done 1 t b) 256) 256
 
-smaller : (f : ℕ → ℕ) → below (λ (b : ℕ). ltb (f b) 256) 256 ≡ true → Small f
-smaller f t b h = ltb-true (f b) 256 (each (λ (c : ℕ). ltb (f c) 256) 256 t b h)
+-- a byte stays a byte
+unfoldable fits : Steps → Bool
+fits own = true
+fits (all c) = true
+fits (bits o t u) = (Small t && Small u) && (fits t && fits u)
+fits (plus t u) = fits t && fits u
 
-small-low : Small low
-unfolding below
-small-low = smaller low refl
+small : (t : Steps) → Small t ≡ true → (b : ℕ) → b < 256 → done 1 t b < 256
+small t e b h = ltb-true (done 1 t b) 256 (each (λ (c : ℕ). ltb (done 1 t c) 256) 256 e b h)
 
-small-two : Small two
-unfolding below
-small-two = smaller two refl
+itself : (s : List ℕ) → packed s ≡ packed (map (λ (b : ℕ). b) s)
+unfolding packed
+itself [] = refl
+itself (b ∷ s) = ap (λ (n : ℕ). n * 256 + b) (itself s)
 
-small-three : Small three
-unfolding below
-small-three = smaller three refl
+repeated : (c : ℕ) (s : List ℕ) → length s ≡ 8 → c * ones ≡ packed (map (λ (b : ℕ). c * 1) s)
+unfolding packed
+repeated c = at-eight (λ (s : List ℕ). c * ones ≡ packed (map (λ (b : ℕ). c * 1) s)) (λ a b d e f g h i. omega arith)
 
-small-four : Small four
-unfolding below
-small-four = smaller four refl
+word-right : (t : Steps) → fits t ≡ true → (s : List ℕ) → length s ≡ 8 → Bytes s → done ones t (packed s) ≡ packed (map (done 1 t) s)
+unfolding done fits
+word-right own e s n y = itself s
+word-right (all c) e s n y = repeated c s n
+word-right (bits o t u) e s n y =
+    let p : (Small t && Small u) ≡ true = and-left (Small t && Small u) (fits t && fits u) e in
+    let q : (fits t && fits u) ≡ true = and-right (Small t && Small u) (fits t && fits u) e in
+    ap₂ (op o) (word-right t (and-left (fits t) (fits u) q) s n y) (word-right u (and-right (fits t) (fits u) q) s n y)
+    ∙ packed-both (op o) (op-none o) (op-block o) (done 1 t) (done 1 u) (small t (and-left (Small t) (Small u) p)) (small u (and-right (Small t) (Small u) p)) s y
+word-right (plus t u) e s n y =
+    ap₂ (λ (a b : ℕ). a + b) (word-right t (and-left (fits t) (fits u) e) s n y) (word-right u (and-right (fits t) (fits u) e) s n y)
+    ∙ packed-sum (done 1 t) (done 1 u) s
 
-small-whole : Small whole
-unfolding below
-small-whole = smaller whole refl
+-- the code's steps
+abbrev low : Steps
+low = bits and own (all 127)
 
-small-high : Small high
-unfolding below
-small-high = smaller high refl
+abbrev braces : Steps
+braces = plus (bits and (plus low (all 2)) (all 125)) (all 3)
 
--- they make its mark
-mark-right : (b : ℕ) → b < 256 → bitXor (high b) 128 ≡ markOf b
-unfolding below
-mark-right b h = eqb-true (bitXor (high b) 128) (markOf b) (each (λ (c : ℕ). eqb (bitXor (high c) 128) (markOf c)) 256 refl b h)
+abbrev others : Steps
+others = plus (bits xor (plus (bits xor low (all 35)) (all 1)) (all 85)) (all 1)
 
-marked-all : (s : List ℕ) → Bytes s → packed (map (λ (b : ℕ). bitXor (high b) 128) s) ≡ packed (marked s)
+abbrev pub marks : Steps
+marks = bits and (bits and (bits or braces others) (bits xor own (all 255))) (all 128)
+
+mark-right : (b : ℕ) → b < 256 → done 1 marks b ≡ markOf b
+unfolding below done
+mark-right b h = eqb-true (done 1 marks b) (markOf b) (each (λ (c : ℕ). eqb (done 1 marks c) (markOf c)) 256 refl b h)
+
+marked-all : (s : List ℕ) → Bytes s → packed (map (done 1 marks) s) ≡ packed (marked s)
 unfolding packed marked
 marked-all [] y = refl
 marked-all (b ∷ s) y = ap₂ (λ (m n : ℕ). m * 256 + n) (marked-all s (λ i. y (suc i))) (mark-right b (y zero))
 
-own : (s : List ℕ) → packed s ≡ packed (map (λ (b : ℕ). b) s)
-unfolding packed
-own [] = refl
-own (b ∷ s) = ap (λ (n : ℕ). n * 256 + b) (own s)
-
--- a number of eight equal bytes
-equal : (c n : ℕ) → n ≡ packed (c ∷ c ∷ c ∷ c ∷ c ∷ c ∷ c ∷ c ∷ []) → (s : List ℕ) → length s ≡ 8 → n ≡ packed (map (λ (b : ℕ). c) s)
-equal c n e = at-eight (λ (s : List ℕ). n ≡ packed (map (λ (b : ℕ). c) s)) (λ a b d f g h i j. e)
-
-module _ (s : List ℕ) (n : length s ≡ 8) (y : Bytes s) where
-  on-and : (f g : ℕ → ℕ) → Small f → Small g → bitAnd (packed (map f s)) (packed (map g s)) ≡ packed (map (λ (b : ℕ). bitAnd (f b) (g b)) s)
-  on-and f g u v = packed-both bitAnd refl (and-block 8) f g u v s y
-
-  on-or : (f g : ℕ → ℕ) → Small f → Small g → bitOr (packed (map f s)) (packed (map g s)) ≡ packed (map (λ (b : ℕ). bitOr (f b) (g b)) s)
-  on-or f g u v = packed-both bitOr refl (or-block 8) f g u v s y
-
-  on-xor : (f g : ℕ → ℕ) → Small f → Small g → bitXor (packed (map f s)) (packed (map g s)) ≡ packed (map (λ (b : ℕ). bitXor (f b) (g b)) s)
-  on-xor f g u v = packed-both bitXor refl (xor-block 8) f g u v s y
-
-  sevens : 9187201950435737471 ≡ packed (map (λ (b : ℕ). 127) s)
-  unfolding packed
-  sevens = equal 127 9187201950435737471 refl s n
-
-  eighths : 9259542123273814144 ≡ packed (map (λ (b : ℕ). 128) s)
-  unfolding packed
-  eighths = equal 128 9259542123273814144 refl s n
-
-  on-low : bitAnd (packed s) 9187201950435737471 ≡ packed (map low s)
-  on-low = ap₂ bitAnd (own s) sevens ∙ on-and (λ (b : ℕ). b) (λ (b : ℕ). 127) (λ b h. h) (λ b h. omega arith)
-
-  on-off : (c l x r : ℕ) → c < 256 → l ≡ packed (c ∷ c ∷ c ∷ c ∷ c ∷ c ∷ c ∷ c ∷ []) → x ≡ bitAnd (packed s) 9187201950435737471 → r ≡ bitXor x l + 9187201950435737471 → r ≡ packed (map (off c) s)
-  on-off c l x r h e q p =
-      p
-      ∙ ap₂ (λ (i j : ℕ). i + j)
-      (ap₂ bitXor (q ∙ on-low) (equal c l e s n) ∙ on-xor low (λ (b : ℕ). c) small-low (λ b i. h))
-      sevens
-      ∙ packed-sum (λ (b : ℕ). bitXor (low b) c) (λ (b : ℕ). 127) s
-
-  module _ (a b c d x : ℕ) (x-is : x ≡ bitAnd (packed s) 9187201950435737471) (a-is : a ≡ bitXor x 6655295901103053916 + 9187201950435737471) (b-is : b ≡ bitXor x 8897841259083430779 + 9187201950435737471) (c-is : c ≡ bitXor x 9042521604759584125 + 9187201950435737471) (d-is : d ≡ bitXor x 723401728380766730 + 9187201950435737471) where
-    on-four : bitAnd (bitAnd (bitAnd a b) c) d ≡ packed (map four s)
-    unfolding packed below
-    on-four =
-        ap₂ bitAnd
-        (ap₂ bitAnd
-        (ap₂ bitAnd (on-off 92 6655295901103053916 x a (omega arith) refl x-is a-is) (on-off 123 8897841259083430779 x b (omega arith) refl x-is b-is)
-        ∙ on-and (off 92) (off 123) (smaller (off 92) refl) (smaller (off 123) refl))
-        (on-off 125 9042521604759584125 x c (omega arith) refl x-is c-is)
-        ∙ on-and two (off 125) small-two (smaller (off 125) refl))
-        (on-off 10 723401728380766730 x d (omega arith) refl x-is d-is)
-        ∙ on-and three (off 10) small-three (smaller (off 10) refl)
-
-    pub marks-right : bitXor (bitAnd (bitOr (bitAnd (bitAnd (bitAnd a b) c) d) (packed s)) 9259542123273814144) 9259542123273814144 ≡ packed (marked s)
-    marks-right =
-        ap₂ bitXor
-        (ap₂ bitAnd (ap₂ bitOr on-four (own s) ∙ on-or four (λ (e : ℕ). e) small-four (λ e h. h)) eighths
-        ∙ on-and whole (λ (e : ℕ). 128) small-whole (λ e h. omega arith))
-        eighths
-        ∙ on-xor high (λ (e : ℕ). 128) small-high (λ e h. omega arith)
-        ∙ marked-all s y
+pub marks-right : (s : List ℕ) → length s ≡ 8 → Bytes s → done ones marks (packed s) ≡ packed (marked s)
+unfolding below done fits
+marks-right s n y = word-right marks refl s n y ∙ marked-all s y

@@ -8,8 +8,7 @@
 // What a byte is, is said in `bytes`; here it is only found faster.
 ghost use mathlib.Core.Path.{_≡_};
 ghost use mathlib.Core.List.{List};
-ghost use Prim.Native.Nat.{ℕ, _+_, _≤_, _<_};
-ghost use lib.Bits.{bitXor};
+ghost use Prim.Native.Nat.{ℕ, _≤_, _<_};
 ghost use lib.ListN.{length, getD};
 ghost use Rattle.bytes.specs.Bytes.{lead};
 ghost use Rattle.slices.specs.Eights.{packed, marked, isPlain};
@@ -28,24 +27,17 @@ fn word_of(s: &[u8]) -> u64
     w
 }
 
-// For each byte of x, all below 128: at least 128 unless it is the byte of c, and below 256, so that no byte touches the next.
-fn unlike(x: u64, c: u64) -> u64
-    requires { ⌜ (x < 9223372036854775808) × (c < 9223372036854775808) ⌝ }
-    ensures { λ r. ⌜ r ≡ bitXor x c + 9187201950435737471 ⌝ }
-{
-    (x ^ c) + 0x7F7F7F7F7F7F7F7F
-}
-
-// 128 in the place of each special byte.
+// 128 in the place of each special byte. The steps are those of one byte, done in eight: no sum touches the next byte, and 128 is
+// reached by the special ones alone. Of the braces, which are two apart, both give 0x7D under the mask, the most that there is. A
+// backslash is 0x7F behind the first step and reaches 128 with the second; a line feed is 0x7F behind the third, which leaves 128.
 fn marks(y: u64) -> u64
     ensures { λ r. ⌜ ((s : List ℕ) → length s ≡ 8 → ((i : ℕ) → getD s i 0 < 256) → y ≡ packed s → r ≡ packed (marked s)) ⌝ }
 {
     let x = y & 0x7F7F7F7F7F7F7F7F;
-    let backslash = unlike(x, 0x5C5C5C5C5C5C5C5C);
-    let opening = unlike(x, 0x7B7B7B7B7B7B7B7B);
-    let closing = unlike(x, 0x7D7D7D7D7D7D7D7D);
-    let feed = unlike(x, 0x0A0A0A0A0A0A0A0A);
-    (((backslash & opening & closing & feed) | y) & 0x8080808080808080) ^ 0x8080808080808080
+    let braces = ((x + 0x0202020202020202) & 0x7D7D7D7D7D7D7D7D) + 0x0303030303030303;
+    let others = (((x ^ 0x2323232323232323) + 0x0101010101010101) ^ 0x5555555555555555)
+        + 0x0101010101010101;
+    (braces | others) & (y ^ 0xFFFFFFFFFFFFFFFF) & 0x8080808080808080
 }
 
 // 128 in the place of each special byte of eight.

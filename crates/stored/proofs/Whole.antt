@@ -18,7 +18,7 @@ use Rattle.blocks.specs.declared.Page.{Page}
 use Rattle.blocks.specs.declared.Laid.{Laid}
 use Rattle.blocks.specs.declared.Laid.the-variants.{On, Full}
 use Rattle.blocks.specs.Pages.{Piece, none, blocks, blockWords}
-use Rattle.blocks.specs.Laying.{Laying, on, off, told, blank, blockCount, lastPut, layAll}
+use Rattle.blocks.specs.Laying.{Laying, on, off, told, blank, layAll}
 use Rattle.blocks.proofs.Settling.{lay-refuses, lay-joins, Joined, Filled, joined-filled}
 use Rattle.stored.specs.declared.Answer.{Answer}
 use Rattle.stored.specs.declared.Answer.the-variants.{Read, Refuses}
@@ -53,13 +53,12 @@ module _ (s b t : List ℕ) (l : Laid) (b₁ t₁ : List ℕ) (h : told l b₁ t
     unfolding placed
     joined = lay-joins (stored s) b t (sym h ∙ ap (λ (m : Laid). told m b₁ t₁) e)
 
-    pub list-laid : {n : ℕ} {b₂ b₃ t₂ : List ℕ} → b₂ ≡ lastPut p b₁ → n ≡ blockCount p
-        → b₃ ≡ take (n * blockWords) b₂ ++ replicate (length b₂ - n * blockWords) 0
-        → t₂ ≡ take (p .text) t₁ ++ replicate (length t₁ - p .text) 0 → ReadsList s b t (Read (record { blocks = n; text = p .text })) b₃ t₂
+    pub list-laid : {b₂ t₂ : List ℕ} → b₂ ≡ take (p .blocks * blockWords) b₁ ++ replicate (length b₁ - p .blocks * blockWords) 0
+        → t₂ ≡ take (p .text) t₁ ++ replicate (length t₁ - p .text) 0 → ReadsList s b t (Read (record { blocks = p .blocks; text = p .text })) b₂ t₂
     unfolding storedAnswer storedBlocks storedText
-    list-laid {n} {b₂} {b₃} {t₂} g q u v =
+    list-laid {b₂} {t₂} u v =
         let st : Stream Refusal Piece = placed (length b) (length t) s in
-        let i : Filled st b t n (p .text) b₃ t₂ = joined-filled joined g q u v in
+        let i : Filled st b t (p .blocks) (p .text) b₂ t₂ = joined-filled joined u v in
         record {
           answer = rw (joined .done) (ap (λ (m : ℕ). Read (record { blocks = m; text = p .text })) (i .counted)
               ∙ ap (λ (m : ℕ). Read (record { blocks = length (blocks (items st)); text = m })) (i .text));

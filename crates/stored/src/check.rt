@@ -2,24 +2,46 @@
 //
 //   check          the answer that `stored::read_list` would give with ample rooms
 //   check_blocks   the same of a list's blocks, behind their count
+//   block_at       one block
 //
 // `check` is total.
 use crate::entry::Entry;
-use crate::entry::block_at;
+use crate::entry::numbers_at;
+use crate::entry::ruled;
+use crate::entry::style_of;
 use answers::Outcome;
 use answers::Refusal;
 use answers::Why;
-use blocks::Page;
 use rooms::wide;
 use sevens::Numeral;
 use sevens::number_at;
+use styles::Style;
 ghost use mathlib.Core.Path.{_≡_};
 ghost use Prim.Native.Nat.{ℕ, _≤_};
 ghost use lib.ListN.{length};
 ghost use Rattle.rooms.specs.Streams.{answer};
 ghost use Rattle.blocks.specs.Pages.{none, roomy};
+ghost use Rattle.fields.specs.Fields.{lastOf};
+ghost use Rattle.stored.specs.Entries.{entry};
 ghost use Rattle.stored.specs.Stored.{blocksFrom};
 ghost use Rattle.stored.specs.Checks.{Checks};
+
+// As `entry::block_at`, and said again so that the compiler lays it into the loop below, which it does with what is called in
+// one place alone: else a style goes through memory twice for each block.
+fn block_at(s: &[u8], begun: bool, before: Style) -> Entry
+    ensures { λ r. ⌜ r ≡ entry (lastOf begun before) (now (s .entry)) ⌝ }
+{
+    let mut words = [0u32; 12];
+    let numbers = numbers_at(s, &mut words);
+    match numbers {
+        Outcome::Refused(refusal) => Entry::Bad(refusal),
+        Outcome::Done(m) => {
+            let style = style_of(&words);
+            let n = wide(words[11]);
+            ruled(&s[m..], begun, before, style, n, m)
+        }
+    }
+}
 
 // Checks k blocks: how many there are, or the refusal.
 fn check_blocks(list: &[u8], k: usize) -> Outcome
@@ -30,7 +52,7 @@ fn check_blocks(list: &[u8], k: usize) -> Outcome
     let mut n = k;
     let mut left: usize = 2147483647;
     let mut begun = false;
-    let mut before = Page::blank().style;
+    let mut before = Style::blank();
     while 0 < n {
         let e = block_at(t, begun, before);
         match e {

@@ -1,9 +1,12 @@
 // One block of a stored list (01, Stored form): its twelve numbers, and the rules for them and for its text.
 //
-//   Entry      a block that stands in a list: its style, how many bytes its numbers have, and how many its text; or a refusal
-//   block_at   the block that a list starts with
+//   Entry        a block that stands in a list: its style, how many bytes its numbers have, and how many its text; or a refusal
+//   numbers_at   numbers, one after the other
+//   style_of     the style that they say
+//   ruled        the rules for ranges, length, style and text
+//   block_at     the block that a list starts with, by the three
 //
-// `block_at` is total. Whoever reads a list, and whoever checks one, reads its blocks by it.
+// All are total but `style_of`. Whoever reads a list reads its blocks by `block_at`, and whoever checks one by the three.
 use answers::Outcome;
 use answers::Refusal;
 use answers::Why;
@@ -27,7 +30,7 @@ pub enum Entry {
 }
 
 // As many numbers as the room has words, one after the other: how many bytes they have.
-fn numbers_at(s: &[u8], words: &mut [u32]) -> Outcome
+pub fn numbers_at(s: &[u8], words: &mut [u32]) -> Outcome
     ensures { λ r. ⌜ NumbersIn (numbersFrom (length (now (words .entry))) (now (s .entry))) (length (now (s .entry))) r
         (now (words .exit)) ⌝ }
 {
@@ -53,7 +56,7 @@ fn numbers_at(s: &[u8], words: &mut [u32]) -> Outcome
 }
 
 // The style that a block's numbers say.
-fn style_of(words: &[u32]) -> Style
+pub fn style_of(words: &[u32]) -> Style
     requires { ⌜ 12 ≤ length (now words) ⌝ }
     ensures { λ r. ⌜ r ≡ styleFrom (now (words .entry)) ⌝ }
 {
@@ -77,7 +80,7 @@ fn style_of(words: &[u32]) -> Style
 }
 
 // A block of a style with n bytes of text, whose numbers have m bytes and are followed by t.
-fn ruled(t: &[u8], begun: bool, before: Style, s: Style, n: usize, m: usize) -> Entry
+pub fn ruled(t: &[u8], begun: bool, before: Style, s: Style, n: usize, m: usize) -> Entry
     ensures { λ r. ⌜ r ≡ ruledOf (lastOf begun before) s n m (now (t .entry)) ⌝ }
 {
     if !(in_range(s) & ((0 < n) & follows(begun, before, s))) {

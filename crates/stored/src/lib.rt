@@ -15,12 +15,12 @@ use blocks::BLOCK_WORDS;
 use blocks::Laid;
 use blocks::Page;
 use blocks::add;
-use blocks::finish;
 use rooms::clear_bytes_from;
 use rooms::clear_from;
 use rooms::wide;
 use sevens::Numeral;
 use sevens::number_at;
+use styles::Style;
 ghost use mathlib.Core.Path.{_≡_};
 ghost use lib.ListN.{length, replicate};
 ghost use Rattle.blocks.specs.Pages.{none};
@@ -39,7 +39,7 @@ pub enum Answer {
     Refuses(Refusal),
 }
 
-// Lays k blocks onto a page. The last block's record is left to `blocks::finish`.
+// Lays k blocks onto a page.
 fn lay_blocks(list: &[u8], k: usize, blocks: &mut [u32], text: &mut [u8]) -> Laid
     ensures { λ r. ⌜ told r (now (blocks .exit)) (now (text .exit))
         ≡ layAll (on blankPage (now (blocks .entry)) (now (text .entry))) (blocksFrom k none (now (list .entry))) ⌝ }
@@ -49,7 +49,7 @@ fn lay_blocks(list: &[u8], k: usize, blocks: &mut [u32], text: &mut [u8]) -> Lai
     let mut n = k;
     let mut page = Page::blank();
     let mut begun = false;
-    let mut before = page.style;
+    let mut before = Style::blank();
     while 0 < n {
         let e = block_at(t, begun, before);
         match e {
@@ -113,8 +113,7 @@ pub fn read_list(list: &[u8], blocks: &mut [u32], text: &mut [u8]) -> Answer
     match laid {
         Laid::Full(refusal) => refuse(refusal, blocks, text),
         Laid::On(page) => {
-            finish(page, blocks);
-            let count = page.count();
+            let count = page.blocks;
             let length = page.text;
             clear_from(blocks, count * BLOCK_WORDS);
             clear_bytes_from(text, length);

@@ -11,9 +11,9 @@ use answers::Outcome;
 use answers::Refusal;
 use answers::Why;
 use blocks::BLOCK_WORDS;
-use blocks::Page;
 use rooms::wide;
 use sevens::put_number;
+use styles::Style;
 ghost use mathlib.Core.Path.{_≡_};
 ghost use Prim.Native.Nat.{_/_, _≤_};
 ghost use lib.ListN.{length};
@@ -40,7 +40,7 @@ fn put_blocks(blocks: &[u32], text: &[u8], room: &mut [u8], n: usize) -> Outcome
 {
     let mut words = blocks;
     let mut begun = false;
-    let mut before = Page::blank().style;
+    let mut before = Style::blank();
     let mut p: usize = 0;
     let mut at = n;
     while BLOCK_WORDS <= words.len() {

@@ -1,2 +1,2 @@
--- Styles: the state that text is written in, and what a word does to it.
+-- Styles: the style of a block.
 pub mod Styles

@@ -40,8 +40,8 @@ use Rattle.header.specs.Header.{noTables, nextStep, tablesFrom, tables}
 use Rattle.readings.specs.declared.Reading.{Reading}
 use Rattle.blocks.specs.Pages.{Piece}
 use Rattle.parser.specs.Parsing.{Letter, letterFrom}
-use Rattle.veil.specs.Said.{namesIn, saidBy}
-use Rattle.veil.proofs.Steps.{laid, finished, stepped, first, ownNames, sayOf}
+use Rattle.veil.specs.Said.{nameIn, namesIn, saidBy}
+use Rattle.veil.proofs.Steps.{laid, finished, stepped, first, ownName, ownNames, sayOf}
 use Rattle.answers.specs.declared.Refusal.{Refusal}
 
 module _ (src : List ℕ) where
@@ -282,10 +282,14 @@ module _ (src : List ℕ) where
     first-at (fontTable late ts ∷ ss) e = stepped-at (fontTable late ts ∷ ss) e
     first-at (colourTable late ts ∷ ss) e = stepped-at (colourTable late ts ∷ ss) e
 
+  -- a name at its font's place is the font's own
+  name-own : (f : Font) → NameAt f → nameIn src f ≡ ownName f
+  name-own f h = ap (λ (n : List ℕ). record { key = f .key; name = n }) h
+
   names-own : (fs : List Font) → NamesAt fs → namesIn src fs ≡ ownNames fs
   unfolding namesIn ownNames
   names-own [] h = refl
-  names-own (f ∷ fs) h = rw (h .0, names-own fs (h .1))
+  names-own (f ∷ fs) h = rw (name-own f (h .0), names-own fs (h .1))
 
   said-own : (x : Found Letter) → LetterAt x → saidBy src x ≡ sayOf x
   said-own (found l) h = rw (names-own (l .tables .fonts) h)

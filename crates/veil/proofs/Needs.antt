@@ -10,14 +10,16 @@ use Rattle.bytes.specs.Bytes.{lead, body, any}
 use Rattle.bytes.specs.Texts.{bytesOf}
 use Rattle.names.specs.Names.{sameBytes, placeIn, wordNumber}
 use Rattle.numbers.specs.Numbers.{hexDigit, hexPair, digitsFrom, digits, decimal}
-use Rattle.rooms.specs.Streams.{andThen, each, answer, items, ended}
+use Rattle.rooms.specs.Streams.{andThen, each, items, ended}
 use Rattle.rooms.specs.Rooms.{settled, tableLimit}
 use Rattle.slices.specs.Slices.{split, slices}
 use Rattle.tokenize.specs.Tokenize.{mark, plain, hexValue, hexEscape, lineBreakAnd, shownWord, numbered, named, bareLength}
 use Rattle.tokenize.specs.Tokenize.{wordTail, word, other, escaped, tokens}
 use Rattle.cutter.specs.Cutting.{located, last, allSlices, trimmed, tokenStream, cutAnswer}
 use Rattle.utf8.specs.Utf8.{utf8, written}
-use Rattle.units.specs.Units.{unitOf, units, later, kept, decode, utf8All, runText}
+use Rattle.units.specs.Units.{unitOf, taken, met, metAny, step, values}
+use Rattle.machine.specs.Stack.{moved}
+use Rattle.machine.specs.Machine.{gave, writtenAll, _▸▸_, settle, spoken, said as saidOf, machine}
 use Rattle.tokens.specs.Items.{part as bytesAt}
 use Rattle.walk.specs.Walk.{aimFrom, extent, walkFrom}
 use Rattle.fonts.specs.Rows.{hasKey, inserted, stored}
@@ -25,9 +27,10 @@ use Rattle.fonts.specs.Fonts.{named as fontNamed, fontWord, fontToken, fontsFro
 use Rattle.colours.specs.Colours.{colourWordOf, colourToken, coloursFrom, colours}
 use Rattle.header.specs.Header.{tablesFrom}
 use Rattle.readings.specs.declared.Reading.the-variants.{Plain}
-use Rattle.styles.specs.Styles.{flagged, fitted, alignment, spacing, measured, character, change, flagsNumber, styleOf}
+use Rattle.settings.specs.Fields.{resets, flagsOf, styleOf}
+use Rattle.settings.specs.Effects.{fitted, spacing, painterWord, paragraphWord, characterWord, endingWord, effect}
 use Rattle.blocks.specs.Pages.{blocksFrom, blocks, textOf, roomy}
-use Rattle.body.specs.Body.{gather, asks, bodyFrom}
+use Rattle.body.specs.Body.{deeds, body as bodyOf}
 use Rattle.parser.specs.Parsing.{placed, bodied}
 use Rattle.reader.specs.Reading.{letterOf}
 use Rattle.veil.specs.Veil.{part, parts, pieces, join, shown, mask, veil}
@@ -128,7 +131,7 @@ Heards (x ∷ xs) =
     })) ≡ x .hears) × Heards xs
 
 needs : Heards cases
-unfolding cases case inRooms text bytes refusal font said letterOf shownBy bodied placed roomy bodyFrom asks gather blocks blocksFrom textOf walkFrom extent aimFrom tablesFrom fonts fontsFrom fontToken fontWord stored inserted hasKey fontNamed colours coloursFrom colourToken colourWordOf tableLimit runText utf8All decode kept later units unitOf utf8 written change styleOf flagsNumber flagged fitted alignment spacing measured character cutAnswer tokenStream trimmed allSlices last located settled ended items each andThen split slices lead body any tokens escaped other word wordTail bareLength named numbered shownWord lineBreakAnd hexEscape hexValue plain mark wordNumber placeIn sameBytes hexDigit hexPair digitsFrom digits decimal namesIn bytesAt
+unfolding cases case inRooms text bytes refusal font said letterOf shownBy bodied placed roomy bodyOf deeds machine moved saidOf spoken gave settle writtenAll _▸▸_ blocks blocksFrom textOf walkFrom extent aimFrom tablesFrom fonts fontsFrom fontToken fontWord stored inserted hasKey fontNamed colours coloursFrom colourToken colourWordOf tableLimit values step metAny met taken unitOf utf8 written effect painterWord paragraphWord characterWord endingWord fitted spacing resets styleOf flagsOf cutAnswer tokenStream trimmed allSlices last located settled ended items each andThen split slices lead body any tokens escaped other word wordTail bareLength named numbered shownWord lineBreakAnd hexEscape hexValue plain mark wordNumber placeIn sameBytes hexDigit hexPair digitsFrom digits decimal namesIn bytesAt
 needs =
     (refl, (refl, (refl, (refl, (refl, (refl, (refl, (refl, (refl, (refl, (refl, (refl, (refl, (refl, (refl, (refl, (refl, (refl, (refl, (refl, (refl, tt)))))))))))))))))))))
 

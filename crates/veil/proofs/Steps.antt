@@ -30,12 +30,10 @@ use Rattle.walk.specs.declared.Aim.the-variants.{Nothing, Hide, Fonts as ReadFo
 use Rattle.walk.specs.Walk.{aim, Step, kept, hidden, fontTable, colourTable, entered, passedBy, walkFrom, walk}
 use Rattle.header.specs.Entering.{Tables, withFonts, withColours, readStep}
 use Rattle.header.specs.Header.{noTables, nextStep, tablesFrom, tables}
-use Rattle.styles.specs.declared.State.{State}
 use Rattle.readings.specs.declared.Reading.{Reading}
-use Rattle.styles.specs.Styles.{fresh}
 use Rattle.blocks.specs.Pages.{Piece, blocks, textOf, blockWords, textCapacity, none, roomy}
-use Rattle.body.specs.Body.{Item, token, run, apart, joined, keptItems, gather, Asked, tokenAsks, bareAsks, asks, statesOf}
-use Rattle.body.specs.Body.{uttered, bodyFrom, body}
+use Rattle.machine.specs.Machine.{start}
+use Rattle.body.specs.Body.{rows, tokenDeed, deedOf, deeds, body}
 use Rattle.parser.specs.Parsing.{begun, Sizes, Letter, letterFrom, placed, bodied, headed, walked}
 use Rattle.veil.specs.Said.{Named, Said, refuses, says}
 use Rattle.veil.proofs.Bare.{bare, bareAll, bareStep, bareSteps}
@@ -96,82 +94,29 @@ begun-steps rd z (Shown.unknown p bs num ∷ ts) = refl
 
 -- ---- the body
 
-abbrev bareItem : Item → Item
-bareItem (token t) = token (bare t)
-bareItem (run nums) = run nums
-bareItem apart = apart
+token-bare : (rd : Reading) (t : Shown) → tokenDeed rd (bare t) ≡ tokenDeed rd t
+token-bare rd Shown.opening = refl
+token-bare rd Shown.closing = refl
+token-bare rd Shown.lineBreak = refl
+token-bare rd Shown.ignorable = refl
+token-bare rd (Shown.text p bs) = refl
+token-bare rd (Shown.word w num) = refl
+token-bare rd (Shown.unknown p bs num) = refl
 
-bareItems : List Item → List Item
-bareItems [] = []
-bareItems (i ∷ is) = bareItem i ∷ bareItems is
+deed-bare : (rd : Reading) (s : Step) → deedOf rd (bareStep s) ≡ deedOf rd s
+deed-bare rd (kept t) = token-bare rd t
+deed-bare rd hidden = refl
+deed-bare rd (fontTable late ts) = refl
+deed-bare rd (colourTable late ts) = refl
 
-joined-bare : (num : Property) (is : List Item) → joined num (bareItems is) ≡ bareItems (joined num is)
-unfolding bareItems
-joined-bare num [] = refl
-joined-bare num (run nums ∷ is) = refl
-joined-bare num (token t ∷ is) = refl
-joined-bare num (apart ∷ is) = refl
-
-kept-bare : (t : Shown) (is : List Item) → keptItems (bare t) (bareItems is) ≡ bareItems (keptItems t is)
-unfolding bareItems
-kept-bare (Shown.word w num) is = go (eqb w 2) (joined-bare num is)
-  where
-    go : (x : Bool) → joined num (bareItems is) ≡ bareItems (joined num is)
-        → cond x (joined num (bareItems is)) (token (Shown.word w num) ∷ bareItems is) ≡ bareItems (cond x (joined num is) (token (Shown.word w num) ∷ is))
-    go true e = e
-    go false e = refl
-kept-bare (Shown.text p bs) is = refl
-kept-bare Shown.opening is = refl
-kept-bare Shown.closing is = refl
-kept-bare Shown.lineBreak is = refl
-kept-bare Shown.ignorable is = refl
-kept-bare (Shown.unknown p bs num) is = refl
-
-gather-bare : (ss : List Step) → gather (bareSteps ss) ≡ bareItems (gather ss)
-unfolding gather bareSteps bareItems
-gather-bare [] = refl
-gather-bare (kept t ∷ ss) = ap (keptItems (bare t)) (gather-bare ss) ∙ kept-bare t (gather ss)
-gather-bare (hidden ∷ ss) = ap (λ (l : List Item). apart ∷ l) (gather-bare ss)
-gather-bare (fontTable late ts ∷ ss) = ap (λ (l : List Item). apart ∷ l) (gather-bare ss)
-gather-bare (colourTable late ts ∷ ss) = ap (λ (l : List Item). apart ∷ l) (gather-bare ss)
-
-none-asks : (t : Shown) → bareAsks (bare t) ≡ bareAsks t
-none-asks Shown.opening = refl
-none-asks Shown.closing = refl
-none-asks Shown.lineBreak = refl
-none-asks Shown.ignorable = refl
-none-asks (Shown.text p bs) = refl
-none-asks (Shown.word w num) = refl
-none-asks (Shown.unknown p bs num) = refl
-
-some-asks : (rd : Reading) (top : State) (rest : List State) (t : Shown)
-    → tokenAsks rd top rest (bare t) ≡ tokenAsks rd top rest t
-some-asks rd top rest Shown.opening = refl
-some-asks rd top rest Shown.closing = refl
-some-asks rd top rest Shown.lineBreak = refl
-some-asks rd top rest Shown.ignorable = refl
-some-asks rd top rest (Shown.text p bs) = refl
-some-asks rd top rest (Shown.word w num) = refl
-some-asks rd top rest (Shown.unknown p bs num) = refl
-
-asks-bare : (rd : Reading) (st : List State) (i : Item) → asks rd st (bareItem i) ≡ asks rd st i
-unfolding asks
-asks-bare rd [] (token t) = none-asks t
-asks-bare rd (top ∷ rest) (token t) = some-asks rd top rest t
-asks-bare rd [] (run nums) = refl
-asks-bare rd (top ∷ rest) (run nums) = refl
-asks-bare rd [] apart = refl
-asks-bare rd (top ∷ rest) apart = refl
-
-body-from-bare : (rd : Reading) (st : List State) (is : List Item) → bodyFrom rd st (bareItems is) ≡ bodyFrom rd st is
-unfolding bodyFrom bareItems
-body-from-bare rd st [] = refl
-body-from-bare rd st (i ∷ is) =
-    ap (λ (a : Asked). uttered a (bodyFrom rd (statesOf a) (bareItems is))) (asks-bare rd st i)
-    ∙ ap (uttered (asks rd st i)) (body-from-bare rd (statesOf (asks rd st i)) is)
+deeds-bare : (rd : Reading) (ss : List Step) → deeds rd (bareSteps ss) ≡ deeds rd ss
+unfolding deeds bareSteps
+deeds-bare rd [] = refl
+deeds-bare rd (s ∷ ss) = rw (deed-bare rd s, deeds-bare rd ss)
 
 body-bare : (rd : Reading) (ss : List Step) → body rd (bareSteps ss) ≡ body rd ss
-body-bare rd ss = ap (bodyFrom rd (fresh ∷ [])) (gather-bare ss) ∙ body-from-bare rd (fresh ∷ []) (gather ss)
+unfolding body
+body-bare rd ss = ap (start rows) (deeds-bare rd ss)
 
 -- ---- the tables
 

@@ -1,9 +1,11 @@
 -- Laws that the crates above cite: WellFormed, of what is UTF-8. For this crate alone: Firsts, of first bytes and what they
--- owe; Chars, of a scalar value's encoding; Back, of bytes that encode one; Loop, of the code's loop; Cases, telling bytes.
--- Assumes nothing.
+-- owe; Chars, of a scalar value's encoding; Back, of bytes that encode one; Lengths, of a character judged whole; Eights, of eight
+-- bytes as one number; Passing, of what is passed over; Cases, telling bytes. Assumes nothing.
 pub mod WellFormed
 mod Firsts
 mod Chars
 mod Back
-mod Loop
+mod Lengths
+mod Eights
+mod Passing
 mod Cases

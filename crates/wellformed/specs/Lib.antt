@@ -1,3 +1,5 @@
--- WellFormed: which bytes are UTF-8. Owed: what a character still owes. Assumes nothing.
+-- WellFormed: which bytes are UTF-8. Owed: what a character owes, and its length. Ascii: how ASCII is passed over.
+-- Assumes nothing.
 pub mod WellFormed
 pub mod Owed
+pub mod Ascii

@@ -1,11 +1,20 @@
-// Whether bytes are UTF-8 (RFC 3629, section 4). Every public function is total.
-use bytes::has_high;
+// Whether bytes are UTF-8 (RFC 3629, section 4).
+//
+//   is_utf8       whether a slice is UTF-8 as a whole
+//   char_length   how many bytes a character has: its first byte, and as many as that one owes
+//   ascii         how far ASCII goes on
+//
+// Every public function is total.
+mod ascii;
+
+use crate::ascii::ascii_blocks;
+use crate::ascii::ascii_eights;
 ghost use mathlib.Core.Path.{_≡_};
 ghost use mathlib.Core.Bool.{true};
-ghost use Prim.Native.Nat.{_≤_};
-ghost use lib.ListN.{length};
-ghost use Rattle.wellformed.specs.WellFormed.{isFirst, behind, isUtf8};
-ghost use Rattle.wellformed.specs.Owed.{owed, ranges, Passed};
+ghost use Prim.Native.Nat.{_≤_, _<_};
+ghost use lib.ListN.{length, drop};
+ghost use Rattle.wellformed.specs.WellFormed.{within, tail, isFirst, behind, isUtf8};
+ghost use Rattle.wellformed.specs.Owed.{owed, ranges, pays, charLength};
 
 // How many bytes a character still owes, and the range of the next; those behind it lie in 0x80 to 0xBF.
 struct Owed {
@@ -64,63 +73,69 @@ fn owed_behind(b: u8) -> Owed
     owe(3, 0x80, 0x8F)
 }
 
-// How many bytes a block has that is looked at as a whole.
-const BLOCK: usize = 24;
-
-// The place, at or after `from`, behind the whole blocks of ASCII that stand there.
-fn ascii_blocks(s: &[u8], from: usize) -> usize
-    requires { ⌜ from ≤ length (now s) ⌝ }
-    ensures { λ r. ⌜ Passed (now (s .entry)) from r ⌝ }
+// UTF8-tail.
+fn is_tail(b: u8) -> bool
+    ensures { λ r. ⌜ r ≡ within tail b ⌝ }
 {
-    let mut at = from;
-    while BLOCK <= s.len() - at {
-        let next = at + BLOCK;
-        if has_high(&s[at..next]) {
-            return at;
-        }
-        at = next;
-    }
-    at
+    (0x80 <= b) & (b <= 0xBF)
 }
 
-// Whether a slice is UTF-8 as a whole. Text of ASCII is passed over block by block, at the start and behind each other character.
+// Whether a slice starts with what is owed, looked at as a whole: no character owes more than three bytes.
+fn is_paid(o: Owed, s: &[u8]) -> bool
+    requires { ⌜ o .count ≤ 3 ⌝ }
+    ensures { λ r. ⌜ r ≡ pays (ranges o) (now (s .entry)) ⌝ }
+{
+    if s.len() < o.count {
+        return false;
+    }
+    if o.count == 0 {
+        return true;
+    }
+    let first = s[0];
+    let good = (o.low <= first) & (first <= o.high);
+    if o.count == 1 {
+        return good;
+    }
+    let second = s[1];
+    if o.count == 2 {
+        return good & is_tail(second);
+    }
+    let third = s[2];
+    good & (is_tail(second) & is_tail(third))
+}
+
+// How many bytes the character has that stands at a place of a slice; 0 if none does.
+fn char_length(s: &[u8], at: usize) -> usize
+    requires { ⌜ at < length (now s) ⌝ }
+    ensures { λ r. ⌜ r ≡ charLength (drop at (now (s .entry))) ⌝ }
+{
+    let b = s[at];
+    if !is_first(b) {
+        return 0;
+    }
+    let o = owed_behind(b);
+    let next = at + 1;
+    if is_paid(o, &s[next..]) {
+        return o.count + 1;
+    }
+    0
+}
+
+// Whether a slice is UTF-8 as a whole: ASCII is passed over many bytes at once, any other character as a whole.
 pub fn is_utf8(s: &[u8]) -> bool
     ensures { λ r. ⌜ r ≡ isUtf8 (now (s .entry)) ⌝ }
 {
-    let mut count = 0;
-    let mut low = 0x80;
-    let mut high = 0xBF;
-    let mut i = ascii_blocks(s, 0);
-    if s.len() - i < BLOCK {
-        if !has_high(&s[i..]) {
-            return true;
-        }
-    }
+    let mut i: usize = 0;
     while i < s.len() {
-        let b = s[i];
-        i += 1;
-        if count == 0 {
-            if b < 128 {
-                continue;
-            }
-            if !is_first(b) {
+        let blocks = ascii_blocks(s, i);
+        i = ascii_eights(s, blocks);
+        if i < s.len() {
+            let k = char_length(s, i);
+            if k == 0 {
                 return false;
             }
-            let next = owed_behind(b);
-            count = next.count;
-            low = next.low;
-            high = next.high;
-            continue;
-        }
-        if !((low <= b) & (b <= high)) {
-            return false;
-        }
-        count -= 1;
-        low = 0x80;
-        high = 0xBF;
-        if count == 0 {
-            i = ascii_blocks(s, i);
+            i += k;
         }
     }
-    count == 0
+    true
 }

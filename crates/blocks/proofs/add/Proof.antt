@@ -5,10 +5,6 @@ use Rattle.blocks.proofs.Writing.{add-full, add-on}
 use borrow.Author.Needs.{needs}
 use Rattle.blocks.proofs.add.Statement.{statement}
 use Rattle.blocks.proofs.add.Tie as tie
-use Rattle.blocks.proofs.add.Reads as reads
-use Rattle.blocks.proofs.add.Lts as lts
-use Rattle.blocks.proofs.append.Reads as append-reads
-use Rattle.blocks.proofs.start.Reads as start-reads
 
 start-requires : tie.Need-start-requires
 start-requires c κs = search needs
@@ -21,18 +17,20 @@ enum-known-begun-2 c = search needs
 
 append-requires : tie.Need-append-requires
 append-requires c κs =
-    let text = c .before .before .before .before .before .before .before .before .before .before .before .args .text .now in
-    let ready = c .before .before .before .before .before .before .before .before .before .before .before .pre .text in
-    let still = c .before .before .before .before .before .before .start .ensures .1 (length text) ready in
-    (rw (c .before .before .begun2 .given .1) at still) .text
+    let at-start = c .before .before .before .before .before .before .before in
+    let ready = at-start .before .before .before .before .before .pre .text in
+    let still = at-start .start .ensures .1 .0 (length (at-start .before .before .before .before .before .args .text .now)) ready in
+    let begun = at-start .start .ensures .1 .1 in
+    let is = c .before .before .before .begun2 .given .1 in
+    (rw (at-start .start .kept .1 .1 .0) (rw is at still), rw is at begun)
 
 same-length : tie.Need-same-length
 same-length c = search needs
 
 returns : tie.Need-returns
 returns c =
-    let text = c .before .before .before .before .before .before .before .before .before .before .args .text .now in
-    let full = c .before .before .before .before .before .start .ensures .0 text in
+    let at-start = c .before .before .before .before .before in
+    let full = at-start .start .ensures .0 (at-start .before .before .before .before .before .args .text .now) in
     (add-full _ _ _ _ _ _ (rw (c .before .begun .given .1) at full), omega arith)
 
 same-length-2 : tie.Need-same-length-2
@@ -43,12 +41,13 @@ same-length-3 c = search needs
 
 returns-2 : tie.Need-returns-2
 returns-2 c =
-    let text = c .before .before .before .before .before .before .before .before .before .before .before .before .before .before .args .text .now in
-    let on = c .before .before .before .before .before .before .before .before .before .start .ensures .0 text in
-    let ready = c .before .before .before .before .before .before .before .before .before .before .before .before .before .before .pre .text in
-    let still = c .before .before .before .before .before .before .before .before .before .start .ensures .1 (length text) ready in
-    let is = c .before .before .before .before .before .begun2 .given .1 in
-    (add-on _ _ _ _ _ _ _ (rw is at on) (c .before .before .append .ensures .0 _), c .before .before .append .ensures .1 _ ((rw is at still) .page))
+    let at-append = c .before .before .before .before in
+    let at-begun2 = at-append .before .before .before .before in
+    let at-start = at-begun2 .before .before .before .before in
+    let on = at-start .start .ensures .0 (at-start .before .before .before .before .before .args .text .now) in (
+      add-on _ _ _ _ _ _ _ (rw (at-begun2 .begun2 .given .1) at on) (at-append .append .ensures .0),
+      rw (← at-start .start .kept .1 .1 .0) (at-append .append .ensures .1),
+    )
 
 pub add-spec : {M : Type 1} → statement M
 add-spec =

@@ -5,11 +5,6 @@ use Rattle.blocks.proofs.Writing.{cap-le, append-full, append-more, sti
 use borrow.Author.Needs.{needs}
 use Rattle.blocks.proofs.append.Statement.{statement}
 use Rattle.blocks.proofs.append.Tie as tie
-use Rattle.blocks.proofs.append.Reads as reads
-use Rattle.blocks.proofs.append.Lts as lts
-use Rattle.answers.proofs.Refusal.of.Reads as of-reads
-use Rattle.blocks.proofs.capacity.Reads as capacity-reads
-use Rattle.blocks.proofs.copy.Reads as copy-reads
 
 capacity-requires : tie.Need-capacity-requires
 capacity-requires c κs = search needs
@@ -22,30 +17,53 @@ of-requires c κs = search needs
 
 returns : tie.Need-returns
 returns c =
-    let a = c .before .before .before .before .before .args in
+    let a = c .before .before .before .before .before .before .args in
     let n = c .before .before .capacity .ensures in
-    ((λ b. append-full (a .p) (a .bytes .now) b (a .text .now) n (c .before .if1 .taken) (c .of .ensures)), (λ w h. omega arith))
+    (append-full (a .p) (a .bytes .now) (a .blocks .now) (a .text .now) n (c .before .if1 .taken) (c .of .ensures), omega arith)
 
 copy-requires : tie.Need-copy-requires
 copy-requires c κs =
-    let k = cap-le (length (c .before .before .before .before .before .args .text .now)) in
+    let k = cap-le (length (c .before .before .before .before .before .before .args .text .now)) in
     omega arith
 
-add-q : tie.Need-add-q
-add-q c = search needs
+add-end : tie.Need-add-end
+add-end c = search needs
+
+sub-grown : tie.Need-sub-grown
+sub-grown c = search needs
+
+cast-grown : tie.Need-cast-grown
+cast-grown c =
+    let k = cap-le (length (c .before .before .before .before .before .before .before .before .before .before .args .text .now)) in
+    omega arith
+
+mul-blocks : tie.Need-mul-blocks
+mul-blocks c = search needs
+
+sub-blocks : tie.Need-sub-blocks
+sub-blocks c = search needs
+
+mul-blocks-2 : tie.Need-mul-blocks-2
+mul-blocks-2 c = search needs
+
+slice-write-blocks : tie.Need-slice-write-blocks
+slice-write-blocks c = search needs
 
 same-length : tie.Need-same-length
 same-length c = search needs
 
+same-length-2 : tie.Need-same-length-2
+same-length-2 c = search needs
+
 returns-2 : tie.Need-returns-2
 returns-2 c =
-    let a = c .before .before .before .before .before .before .before .before .args in
-    let n = c .before .before .before .before .before .capacity .ensures in
-    let room = c .before .before .before .before .if1 .left in
-    let pre = c .before .before .before .before .before .before .before .before .pre in
-    let m = c .before .before .before .before .before .capacity .result in (
-      (λ b. append-more (a .p) (a .bytes .now) b (a .text .now) n room (c .before .before .copy .ensures)),
-      (λ w h. still-more (a .p) w (length (a .text .now)) m (length (a .bytes .now)) h n (rw n pre) room),
+    let a = c .before .before .before .before .before .before .before .before .before .before .before .args in
+    let pre = c .before .before .before .before .before .before .before .before .before .before .before .pre .0 in
+    let n = c .before .before .before .before .before .before .before .capacity .ensures in
+    let m = c .before .before .before .before .before .before .before .capacity .result in
+    let room = c .before .before .before .before .before .before .if1 .left in (
+      append-more (a .p) (a .bytes .now) (a .blocks .now) (a .text .now) n room (c .before .before .before .before .copy .ensures),
+      still-more (a .p) (length (a .blocks .now)) (length (a .text .now)) m (length (a .bytes .now)) (pre .page) n (rw n (pre .text)) room,
     )
 
 pub append-spec : {M : Type 1} → statement M
@@ -57,6 +75,13 @@ append-spec =
     of-requires
     returns
     copy-requires
-    add-q
+    add-end
+    sub-grown
+    cast-grown
+    mul-blocks
+    sub-blocks
+    mul-blocks-2
+    slice-write-blocks
     same-length
+    same-length-2
     returns-2)

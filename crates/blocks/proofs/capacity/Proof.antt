@@ -2,8 +2,6 @@
 use Rattle.blocks.proofs.Writing.{cap-in, cap-out}
 use Rattle.blocks.proofs.capacity.Statement.{statement}
 use Rattle.blocks.proofs.capacity.Tie as tie
-use Rattle.blocks.proofs.capacity.Reads as reads
-use Rattle.blocks.proofs.capacity.Lts as lts
 
 returns : tie.Need-returns
 returns c = cap-in _ (c .if1 .taken)

@@ -18,6 +18,9 @@ abbrev μ-loop : tie.MeasureT-loop
 blank-requires : tie.Need-blank-requires Inv-loop μ-loop
 blank-requires c κs = search needs
 
+blank-requires-2 : tie.Need-blank-requires-2 Inv-loop μ-loop
+blank-requires-2 c κs = search needs
+
 loop-holds : tie.Need-loop-holds Inv-loop μ-loop
 loop-holds c = going-start _ _ _ _ _ (c .before .blank .ensures)
 
@@ -163,6 +166,7 @@ lay-blocks-spec =
     Inv-loop
     μ-loop
     blank-requires
+    blank-requires-2
     loop-holds
     block-at-requires
     enum-known-e

@@ -2,13 +2,10 @@
 use borrow.Author.Needs.{needs}
 use native.Mathlib.Omega.{arith}
 use lib.ListN.{length}
-use Prim.Native.Nat.{_*_, _≤_}
-use Rattle.blocks.proofs.Laying.{ready-finish}
-use Rattle.blocks.proofs.Settling.{blocks-small, count-words}
+use Rattle.blocks.proofs.Settling.{count-words}
 use Rattle.stored.proofs.Whole.{list-full, list-laid}
 use Rattle.stored.proofs.read_list.Statement.{statement}
 use Rattle.stored.proofs.read_list.Tie as tie
-use Rattle.blocks.specs.Pages.{blockWords}
 
 lay-list-requires : tie.Need-lay-list-requires
 lay-list-requires c κs = search needs
@@ -22,29 +19,14 @@ refuse-requires c κs = search needs
 enum-known-laid-2 : tie.Need-enum-known-laid-2
 enum-known-laid-2 c = search needs
 
-finish-requires : tie.Need-finish-requires
-finish-requires c κs =
-    let at-laid2 = c .before .before in
-    let at-lay-list = at-laid2 .before .before .before .before .before .before in
-    ready-finish _ _ _ (rw (at-laid2 .laid2 .given .1) at (at-lay-list .lay-list .ensures .1))
-
-count-requires : tie.Need-count-requires
-count-requires c κs =
-    let at-laid2 = c .before .before .before .before .before in
-    let at-lay-list = at-laid2 .before .before .before .before .before .before in
-    let start = at-lay-list .before .before .before .before .before .before in
-    blocks-small (length (start .args .blocks .now)) (length (start .args .text .now))
-    (rw (at-laid2 .laid2 .given .1) at (at-lay-list .lay-list .ensures .1)) (let b = start .good in omega arith)
-
 mul-clear-from : tie.Need-mul-clear-from
 mul-clear-from c =
-    let at-laid2 = c .before .before .before .before .before .before .before in
+    let at-laid2 = c .before .before in
     let at-lay-list = at-laid2 .before .before .before .before .before .before in
     let start = at-lay-list .before .before .before .before .before .before in
     let b = start .good in
-    let h : c .before .count .result * blockWords ≤ length (start .args .blocks .now) = count-words _
-    (length (start .args .text .now)) (rw (at-laid2 .laid2 .given .1) at (at-lay-list .lay-list .ensures .1))
-    (c .before .count .ensures) in
+    let h = count-words (length (start .args .blocks .now)) (length (start .args .text .now))
+    (rw (at-laid2 .laid2 .given .1) at (at-lay-list .lay-list .ensures .1)) in
     omega arith
 
 clear-from-requires : tie.Need-clear-from-requires
@@ -80,15 +62,12 @@ returns-2 : tie.Need-returns-2
 returns-2 c =
     let at-clear-bytes-from = c .before .before in
     let at-clear-from = at-clear-bytes-from .before .before .before .before in
-    let at-count = at-clear-from .before .before in
-    let at-finish = at-count .before .before .before in
-    let at-laid2 = at-finish .before .before .before in
+    let at-laid2 = at-clear-from .before .before .before in
     let at-lay-list = at-laid2 .before .before .before .before .before .before in
     let start = at-lay-list .before .before .before .before .before .before in
     list-laid (start .args .list .now) (start .args .blocks .now) (start .args .text .now)
     (at-lay-list .lay-list .result) _ _ (at-lay-list .lay-list .ensures .0) (at-laid2 .laid2 .given .1)
-    (at-finish .finish .ensures) (at-count .count .ensures) (at-clear-from .clear-from .ensures)
-    (at-clear-bytes-from .clear-bytes-from .ensures)
+    (at-clear-from .clear-from .ensures) (at-clear-bytes-from .clear-bytes-from .ensures)
 
 pub read-list-spec : {M : Type 1} → statement M
 read-list-spec =
@@ -98,8 +77,6 @@ read-list-spec =
     enum-known-laid
     refuse-requires
     enum-known-laid-2
-    finish-requires
-    count-requires
     mul-clear-from
     clear-from-requires
     clear-bytes-from-requires

@@ -6,8 +6,6 @@ use Rattle.blocks.proofs.Records.{put-thirteen}
 use borrow.Author.Needs.{needs}
 use Rattle.blocks.proofs.record.put.Statement.{statement}
 use Rattle.blocks.proofs.record.put.Tie as tie
-use Rattle.blocks.proofs.record.put.Reads as reads
-use Rattle.blocks.proofs.record.put.Lts as lts
 use Rattle.blocks.specs.Pages.{blockWords}
 
 mul-at : tie.Need-mul-at

@@ -50,7 +50,7 @@ add-next : tie.Need-add-next Inv-loop μ-loop
 add-next c =
     let at-e2 = c .before .before in
     let at-block-at = at-e2 .before .before in
-    let start = at-block-at .before .before .before .before .before .before in
+    let start = at-block-at .before .before .before .before .before in
     let w = entry-is _ _ (sym (at-block-at .block-at .ensures) ∙ at-e2 .e2 .given .1) in
     let f = start .fits in
     omega (arith, w .within)

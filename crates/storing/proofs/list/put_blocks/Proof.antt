@@ -19,7 +19,7 @@ blank-requires c κs = search needs
 
 loop-holds : tie.Need-loop-holds Inv-loop μ-loop
 loop-holds c =
-    let start = c .before .before .before .before .before in
+    let start = c .before .before .before .before in
     rows-start _ _ _ _ _ (start .pre)
 
 fits-requires : tie.Need-fits-requires Inv-loop μ-loop
@@ -57,7 +57,7 @@ add-end c =
     let at-fits2 = at-if1 .before in
     let at-loop-test = at-fits2 .before in
     let at-loop = at-loop-test .before in
-    let start = at-loop .before .before .before .before .before .before in
+    let start = at-loop .before .before .before .before .before in
     let f = row-fit (at-loop .loop .inv) (at-loop-test .loop-test .taken) (at-fits2 .fits2 .ensures) (at-if1 .if1 .left) in
     omega (arith, f .within, start .fits, at-loop .loop .inv .within, c .wide .ensures)
 

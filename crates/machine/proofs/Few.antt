@@ -1,0 +1,143 @@
+-- The machine says no more than there are tokens: each token says one thing, and what a run of units still owes was kept back by
+-- one of its tokens.
+--     step-few      a unit
+--     machine-few   all tokens
+-- Assumes nothing.
+use mathlib.Core.Path.{_≡_, refl, ap, _∙_}
+use mathlib.Core.List.{List, [], _∷_, _++_}
+use mathlib.Core.Bool.{Bool, true, false, cond, _&&_}
+use Prim.Native.Nat.{ℕ, suc, _+_, _≤_}
+use native.Mathlib.Omega.{arith}
+use lib.Dec.{leb, ltb}
+use lib.ListN.{length, length-append}
+use Rattle.answers.specs.declared.Refusal.{Refusal}
+use Rattle.answers.specs.Answers.{Found, found, refused}
+use Rattle.rooms.specs.Streams.{Stream, end, items}
+use Rattle.tokens.specs.declared.Property.{Property}
+use Rattle.units.specs.declared.Run.{Run}
+use Rattle.units.specs.declared.Gave.{Gave}
+use Rattle.units.specs.Units.{before, unitOf, isHigh, isLow, alone, pair, skipCount, nothing, taken, met, metAny, step, values}
+use Rattle.machine.specs.Stack.{moved, stackOf}
+use Rattle.machine.specs.Machine.{States, Deed, opens, closes, sets, says, unit, refuses, parts, stops, ended, gave, textsOf, writtenAll, _▸▸_, onward, moveOf, skipOf, spoken, said, machine}
+
+-- what a run still owes
+abbrev pub owed : Run → ℕ
+owed run = cond (ltb 0 (run .high)) 1 0
+
+one-most : (b : Bool) → cond b 1 0 ≤ 1
+one-most true = omega arith
+one-most false = omega arith
+
+abbrev Few : Run → Gave → Type 0
+Few run g = length (values g) + owed (g .run) ≤ 1 + owed run
+
+nothing-few : (run after : Run) → after .high ≡ run .high → Few run (nothing after)
+unfolding values
+nothing-few run after e = rw e (omega arith)
+
+taken-few : (run : Run) (u : ℕ) → Few run (taken run u)
+unfolding taken values
+taken-few run u = go (ltb 0 (run .high)) (isLow u) (isHigh u)
+  where
+    kept : Bool → Bool → Bool → Gave
+    kept l w h =
+        cond (l && w) (record { run = record { begun = true; skipped = 0; high = 0 }; lost = false; some = true; value = pair (run .high) u })
+        (cond h (record { run = record { begun = true; skipped = 0; high = u }; lost = l; some = false; value = 0 })
+        (record { run = record { begun = true; skipped = 0; high = 0 }; lost = l; some = true; value = alone u }))
+
+    go : (l w h : Bool) → length (values (kept l w h)) + owed (kept l w h .run) ≤ 1 + cond l 1 0
+    go true true h = omega arith
+    go true false true = let k = one-most (ltb 0 u) in omega arith
+    go true false false = omega arith
+    go false w true = let k = one-most (ltb 0 u) in omega arith
+    go false w false = omega arith
+
+met-few : (skip : ℕ) (run : Run) (u : ℕ) → Few run (met skip run u)
+unfolding met
+met-few skip run u = go (run .begun && (leb u 255 && ltb (run .skipped) (skipCount skip)))
+  where
+    go : (t : Bool) → Few run (cond t (nothing (record { begun = true; skipped = run .skipped + 1; high = run .high })) (taken run u))
+    go true = nothing-few run (record { begun = true; skipped = run .skipped + 1; high = run .high }) refl
+    go false = taken-few run u
+
+any-few : (skip : ℕ) (run : Run) (us : List ℕ) → Few run (metAny skip run us)
+unfolding metAny
+any-few skip run [] = nothing-few run run refl
+any-few skip run (u ∷ us) = met-few skip run u
+
+pub step-few : (skip : ℕ) (run : Run) (num : Property) → Few run (step skip run num)
+unfolding step
+step-few skip run num = any-few skip run (unitOf num)
+
+ended-few : (run : Run) → length (values (ended run)) ≡ owed run
+unfolding values
+ended-few run = go (ltb 0 (run .high))
+  where
+    go : (b : Bool) → length {A = ℕ} (cond b (65533 ∷ []) [] ++ []) ≡ cond b 1 0
+    go true = refl
+    go false = refl
+
+-- a token, with its own text
+gave-few : {S : Type 0} (skip : ℕ) (run : Run) (d : Deed S) → length (values (gave skip run d)) + length (textsOf d) + owed (gave skip run d .run) ≤ 1 + owed run
+unfolding gave
+gave-few skip run (unit num) = let h = step-few skip run num in omega arith
+gave-few skip run (says bs) = let h = ended-few run in omega arith
+gave-few skip run opens = let h = ended-few run in omega arith
+gave-few skip run closes = let h = ended-few run in omega arith
+gave-few skip run (sets ss) = let h = ended-few run in omega arith
+gave-few skip run (refuses why) = let h = ended-few run in omega arith
+gave-few skip run parts = let h = ended-few run in omega arith
+gave-few skip run (stops why) = let h = ended-few run in omega arith
+
+length-written : (cs : List ℕ) → length (writtenAll cs) ≡ length cs
+unfolding writtenAll
+length-written [] = refl
+length-written (c ∷ cs) = ap suc (length-written cs)
+
+front-items : {F E : Type 0} (xs : List E) (s : Stream F E) → items (xs ▸▸ s) ≡ xs ++ items s
+unfolding _▸▸_ items
+front-items [] s = refl
+front-items (x ∷ xs) s = ap (λ (l : List _). x ∷ l) (front-items xs s)
+
+module _ {R S E : Type 0} (states : States R S E) where
+  length-spoken : (top : R) (texts : List (List ℕ)) → length (spoken states top texts) ≡ length texts
+  unfolding spoken
+  length-spoken top [] = refl
+  length-spoken top (bs ∷ texts) = ap suc (length-spoken top texts)
+
+  said-most : (st : List R) (g : Gave) (d : Deed S) → length (said states st g d) ≤ length (values g) + length (textsOf d)
+  unfolding said
+  said-most [] g d = omega arith
+  said-most (top ∷ rest) g d =
+      let a = length-spoken top (writtenAll (values g) ++ textsOf d) in
+      let b = length-append (writtenAll (values g)) (textsOf d) in
+      let c = length-written (values g) in
+      omega arith
+
+  onward-few : (m : Found (List R)) (more : Stream Refusal E) → length (items (onward m more)) ≤ length (items more)
+  unfolding items
+  onward-few (found st) more = omega arith
+  onward-few (refused r) more = omega arith
+
+  pub machine-few : (st : List R) (run : Run) (ds : List (Deed S)) → length (items (machine states st run ds)) ≤ length ds + owed run
+  unfolding machine items
+  machine-few st run [] =
+      let xs : List E = said states st (ended run) parts in
+      let z : Stream Refusal E = end in
+      let a = ap length (front-items xs z) in
+      let b = length-append xs [] in
+      let c = said-most st (ended run) parts in
+      let d = ended-few run in
+      omega arith
+  machine-few st run (d ∷ ds) =
+      let g : Gave = gave (skipOf states st) run d in
+      let m : Found (List R) = moved (states .fresh) st (moveOf states d) in
+      let more : Stream Refusal E = machine states (stackOf m) (g .run) ds in
+      let xs : List E = said states st g d in
+      let a = ap length (front-items xs (onward m more)) in
+      let b = length-append xs (items (onward m more)) in
+      let c = said-most st g d in
+      let e = gave-few (skipOf states st) run d in
+      let f = onward-few m more in
+      let h = machine-few (stackOf m) (g .run) ds in
+      omega arith

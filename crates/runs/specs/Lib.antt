@@ -1,2 +1,0 @@
--- Runs: the adjacent `u` tokens that a run is made of.
-pub mod Runs

@@ -1,0 +1,2 @@
+-- Effects: laws of a word's effect.
+pub mod Effects

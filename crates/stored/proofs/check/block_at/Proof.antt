@@ -1,0 +1,93 @@
+-- `block_at` meets its contract, as that of `entry` does: the numbers, and then the rules.
+use borrow.Author.Needs.{needs}
+use native.Mathlib.Omega.{arith}
+use mathlib.Core.Path.{refl}
+use Rattle.fields.specs.Fields.{lastOf}
+use Rattle.stored.proofs.Branches.{block-refused, block-within, block-entry}
+use Rattle.stored.proofs.check.block_at.Statement.{statement}
+use Rattle.stored.proofs.check.block_at.Tie as tie
+
+slice-aggregate-numbers-at : tie.Need-slice-aggregate-numbers-at
+slice-aggregate-numbers-at c = search needs
+
+numbers-at-requires : tie.Need-numbers-at-requires
+numbers-at-requires c κs = search needs
+
+enum-known-numbers : tie.Need-enum-known-numbers
+enum-known-numbers c = search needs
+
+enum-known-numbers-2 : tie.Need-enum-known-numbers-2
+enum-known-numbers-2 c = search needs
+
+slice-aggregate-style-of : tie.Need-slice-aggregate-style-of
+slice-aggregate-style-of c = search needs
+
+style-of-requires : tie.Need-style-of-requires
+style-of-requires c κs = search needs
+
+array-read-wide : tie.Need-array-read-wide
+array-read-wide c = search needs
+
+wide-requires : tie.Need-wide-requires
+wide-requires c κs = search needs
+
+sub-ruled : tie.Need-sub-ruled
+sub-ruled c =
+    let at-numbers2 = c .before .before .before .before in
+    let at-numbers-at = at-numbers2 .before .before .before in
+    let start = at-numbers-at .before .before .before in
+    let w = block-within (lastOf (start .args .begun) (start .args .before)) (start .args .s .now) _
+    (at-numbers-at .numbers-at .result) refl (at-numbers-at .numbers-at .ensures) (at-numbers2 .numbers2 .given .1) in
+    omega arith
+
+part-ruled-start : tie.Need-part-ruled-start
+part-ruled-start c =
+    let at-numbers2 = c .before .before .before .before in
+    let at-numbers-at = at-numbers2 .before .before .before in
+    let start = at-numbers-at .before .before .before in
+    let w = block-within (lastOf (start .args .begun) (start .args .before)) (start .args .s .now) _
+    (at-numbers-at .numbers-at .result) refl (at-numbers-at .numbers-at .ensures) (at-numbers2 .numbers2 .given .1) in
+    omega arith
+
+part-ruled-end : tie.Need-part-ruled-end
+part-ruled-end c = search needs
+
+ruled-requires : tie.Need-ruled-requires
+ruled-requires c κs = search needs
+
+returns : tie.Need-returns
+returns c =
+    let at-numbers-at = c .before .before .before .before in
+    let start = at-numbers-at .before .before .before in
+    block-refused (lastOf (start .args .begun) (start .args .before)) (start .args .s .now) _
+    (at-numbers-at .numbers-at .result) refl (at-numbers-at .numbers-at .ensures) (c .before .numbers .given .1)
+
+returns-2 : tie.Need-returns-2
+returns-2 c =
+    let at-wide = c .before .before in
+    let at-style-of = at-wide .before in
+    let at-numbers2 = at-style-of .before .before .before in
+    let at-numbers-at = at-numbers2 .before .before .before in
+    let start = at-numbers-at .before .before .before in
+    block-entry (lastOf (start .args .begun) (start .args .before)) (start .args .s .now) _
+    (at-numbers-at .numbers-at .result) refl (at-numbers-at .numbers-at .ensures) (at-numbers2 .numbers2 .given .1)
+    (at-style-of .style-of .ensures) (at-wide .wide .ensures) (c .ruled .ensures)
+
+pub block-at-spec : {M : Type 1} → statement M
+block-at-spec =
+    tie.close
+    (tie.spec
+    slice-aggregate-numbers-at
+    numbers-at-requires
+    enum-known-numbers
+    enum-known-numbers-2
+    slice-aggregate-style-of
+    style-of-requires
+    array-read-wide
+    wide-requires
+    sub-ruled
+    part-ruled-start
+    part-ruled-end
+    ruled-requires
+    returns
+    returns-2)
