@@ -1,42 +1,41 @@
--- What is said at a token, laid onto a page: one law for each way through the code.
---     laid-off, laid-append, lay-said    pieces laid one after the other
---     gave-act, skip-..                  what a run gives
---     value-.., values-..                what a run gave, as text
---     text-..                            a token's own text
---     speaks-..                          whether anything is said
---     said-..                            both, in the top state; nothing; at the end of all tokens
---     still-on                           a page that is laid on fits its rooms
+-- What is said at a token, laid onto a page.
+--     laid-off, laid-append, lay-said   pieces laid one after the other
+--     said-..                           what is said at a token, by its run and its own text
+--     value-.., values-..               what a `u` word gave
+--     lost-..                           a surrogate that waits where the run ends
+--     run-..                            the words of a run
 -- Assumes nothing.
 use mathlib.Core.Path.{_≡_, refl, sym, ap, _∙_}
 use mathlib.Core.List.{List, [], _∷_, _++_, append-nil}
-use mathlib.Core.Bool.{Bool, true, false, _||_, true≢false, false≢true}
-use Prim.Native.Nat.{ℕ, _-_, _<_, _≤_}
+use mathlib.Core.Bool.{Bool, true, false, cond}
+use Prim.Native.Nat.{ℕ, zero, suc, _-_, _<_, _≤_}
 use native.Mathlib.Omega.{arith}
-use lib.ListN.{length, getD, take, length-take}
-use lib.Dec.{ltb}
+use borrow.Author.Tests.{lt-ltb}
+use lib.ListN.{length, getD, set, take, length-take}
+use lib.Dec.{eqb, ltb}
 use Rattle.answers.specs.declared.Refusal.{Refusal}
+use Rattle.answers.specs.declared.Why.the-variants.{BlockRoom, TextRoom}
+use Rattle.answers.specs.Answers.{refusal}
 use Rattle.rooms.specs.Streams.{Stream}
 use Rattle.utf8.specs.declared.Encoded.{Encoded}
 use Rattle.utf8.specs.Utf8.{written, encodedOf}
 use Rattle.utf8.proofs.Utf8.{encoded-length, encoded-bytes}
+use Rattle.tokens.specs.declared.Property.{Property}
 use Rattle.settings.specs.Fields.{Setting, styleOf}
-use Rattle.settings.specs.Fields as field
-use Rattle.settings.specs.Effects.{Effect}
-use Rattle.settings.specs.Effects as does
 use Rattle.units.specs.declared.Run.{Run}
 use Rattle.units.specs.declared.Gave.{Gave}
-use Rattle.units.specs.Units.{values}
+use Rattle.units.specs.Units.{before, values, step}
 use Rattle.machine.specs.Stack.{held}
-use Rattle.machine.specs.Machine.{Deed, parts, ended, gave, textsOf, writtenAll, _▸▸_, skipOf, spoken, said}
+use Rattle.machine.specs.Machine.{Deed, parts, ended, textsOf, writtenAll, _▸▸_, spoken, said}
 use Rattle.machine.proofs.Stack.{held-top}
 use Rattle.blocks.specs.declared.Page.{Page}
-use Rattle.blocks.specs.declared.Laid.{Laid}
-use Rattle.blocks.specs.declared.Laid.the-variants.{On, Full}
+use Rattle.blocks.specs.declared.Room.{Room}
+use Rattle.blocks.specs.declared.Room.the-variants.{Fits, NoBlock, NoText}
 use Rattle.blocks.specs.Pages.{Piece}
-use Rattle.blocks.specs.Laying.{Laying, on, off, told, addOf, laidOn, layAll, Ready, Still}
+use Rattle.blocks.specs.Laying.{Laying, on, off, roomed, addOf, laidOn, layAll}
 use Rattle.blocks.proofs.Laying.{lay-more}
-use Rattle.body.specs.Body.{rows, doing}
-use Rattle.body.specs.Turns.{any, valueIf, laidAll}
+use Rattle.body.specs.Body.{rows}
+use Rattle.body.specs.Turns.{runWords, runOf, valueIf, laidAll}
 
 -- ---- pieces laid one after the other
 
@@ -45,7 +44,7 @@ unfolding laidAll
 laid-off r [] = refl
 laid-off r (x ∷ xs) = laid-off r xs
 
-laid-append : (l : Laying) (xs ys : List Piece) → laidAll (laidAll l xs) ys ≡ laidAll l (xs ++ ys)
+pub laid-append : (l : Laying) (xs ys : List Piece) → laidAll (laidAll l xs) ys ≡ laidAll l (xs ++ ys)
 unfolding laidAll
 laid-append l [] ys = refl
 laid-append l (x ∷ xs) ys = laid-append (laidOn l x) xs ys
@@ -65,41 +64,39 @@ unfolding writtenAll
 written-append [] ys = refl
 written-append (x ∷ xs) ys = ap (λ (l : List (List ℕ)). written x ∷ l) (written-append xs ys)
 
-pub still-on : {r : Laid} {w v : ℕ} {p : Page} → Still r w v → r ≡ On p → Ready p w v
-still-on {w = w} {v = v} h e = rw e at h
+-- ---- what is said at a token
 
--- texts, and then others
-module _ (l : Laying) (r : List ℕ) (xs ys : List (List ℕ)) (a : Laid) (b t : List ℕ) (h : told a b t ≡ laidAll l (spoken rows r xs)) where
-  then-full : {q : Refusal} → a ≡ Full q → off q ≡ laidAll l (spoken rows r (xs ++ ys))
-  then-full {q} e =
-      sym (laid-off q (spoken rows r ys))
-      ∙ ap (λ (z : Laying). laidAll z (spoken rows r ys)) (rw e at h)
-      ∙ laid-append l (spoken rows r xs) (spoken rows r ys)
-      ∙ ap (laidAll l) (sym (spoken-append r xs ys))
+pub said-none : (g : Gave) (d : Deed Setting) → said rows [] g d ≡ []
+unfolding said
+said-none g d = refl
 
-  then-on : {p : Page} {z : Laying} → a ≡ On p → z ≡ laidAll (on p b t) (spoken rows r ys) → z ≡ laidAll l (spoken rows r (xs ++ ys))
-  then-on {p} e g =
-      g
-      ∙ ap (λ (y : Laying). laidAll y (spoken rows r ys)) (rw e at h)
-      ∙ laid-append l (spoken rows r xs) (spoken rows r ys)
-      ∙ ap (laidAll l) (sym (spoken-append r xs ys))
+-- where no run is under way: the token's own text
+pub said-own : (st : List (List ℕ)) (d : Deed Setting) → textsOf d ≡ [] → said rows st (ended before) d ≡ []
+unfolding said values writtenAll spoken
+said-own [] d e = refl
+said-own (top ∷ rest) d e = rw e refl
 
--- ---- what a run gives
+-- what the run owes, and then the token's own text
+pub said-ended : (st : List (List ℕ)) (run : Run) (d : Deed Setting) → said rows st (ended run) d ≡ said rows st (ended run) parts ++ said rows st (ended before) d
+unfolding said values writtenAll
+said-ended [] run d = refl
+said-ended (top ∷ rest) run d =
+    let xs : List (List ℕ) = writtenAll (values (ended run)) in
+    spoken-append top xs (textsOf d) ∙ ap (λ (ys : List (List ℕ)). spoken rows top ys ++ spoken rows top (textsOf d)) (sym (append-nil xs))
 
-pub gave-act : (skip : ℕ) (run : Run) (e : Effect) → ended run ≡ gave skip run (doing e)
-unfolding gave
-gave-act skip run (does.sets ss) = refl
-gave-act skip run (does.says c) = refl
-gave-act skip run (does.refuses why) = refl
+module _ (states : List (List ℕ)) (depth : ℕ) (z : 0 < depth) (p : Page) (b t : List ℕ) where
+  top : List ℕ
+  top = getD states (depth - 1) []
 
-pub skip-none : (states : List (List ℕ)) (d : ℕ) → d ≡ 0 → 0 ≡ skipOf rows (held [] states d)
-unfolding held
-skip-none states d e = rw e
+  pub said-text : (bytes : List ℕ) → laidAll (on p b t) (said rows (held [] states depth) (ended before) (Deed.says bytes)) ≡ addOf p (styleOf (getD states (depth - 1) [])) bytes b t
+  unfolding said values writtenAll spoken laidAll
+  said-text bytes = rw (held-top [] states depth z) refl
 
-pub skip-top : (states : List (List ℕ)) (d : ℕ) → 0 < d → getD (getD states (d - 1) []) 17 0 ≡ skipOf rows (held [] states d)
-skip-top states d z = rw (held-top [] states d z)
+  pub said-values : (g : Gave) (d : Deed Setting) → textsOf d ≡ [] → said rows (held [] states depth) g d ≡ spoken rows (getD states (depth - 1) []) (writtenAll (values g))
+  unfolding said
+  said-values g d e = rw (held-top [] states depth z, e) (ap (spoken rows (getD states (depth - 1) [])) (append-nil (writtenAll (values g))))
 
--- ---- what a run gave
+-- ---- a scalar value
 
 module _ (value : ℕ) (e : Encoded) (q : e ≡ encodedOf value) where
   pub encoded-count : e .length ≡ length (take (e .length) (e .bytes))
@@ -108,116 +105,90 @@ module _ (value : ℕ) (e : Encoded) (q : e ≡ encodedOf value) where
   pub encoded-within : e .length ≤ length (e .bytes)
   encoded-within = let h = encoded-count in let k = length-take (e .length) (e .bytes) in omega arith
 
-module _ (p : Page) (r b t : List ℕ) where
-  pub value-some : {z : Laying} (value : ℕ) {some : Bool} → some ≡ true → {e : Encoded} → e ≡ encodedOf value
-      → z ≡ addOf p (styleOf r) (take (e .length) (e .bytes)) b t → z ≡ laidAll (on p b t) (spoken rows r (writtenAll (valueIf some value)))
+  pub encoded-text : (p : Page) (r b t : List ℕ) {l : Laying} → l ≡ addOf p (styleOf r) (take (e .length) (e .bytes)) b t → l ≡ addOf p (styleOf r) (written value) b t
+  encoded-text p r b t h = h ∙ ap (λ (bs : List ℕ). addOf p (styleOf r) bs b t) (encoded-bytes value e q)
+
+-- ---- what a `u` word gave
+
+module _ (p : Page) (r b t : List ℕ) (value : ℕ) {some : Bool} where
+  pub value-some : some ≡ true → {l : Laying} → l ≡ addOf p (styleOf r) (written value) b t → l ≡ laidAll (on p b t) (spoken rows r (writtenAll (valueIf some value)))
   unfolding laidAll spoken writtenAll
-  value-some value f {e} q h = h ∙ ap (λ (bs : List ℕ). addOf p (styleOf r) bs b t) (encoded-bytes value e q) ∙ rw f
+  value-some f h = h ∙ rw f
 
-  pub value-none : (value : ℕ) {some : Bool} → some ≡ false → on p b t ≡ laidAll (on p b t) (spoken rows r (writtenAll (valueIf some value)))
+  pub value-none : some ≡ false → on p b t ≡ laidAll (on p b t) (spoken rows r (writtenAll (valueIf some value)))
   unfolding laidAll spoken writtenAll
-  value-none value f = rw f
+  value-none f = rw f
 
-  -- a token's own text, or none
-  pub text-some : {z : Laying} {bytes bs : List ℕ} → bytes ≡ bs → z ≡ addOf p (styleOf r) bytes b t → z ≡ laidAll (on p b t) (spoken rows r (bs ∷ []))
-  unfolding laidAll spoken
-  text-some e h = rw (← e) h
+-- a lost surrogate, and then a value
+module _ (l : Laying) (r : List ℕ) (g : Gave) where
+  values-both : spoken rows r (writtenAll (values g)) ≡ spoken rows r (writtenAll (valueIf (g .lost) 65533)) ++ spoken rows r (writtenAll (valueIf (g .some) (g .value)))
+  unfolding values
+  values-both =
+      ap (spoken rows r) (written-append (valueIf (g .lost) 65533) (valueIf (g .some) (g .value)))
+      ∙ spoken-append r (writtenAll (valueIf (g .lost) 65533)) (writtenAll (valueIf (g .some) (g .value)))
 
-  pub text-none : on p b t ≡ laidAll (on p b t) (spoken rows r [])
-  unfolding laidAll spoken
-  text-none = refl
+  pub values-full : {q : Refusal} → off q ≡ laidAll l (spoken rows r (writtenAll (valueIf (g .lost) 65533))) → off q ≡ laidAll l (spoken rows r (writtenAll (values g)))
+  values-full {q} h =
+      let xs : List Piece = spoken rows r (writtenAll (valueIf (g .some) (g .value))) in
+      sym (laid-off q xs)
+      ∙ ap (λ (y : Laying). laidAll y xs) h
+      ∙ laid-append l (spoken rows r (writtenAll (valueIf (g .lost) 65533))) xs
+      ∙ ap (laidAll l) (sym values-both)
 
-  -- a character that a word writes
-  pub text-character : {z : Laying} (c : ℕ) → z ≡ laidAll (on p b t) (spoken rows r (writtenAll (valueIf true c)))
-      → z ≡ laidAll (on p b t) (spoken rows r (textsOf (doing (does.says c))))
-  unfolding writtenAll
-  text-character c h = h
+  pub values-more : (p : Page) (b t : List ℕ) → on p b t ≡ laidAll l (spoken rows r (writtenAll (valueIf (g .lost) 65533)))
+      → {y : Laying} → y ≡ laidAll (on p b t) (spoken rows r (writtenAll (valueIf (g .some) (g .value)))) → y ≡ laidAll l (spoken rows r (writtenAll (values g)))
+  values-more p b t h i =
+      let xs : List Piece = spoken rows r (writtenAll (valueIf (g .some) (g .value))) in
+      i
+      ∙ ap (λ (y : Laying). laidAll y xs) h
+      ∙ laid-append l (spoken rows r (writtenAll (valueIf (g .lost) 65533))) xs
+      ∙ ap (laidAll l) (sym values-both)
 
-both : (g : Gave) → writtenAll (valueIf (g .lost) 65533) ++ writtenAll (valueIf (g .some) (g .value)) ≡ writtenAll (values g)
-unfolding values
-both g = sym (written-append (valueIf (g .lost) 65533) (valueIf (g .some) (g .value)))
+-- ---- where the run ends
 
-module _ (l : Laying) (r : List ℕ) (g : Gave) (a : Laid) (b t : List ℕ) (h : told a b t ≡ laidAll l (spoken rows r (writtenAll (valueIf (g .lost) 65533)))) where
-  pub values-full : {q : Refusal} → a ≡ Full q → off q ≡ laidAll l (spoken rows r (writtenAll (values g)))
-  values-full e =
-      then-full l r (writtenAll (valueIf (g .lost) 65533)) (writtenAll (valueIf (g .some) (g .value))) a b t h e
-      ∙ ap (λ (xs : List (List ℕ)). laidAll l (spoken rows r xs)) (both g)
+module _ (p : Page) (b t : List ℕ) (states : List (List ℕ)) (depth : ℕ) (run : Run) where
+  pub lost-none : run .high ≡ 0 → on p b t ≡ laidAll (on p b t) (said rows (held [] states depth) (ended run) parts)
+  unfolding said values writtenAll spoken laidAll
+  lost-none e = go (held [] states depth)
+    where
+      go : (st : List (List ℕ)) → on p b t ≡ laidAll (on p b t) (said rows st (ended run) parts)
+      go [] = refl
+      go (top ∷ rest) = rw e refl
 
-  pub values-on : {p : Page} {z : Laying} → a ≡ On p → z ≡ laidAll (on p b t) (spoken rows r (writtenAll (valueIf (g .some) (g .value))))
-      → z ≡ laidAll l (spoken rows r (writtenAll (values g)))
-  values-on e f =
-      then-on l r (writtenAll (valueIf (g .lost) 65533)) (writtenAll (valueIf (g .some) (g .value))) a b t h e f
-      ∙ ap (λ (xs : List (List ℕ)). laidAll l (spoken rows r xs)) (both g)
+  pub lost-bare : depth ≡ 0 → on p b t ≡ laidAll (on p b t) (said rows (held [] states depth) (ended run) parts)
+  unfolding said held laidAll
+  lost-bare e = rw e refl
 
--- ---- whether anything is said
+  pub lost-some : 0 < depth → 0 < run .high → {l : Laying} → l ≡ addOf p (styleOf (getD states (depth - 1) [])) (written 65533) b t
+      → l ≡ laidAll (on p b t) (said rows (held [] states depth) (ended run) parts)
+  unfolding said values writtenAll spoken laidAll
+  lost-some z h e = e ∙ rw (held-top [] states depth z, lt-ltb 0 (run .high) h) refl
 
-pub speaks-lost : (g : Gave) (xs : List (List ℕ)) → (g .lost || g .some) ≡ true → true ≡ any (writtenAll (values g) ++ xs)
-unfolding values writtenAll
-speaks-lost g xs h = go (g .lost) (g .some) h
-  where
-    go : (l s : Bool) → (l || s) ≡ true → true ≡ any (writtenAll (valueIf l 65533 ++ valueIf s (g .value)) ++ xs)
-    go true s e = refl
-    go false true e = refl
-    go false false e = absurd (false≢true e)
+-- the words of a run that has ended
+pub run-none : (l : List ℕ) → length l ≡ runWords → (runOf (set (set (set l 0 0) 1 0) 2 0) ≡ before) × (length (set (set (set l 0 0) 1 0) 2 0) ≡ runWords)
+run-none [] e = absurd (omega arith)
+run-none (x ∷ []) e = absurd (omega arith)
+run-none (x ∷ y ∷ []) e = absurd (omega arith)
+run-none (x ∷ y ∷ z ∷ []) e = (refl, refl)
+run-none (x ∷ y ∷ z ∷ u ∷ l) e = absurd (omega arith)
 
-silent-values : (g : Gave) → (g .lost || g .some) ≡ false → writtenAll (values g) ≡ []
-unfolding values writtenAll
-silent-values g h = go (g .lost) (g .some) h
-  where
-    go : (l s : Bool) → (l || s) ≡ false → writtenAll (valueIf l 65533 ++ valueIf s (g .value)) ≡ []
-    go true s e = absurd (true≢false e)
-    go false true e = absurd (true≢false e)
-    go false false e = refl
+-- and of one that goes on
+bit-is : (b : Bool) → eqb (cond b 1 0) 1 ≡ b
+bit-is true = refl
+bit-is false = refl
 
-pub speaks-text : (g : Gave) (xs : List (List ℕ)) {r : Bool} → (g .lost || g .some) ≡ false → r ≡ any xs → r ≡ any (writtenAll (values g) ++ xs)
-speaks-text g xs h e = e ∙ ap (λ (ys : List (List ℕ)). any (ys ++ xs)) (sym (silent-values g h))
+pub run-put : (l : List ℕ) → length l ≡ runWords → (r : Run) {n : ℕ} → n ≡ cond (r .begun) 1 0
+    → (length (set (set (set l 0 n) 1 (r .skipped)) 2 (r .high)) ≡ runWords) × (runOf (set (set (set l 0 n) 1 (r .skipped)) 2 (r .high)) ≡ r)
+run-put [] e r q = absurd (omega arith)
+run-put (x ∷ []) e r q = absurd (omega arith)
+run-put (x ∷ y ∷ []) e r q = absurd (omega arith)
+run-put (x ∷ y ∷ z ∷ []) e r q = (refl, rw (q, bit-is (r .begun)) refl)
+run-put (x ∷ y ∷ z ∷ u ∷ l) e r q = absurd (omega arith)
 
-no-text : (xs : List (List ℕ)) → any xs ≡ false → xs ≡ []
-no-text [] e = refl
-no-text (x ∷ xs) e = absurd (true≢false e)
+-- a `u` word's step of the run, and what it gives
+module _ (skip : ℕ) (run₀ : Run) (num : Property) {run : Run} (e : run ≡ run₀) {g : Gave} (q : g ≡ step skip run num) where
+  pub unit-laid : (r : List ℕ) (p : Page) (b t : List ℕ) {l : Laying} → l ≡ laidAll (on p b t) (spoken rows r (writtenAll (values g))) → l ≡ laidAll (on p b t) (spoken rows r (writtenAll (values (step skip run₀ num))))
+  unit-laid r p b t h = h ∙ ap (λ (x : Gave). laidAll (on p b t) (spoken rows r (writtenAll (values x)))) (q ∙ ap (λ (x : Run). step skip x num) e)
 
--- ---- in the top state
-
-module _ (l : Laying) (states : List (List ℕ)) (depth : ℕ) (g : Gave) (d : Deed Setting) where
-  pub said-none : depth ≡ 0 → l ≡ laidAll l (said rows (held [] states depth) g d)
-  unfolding laidAll said held
-  said-none e = rw e
-
-  module _ (z : 0 < depth) where
-    top : said rows (held [] states depth) g d ≡ spoken rows (getD states (depth - 1) []) (writtenAll (values g) ++ textsOf d)
-    unfolding said
-    top = rw (held-top [] states depth z)
-
-    -- where the run gives nothing
-    pub said-text : (g .lost || g .some) ≡ false → {y : Laying} → y ≡ laidAll l (spoken rows (getD states (depth - 1) []) (textsOf d))
-        → y ≡ laidAll l (said rows (held [] states depth) g d)
-    said-text e h =
-        h
-        ∙ ap (λ (xs : List (List ℕ)). laidAll l (spoken rows (getD states (depth - 1) []) (xs ++ textsOf d))) (sym (silent-values g e))
-        ∙ ap (laidAll l) (sym top)
-
-    module _ (a : Laid) (b t : List ℕ) (h : told a b t ≡ laidAll l (spoken rows (getD states (depth - 1) []) (writtenAll (values g)))) where
-      pub said-full : {q : Refusal} → a ≡ Full q → off q ≡ laidAll l (said rows (held [] states depth) g d)
-      said-full e = then-full l (getD states (depth - 1) []) (writtenAll (values g)) (textsOf d) a b t h e ∙ ap (laidAll l) (sym top)
-
-      pub said-on : {p : Page} {y : Laying} → a ≡ On p → y ≡ laidAll (on p b t) (spoken rows (getD states (depth - 1) []) (textsOf d))
-          → y ≡ laidAll l (said rows (held [] states depth) g d)
-      said-on e f = then-on l (getD states (depth - 1) []) (writtenAll (values g)) (textsOf d) a b t h e f ∙ ap (laidAll l) (sym top)
-
--- where nothing is said at all
-pub said-silent : (l : Laying) (st : List (List ℕ)) (g : Gave) (d : Deed Setting) → any (writtenAll (values g) ++ textsOf d) ≡ false → l ≡ laidAll l (said rows st g d)
-unfolding laidAll said spoken
-said-silent l [] g d e = refl
-said-silent l (top ∷ rest) g d e = rw (no-text (writtenAll (values g) ++ textsOf d) e) refl
-
--- where the tokens end
-module _ (l : Laying) (states : List (List ℕ)) (depth : ℕ) (run : Run) where
-  pub said-end : 0 < depth → {y : Laying} {waits : Bool} → waits ≡ ltb 0 (run .high)
-      → y ≡ laidAll l (spoken rows (getD states (depth - 1) []) (writtenAll (valueIf waits 65533)))
-      → y ≡ laidAll l (said rows (held [] states depth) (ended run) parts)
-  unfolding said values
-  said-end z e h =
-      h
-      ∙ ap (λ (xs : List ℕ). laidAll l (spoken rows (getD states (depth - 1) []) (writtenAll xs))) (ap (λ (w : Bool). valueIf w 65533) e ∙ sym (append-nil (valueIf (ltb 0 (run .high)) 65533)))
-      ∙ ap (λ (xs : List (List ℕ)). laidAll l (spoken rows (getD states (depth - 1) []) xs)) (sym (append-nil (writtenAll (valueIf (ltb 0 (run .high)) 65533 ++ []))))
-      ∙ rw (held-top [] states depth z)
+  pub unit-run : {run′ : Run} → run′ ≡ g .run → run′ ≡ step skip run₀ num .run
+  unit-run h = h ∙ ap (λ (x : Gave). x .run) (q ∙ ap (λ (x : Run). step skip x num) e)

@@ -1,52 +1,51 @@
--- What the code answers for one token: what it does, what becomes of the array of states, what is laid. Assumes nothing: these are
+-- What the code answers for one token: what becomes of the array of states, of the run and of the page. Assumes nothing: these are
 -- definitions.
 use Prim.Native.Nat.{ℕ, _≤_, _<_}
 use mathlib.Core.Path.{_≡_}
 use mathlib.Core.List.{List, [], _∷_}
-use mathlib.Core.Bool.{Bool, true, false, cond}
-use lib.ListN.{length}
+use mathlib.Core.Bool.{Bool, cond}
+use lib.ListN.{length, getD}
+use lib.Dec.{eqb, ltb}
+use Rattle.answers.specs.declared.Refusal.{Refusal}
+use Rattle.answers.specs.declared.Why.the-variants.{BlockRoom, TextRoom}
 use Rattle.answers.specs.Answers.{refusal, Found, found, refused}
-use Rattle.tokens.specs.Items.{part}
-use Rattle.settings.specs.declared.Act.{Act}
-use Rattle.settings.specs.Fields.{Setting}
-use Rattle.settings.specs.Effects.{meaning, Within}
-use Rattle.machine.specs.Stack.{stackLimit, held}
-use Rattle.machine.specs.Machine.{opens as opensOf, closes as closesOf, says, unit, parts, stops}
-use Rattle.machine.specs.Machine
+use Rattle.readings.specs.declared.Reading.{Reading}
+use Rattle.tokens.specs.Items.{itemAt, shownOf}
+use Rattle.settings.specs.Fields.{Setting, freshRow}
+use Rattle.units.specs.declared.Run.{Run}
+use Rattle.units.specs.declared.Gave.{Gave}
+use Rattle.machine.specs.Stack.{stackLimit, moved, held}
+use Rattle.machine.specs.Machine.{Deed, parts, moveOf, said}
+use Rattle.blocks.specs.declared.Page.{Page}
+use Rattle.blocks.specs.declared.Room.{Room}
+use Rattle.blocks.specs.declared.Room.the-variants.{Fits, NoBlock, NoText}
 use Rattle.blocks.specs.Pages.{Piece}
-use Rattle.blocks.specs.Laying.{Laying, laidOn}
-use Rattle.body.specs.declared.deed.Deed.{Deed}
-use Rattle.body.specs.declared.deed.Deed.the-variants.{Opens, Closes, Does, Text, Break, Unit, Parts, Stops}
+use Rattle.blocks.specs.Laying.{Laying, on, off, laidOn, pageOf, Held}
 use Rattle.body.specs.declared.stack.Moved.{Moved}
 use Rattle.body.specs.declared.stack.Moved.the-variants.{Holds, Refuses}
-use Rattle.body.specs.Body.{doing}
+use Rattle.body.specs.Body.{rows, tokenDeed}
 
--- what the code's deed says, given the source that its places point into
-abbrev pub deedBy : List ℕ → Deed → Machine.Deed Setting
-deedBy src Opens = opensOf
-deedBy src Closes = closesOf
-deedBy src (Does act) = doing (meaning act)
-deedBy src (Text p n) = says (part src p n)
-deedBy src Break = says (10 ∷ [])
-deedBy src (Unit num) = unit num
-deedBy src Parts = parts
-deedBy src (Stops why) = stops why
+-- what the token that words start with does, where the walk passes over h tokens behind it
+unfoldable pub deedAt : Reading → List ℕ → List ℕ → ℕ → Deed Setting
+deedAt rd src ws h = cond (ltb 0 h) parts (tokenDeed rd (shownOf src (itemAt ws)))
 
--- its field lies in a row
-abbrev pub Sound : Deed → Type 0
-Sound (Does act) = Within act
-Sound Opens = 0 < stackLimit
-Sound Closes = 0 < stackLimit
-Sound (Text p n) = 0 < stackLimit
-Sound Break = 0 < stackLimit
-Sound (Unit num) = 0 < stackLimit
-Sound Parts = 0 < stackLimit
-Sound (Stops why) = 0 < stackLimit
+-- the run of units under way, in an array of words, as the code carries it
+abbrev pub runWords : ℕ
+runWords = 3
+
+abbrev pub runOf : List ℕ → Run
+runOf l = record { begun = eqb (getD l 0 0) 1; skipped = getD l 1 0; high = getD l 2 0 }
 
 -- what an answer says of the states that it leaves
 abbrev pub movedBy : Moved → List (List ℕ) → Found (List (List ℕ))
 movedBy (Holds d) states = found (held [] states d)
 movedBy (Refuses why) states = refused (refusal why)
+
+-- where text was laid the stack stays as it is
+abbrev pub staysBy : Room → ℕ → Moved
+staysBy NoBlock d = Refuses BlockRoom
+staysBy NoText d = Refuses TextRoom
+staysBy Fits d = Holds d
 
 -- its place is in the array
 abbrev pub Deep : Moved → Type 0
@@ -58,11 +57,6 @@ pub record Took (r : Moved) (states : List (List ℕ)) (m : Found (List (List �
   pub deep : Deep r
   pub all : length states ≡ stackLimit
 
--- whether there is a text
-abbrev pub any : List (List ℕ) → Bool
-any [] = false
-any (bs ∷ texts) = true
-
 -- a scalar value, if there is one
 abbrev pub valueIf : Bool → ℕ → List ℕ
 valueIf b c = cond b (c ∷ []) []
@@ -71,3 +65,25 @@ valueIf b c = cond b (c ∷ []) []
 unfoldable pub laidAll : Laying → List Piece → Laying
 laidAll l [] = l
 laidAll l (x ∷ xs) = laidAll (laidOn l x) xs
+
+-- where a token leads: on, with a stack, a run, and a page with its rooms; or to a refusal
+pub data Turned : Type 0 where
+  goes : List (List ℕ) → Run → Page → List ℕ → List ℕ → Turned
+  ends : Refusal → Turned
+
+-- what is said at a token is laid first, then the stack moves: a refusal of the first is met first
+abbrev pub turned : Laying → Found (List (List ℕ)) → Run → Turned
+turned (on p b t) (found st) run = goes st run p b t
+turned (on p b t) (refused r) run = ends r
+turned (off r) m run = ends r
+
+-- a token, where its run gives g
+unfoldable pub turnOf : List (List ℕ) → Page → List ℕ → List ℕ → Gave → Deed Setting → Turned
+turnOf st p b t g d = turned (laidAll (on p b t) (said rows st g d)) (moved freshRow st (moveOf rows d)) (g .run)
+
+-- what the code's answer says, with the states, the run and the page that it leaves
+pub record Turns (r : Moved) (states : List (List ℕ)) (run : Run) (page b t : List ℕ) (w v : ℕ) (z : Turned) : Type 0 where
+  pub does : turned (on (pageOf page) b t) (movedBy r states) run ≡ z
+  pub deep : Deep r
+  pub all : length states ≡ stackLimit
+  pub held : Held page w v
