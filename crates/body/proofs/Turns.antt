@@ -3,11 +3,11 @@
 --     turn-refused, turn-on        one token: a refusal, and on
 -- Assumes nothing.
 use mathlib.Core.Path.{_≡_, refl, sym, ap, _∙_}
-use mathlib.Core.List.{List, [], _∷_, _++_}
+use mathlib.Core.List.{List, [], _∷_}
 use Prim.Native.Nat.{ℕ, _+_, _-_, _*_, _<_, _≤_}
 use native.Mathlib.Omega.{arith}
 use native.Mathlib.Numerals.{add-one}
-use lib.ListN.{length, getD, set, drop, length-drop, length-take, length-set, replicate}
+use lib.ListN.{length, set, drop, length-drop, length-take, replicate}
 use Rattle.answers.specs.declared.Refusal.{Refusal}
 use Rattle.answers.specs.declared.Why.{Why}
 use Rattle.answers.specs.Answers.{refusal, Found, found, refused}
@@ -27,12 +27,13 @@ use Rattle.blocks.specs.declared.Page.{Page}
 use Rattle.blocks.specs.Pages.{Piece}
 use Rattle.blocks.specs.Laying.{Laying, on, off, pageOf, blank, layAll, Held}
 use Rattle.blocks.proofs.Laying.{lay-end, lay-stop, lay-off, ready-blank}
-use Rattle.body.specs.declared.stack.Moved.{Moved}
-use Rattle.body.specs.declared.stack.Moved.the-variants.{Holds, Refuses}
-use Rattle.body.specs.Body.{rows, deedOf, deeds, body}
-use Rattle.body.specs.Turns.{deedAt, runWords, runOf, movedBy, laidAll, Turned, goes, ends, turned, turnOf, Turns}
-use Rattle.body.proofs.Saying.{lay-said}
-use Rattle.body.proofs.Deeds.{at-step}
+use Rattle.deeds.specs.declared.stack.Moved.{Moved}
+use Rattle.deeds.specs.declared.stack.Moved.the-variants.{Holds, Refuses}
+use Rattle.runs.specs.Runs.{rows, runWords, runOf, laidAll}
+use Rattle.body.specs.Body.{deedOf, deeds, body}
+use Rattle.deeds.specs.Turns.{deedAt, movedBy, Turned, goes, ends, turned, turnOf, Turns}
+use Rattle.runs.proofs.Saying.{lay-said}
+use Rattle.body.proofs.Groups.{at-step}
 
 -- what is said of tokens, from a stack and a run on
 abbrev from : Reading → List (List ℕ) → Run → List Shown → Stream Refusal Piece

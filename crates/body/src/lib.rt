@@ -1,24 +1,12 @@
 // The body (01, Body; `Parser::parse` in the crate): the tokens that the header walk leaves become blocks and text in two lent
 // rooms, by one machine: a stack of 64 states, the run of units under way, the page, one token at a time.
 //
-//   group   what of the tokens the walk passes over
-//   stack   what brackets do to the states
-//   say     text in a state, laid onto the page
-//   run     the run of units under way
-//   turn    one token
+// What one token does is said in `deeds`; `group` tells what of the tokens the walk passes over.
 //
 // States, run and page are lent as arrays: a struct that goes through the loop by value is copied at each token.
 mod group;
-mod run;
-mod say;
-mod stack;
-mod turn;
 
 use crate::group::passed;
-use crate::run::RUN_WORDS;
-use crate::run::end_run;
-use crate::stack::Moved;
-use crate::turn::turn;
 use answers::Refusal;
 use answers::Why;
 use blocks::BLOCKS;
@@ -28,7 +16,11 @@ use blocks::PAGE_WORDS;
 use blocks::Page;
 use blocks::Room;
 use blocks::TEXT;
+use deeds::stack::Moved;
+use deeds::turn;
 use readings::Reading;
+use runs::RUN_WORDS;
+use runs::end_run;
 use settings::State;
 use settings::WIDTH;
 use settings::rows::STATES;
@@ -43,8 +35,8 @@ ghost use Rattle.walk.specs.Walk.{walk};
 ghost use Rattle.machine.specs.Stack.{stackLimit, held};
 ghost use Rattle.machine.specs.Machine.{ended, parts, said};
 ghost use Rattle.blocks.specs.Laying.{told, on, layAll, pageOf, blank as blankPage, Held, Still};
-ghost use Rattle.body.specs.Body.{rows, body};
-ghost use Rattle.body.specs.Turns.{runOf, runWords, laidAll};
+ghost use Rattle.runs.specs.Runs.{rows, runOf, runWords, laidAll};
+ghost use Rattle.body.specs.Body.{body};
 
 // What a run that is under way at the end still owes, and the page.
 fn finish(

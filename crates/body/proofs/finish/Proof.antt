@@ -8,7 +8,7 @@ use Rattle.body.proofs.finish.Tie as tie
 use Rattle.body.proofs.finish.Reads as reads
 use Rattle.body.proofs.finish.Lts as lts
 use Rattle.answers.proofs.Refusal.of.Reads as of-reads
-use Rattle.body.proofs.run.end_run.Reads as end-run-reads
+use Rattle.runs.proofs.end_run.Reads as end-run-reads
 
 end-run-requires : tie.Need-end-run-requires
 end-run-requires c κs = search needs

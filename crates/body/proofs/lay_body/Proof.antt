@@ -5,7 +5,7 @@ use mathlib.Core.Path.{refl, ap, _∙_}
 use Prim.Native.Nat.{_-_}
 use native.Mathlib.Omega.{arith}
 use Rattle.settings.specs.Fields.{rowOf}
-use Rattle.body.proofs.Deeds.{passed-open}
+use Rattle.body.proofs.Groups.{passed-open}
 use Rattle.body.proofs.Turns.{Loop, loop-start, loop-end, turn-refused, turn-on}
 use Rattle.body.proofs.lay_body.Statement.{statement}
 use Rattle.body.proofs.lay_body.Tie as tie
@@ -14,7 +14,7 @@ use Rattle.body.proofs.lay_body.Lts as lts
 use Rattle.answers.proofs.Refusal.of.Reads as of-reads
 use Rattle.body.proofs.finish.Reads as finish-reads
 use Rattle.body.proofs.group.passed.Reads as passed-reads
-use Rattle.body.proofs.turn.turn.Reads as turn-reads
+use Rattle.deeds.proofs.turn.Reads as turn-reads
 use Rattle.settings.proofs.State.fresh.Reads as fresh-reads
 use Rattle.settings.proofs.State.row.Reads as row-reads
 

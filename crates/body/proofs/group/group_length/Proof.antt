@@ -1,6 +1,6 @@
 -- `group_length` meets its contract: nothing behind the bracket, nothing that the walk looks for, or by what it aims at.
 use native.Mathlib.Omega.{arith}
-use Rattle.body.proofs.Deeds.{group-end, group-plain, group-none, group-hidden, group-fonts, group-colours}
+use Rattle.body.proofs.Groups.{group-end, group-plain, group-none, group-hidden, group-fonts, group-colours}
 use borrow.Author.Needs.{needs}
 use Rattle.body.proofs.group.group_length.Statement.{statement}
 use Rattle.body.proofs.group.group_length.Tie as tie

@@ -1,6 +1,6 @@
 -- `passed` meets its contract: another token than an opening bracket, or the group behind it.
 use native.Mathlib.Omega.{arith}
-use Rattle.body.proofs.Deeds.{passed-none, passed-group}
+use Rattle.body.proofs.Groups.{passed-none, passed-group}
 use borrow.Author.Needs.{needs}
 use Rattle.body.proofs.group.passed.Statement.{statement}
 use Rattle.body.proofs.group.passed.Tie as tie
