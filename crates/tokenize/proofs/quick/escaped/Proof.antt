@@ -9,7 +9,7 @@ use Rattle.tokenize.proofs.quick.escaped.Reads as reads
 use Rattle.tokenize.proofs.quick.escaped.Lts as lts
 use Rattle.bytes.proofs.is_letter.Reads as is-letter-reads
 use Rattle.tokenize.proofs.quick.quick_word.Reads as quick-word-reads
-use Rattle.tokenize.proofs.tokenize.Reads as tokenize-reads
+use Rattle.tokenize.proofs.quick.any_other.Reads as any-other-reads
 
 shared-slice-read-is-letter : tie.Need-shared-slice-read-is-letter
 shared-slice-read-is-letter c = search needs
@@ -35,14 +35,14 @@ same-length c = search needs
 returns : tie.Need-returns
 returns c = wrote-as shownLayout (word-slice _ (c .before .before .before .before .before .before .before .before .before .before .before .args .s .now) (c .before .before .before .before .before .before .before .before .if1 .taken) (c .before .before .before .before .before .before .before .before .before .before .before .pre .1 .1) _ (c .before .before .before .before .before .before .is-letter .ensures) (c .before .before .before .before .before .if2 .taken)) (c .before .before .quick-word .ensures)
 
-tokenize-requires : tie.Need-tokenize-requires
-tokenize-requires c κs = search needs
+any-other-requires : tie.Need-any-other-requires
+any-other-requires c κs = search needs
 
 same-length-2 : tie.Need-same-length-2
 same-length-2 c = search needs
 
 returns-2 : tie.Need-returns-2
-returns-2 c = search needs
+returns-2 c = c .before .before .any-other .ensures
 
 pub escaped-spec : {M : Type 1} → statement M
 escaped-spec =
@@ -56,6 +56,6 @@ escaped-spec =
     quick-word-requires
     same-length
     returns
-    tokenize-requires
+    any-other-requires
     same-length-2
     returns-2)

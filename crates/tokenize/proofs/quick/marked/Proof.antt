@@ -14,7 +14,7 @@ use Rattle.tokenize.proofs.quick.marked.Tie as tie
 use Rattle.tokenize.proofs.quick.marked.Reads as reads
 use Rattle.tokenize.proofs.quick.marked.Lts as lts
 use Rattle.tokenize.proofs.mark.Reads as mark-reads
-use Rattle.tokenize.proofs.tokenize.Reads as tokenize-reads
+use Rattle.tokenize.proofs.quick.any_other.Reads as any-other-reads
 
 shared-slice-read-mark : tie.Need-shared-slice-read-mark
 shared-slice-read-mark c = search needs
@@ -28,14 +28,14 @@ same-length c = search needs
 returns : tie.Need-returns
 returns c = wrote-then shownLayout name-apart _ (tokens-alone _ _ (λ z. omega (arith, z, c .before .before .before .before .before .before .before .before .pre)) _ refl (c .before .before .before .before .before .before .before .before .pre .1 .1) (c .before .before .before .before .before .if1 .taken)) (c .before .before .mark .ensures) refl (wrote-none shownLayout refl)
 
-tokenize-requires : tie.Need-tokenize-requires
-tokenize-requires c κs = search needs
+any-other-requires : tie.Need-any-other-requires
+any-other-requires c κs = search needs
 
 same-length-2 : tie.Need-same-length-2
 same-length-2 c = search needs
 
 returns-2 : tie.Need-returns-2
-returns-2 c = search needs
+returns-2 c = c .before .before .any-other .ensures
 
 pub marked-spec : {M : Type 1} → statement M
 marked-spec =
@@ -45,6 +45,6 @@ marked-spec =
     mark-requires
     same-length
     returns
-    tokenize-requires
+    any-other-requires
     same-length-2
     returns-2)
