@@ -124,18 +124,6 @@ fn quick_word(s: &[u8], place: usize, names: &Table, room: &mut [u32], n: usize)
     }
 }
 
-// A slice of no shape above, by `tokenize`.
-fn any_other(s: &[u8], place: usize, names: &Table, room: &mut [u32], n: usize) -> Written
-    requires { ⌜ (place + length (now s) ≤ 65536) × (n ≤ place) × (now names ≡ rows) ⌝ }
-    ensures { λ r. ⌜ Wrote shownLayout byName n (now (room .entry)) (tokensOf place (now (s .entry))) r (now (room .exit)) ⌝ }
-{
-    let rest = tokenize(s, place, names, room, n);
-    match rest {
-        Written::Refused(why) => Written::Refused(why),
-        Written::Done(m) => Written::Done(m),
-    }
-}
-
 // A slice that begins with a backslash.
 fn escaped(s: &[u8], place: usize, names: &Table, room: &mut [u32], n: usize) -> Written
     requires { ⌜ (place + length (now s) ≤ 65536) × (n ≤ place) × (now names ≡ rows) ⌝ }
@@ -147,7 +135,11 @@ fn escaped(s: &[u8], place: usize, names: &Table, room: &mut [u32], n: usize) ->
             return quick_word(&s[1..], place, names, room, n);
         }
     }
-    any_other(s, place, names, room, n)
+    let rest = tokenize(s, place, names, room, n);
+    match rest {
+        Written::Refused(why) => Written::Refused(why),
+        Written::Done(m) => Written::Done(m),
+    }
 }
 
 // A slice that begins with a bracket or a line feed. What follows is cut again: by `tokenize`, which calls itself on it.
@@ -159,7 +151,11 @@ fn marked(s: &[u8], place: usize, names: &Table, room: &mut [u32], n: usize) -> 
     if s.len() == 1 {
         return Written::Done(mark(s[0], room, n));
     }
-    any_other(s, place, names, room, n)
+    let rest = tokenize(s, place, names, room, n);
+    match rest {
+        Written::Refused(why) => Written::Refused(why),
+        Written::Done(m) => Written::Done(m),
+    }
 }
 
 // The tokens of a slice that stands at `place`.

@@ -1,4 +1,5 @@
 -- `escaped` meets its contract. Assumes nothing.
+use mathlib.Core.Path.{sym}
 use borrow.Author.Needs.{needs}
 use Rattle.rooms.proofs.Rooms.{wrote-as}
 use Rattle.tokens.specs.Tokens.{shownLayout}
@@ -9,7 +10,7 @@ use Rattle.tokenize.proofs.quick.escaped.Reads as reads
 use Rattle.tokenize.proofs.quick.escaped.Lts as lts
 use Rattle.bytes.proofs.is_letter.Reads as is-letter-reads
 use Rattle.tokenize.proofs.quick.quick_word.Reads as quick-word-reads
-use Rattle.tokenize.proofs.quick.any_other.Reads as any-other-reads
+use Rattle.tokenize.proofs.tokenize.Reads as tokenize-reads
 
 shared-slice-read-is-letter : tie.Need-shared-slice-read-is-letter
 shared-slice-read-is-letter c = search needs
@@ -35,14 +36,26 @@ same-length c = search needs
 returns : tie.Need-returns
 returns c = wrote-as shownLayout (word-slice _ (c .before .before .before .before .before .before .before .before .before .before .before .args .s .now) (c .before .before .before .before .before .before .before .before .if1 .taken) (c .before .before .before .before .before .before .before .before .before .before .before .pre .1 .1) _ (c .before .before .before .before .before .before .is-letter .ensures) (c .before .before .before .before .before .if2 .taken)) (c .before .before .quick-word .ensures)
 
-any-other-requires : tie.Need-any-other-requires
-any-other-requires c κs = search needs
+tokenize-requires : tie.Need-tokenize-requires
+tokenize-requires c κs = search needs
+
+enum-known-rest : tie.Need-enum-known-rest
+enum-known-rest c = search needs
+
+enum-known-rest-2 : tie.Need-enum-known-rest-2
+enum-known-rest-2 c = search needs
 
 same-length-2 : tie.Need-same-length-2
 same-length-2 c = search needs
 
 returns-2 : tie.Need-returns-2
-returns-2 c = c .before .before .any-other .ensures
+returns-2 c = rw (sym (c .before .rest .given .1)) (c .before .before .before .before .before .tokenize .ensures)
+
+same-length-3 : tie.Need-same-length-3
+same-length-3 c = search needs
+
+returns-3 : tie.Need-returns-3
+returns-3 c = rw (sym (c .before .rest2 .given .1)) (c .before .before .before .before .before .tokenize .ensures)
 
 pub escaped-spec : {M : Type 1} → statement M
 escaped-spec =
@@ -56,6 +69,10 @@ escaped-spec =
     quick-word-requires
     same-length
     returns
-    any-other-requires
+    tokenize-requires
+    enum-known-rest
+    enum-known-rest-2
     same-length-2
-    returns-2)
+    returns-2
+    same-length-3
+    returns-3)
