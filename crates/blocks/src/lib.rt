@@ -101,7 +101,12 @@ fn capacity(n: usize) -> usize
 }
 
 // Text behind the text, in the last block; false if there is no room for it.
-pub fn append(page: &mut [usize; PAGE_WORDS], bytes: &[u8], blocks: &mut [u32], text: &mut [u8]) -> bool
+pub fn append(
+    page: &mut [usize; PAGE_WORDS],
+    bytes: &[u8],
+    blocks: &mut [u32],
+    text: &mut [u8],
+) -> bool
     requires { ⌜ Held (now page) (length (now blocks)) (length (now text)) × (0 < pageOf (now page) .blocks) ⌝ }
     ensures { λ r. ⌜ laidIf TextRoom r (pageOf (now (page .exit))) (now (blocks .exit)) (now (text .exit)) ≡ appendOf (pageOf (now (page .entry))) (now (bytes .entry)) (now (blocks .entry)) (now (text .entry)) ⌝ }
     ensures { λ r. ⌜ Held (now (page .exit)) (length (now (blocks .entry))) (length (now (text .entry))) ⌝ }
@@ -121,7 +126,13 @@ pub fn append(page: &mut [usize; PAGE_WORDS], bytes: &[u8], blocks: &mut [u32], 
 }
 
 // Text of a style.
-pub fn add(page: &mut [usize; PAGE_WORDS], s: Style, bytes: &[u8], blocks: &mut [u32], text: &mut [u8]) -> Room
+pub fn add(
+    page: &mut [usize; PAGE_WORDS],
+    s: Style,
+    bytes: &[u8],
+    blocks: &mut [u32],
+    text: &mut [u8],
+) -> Room
     requires { ⌜ Held (now page) (length (now blocks)) (length (now text)) ⌝ }
     ensures { λ r. ⌜ roomed r (pageOf (now (page .exit))) (now (blocks .exit)) (now (text .exit)) ≡ addOf (pageOf (now (page .entry))) s (now (bytes .entry)) (now (blocks .entry)) (now (text .entry)) ⌝ }
     ensures { λ r. ⌜ Held (now (page .exit)) (length (now (blocks .entry))) (length (now (text .entry))) ⌝ }

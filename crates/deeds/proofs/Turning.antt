@@ -129,7 +129,7 @@ module _ (states : List (List ℕ)) (depth : ℕ) (all : length states ≡ 64) (
       let s : getD (getD states (depth - 1) []) field.skip 0 ≡ skipOf rows (held [] states depth) = rw (held-top [] states depth z) in
       let g : Gave = step (skipOf rows (held [] states depth)) run num in
       let q : roomed room (pageOf page′) b′ t′ ≡ laidAll (on (pageOf page) b t) (said rows (held [] states depth) g (Deed.unit num)) =
-          rw (said-values states depth z (pageOf page) b t g (Deed.unit num) refl, ← s) e in
+      rw (said-values states depth z (pageOf page) b t g (Deed.unit num) refl, ← s) e in
       let f′ : run′ ≡ g .run = rw s at f in
       record {
         does = rw (i, f′, ← took-keep states depth all z deep .does) (room-turns room (held [] states depth) states depth (pageOf page′) b′ t′ (g .run) q refl);
@@ -147,10 +147,10 @@ module _ (st : List (List ℕ)) (p : Page) (b t : List ℕ) (run : Run) (d : Dee
   unfolding turnOf
   turns-full why l all run′ h = record {
     does = let x : laidAll (on p b t) (said rows st (ended run) d) ≡ off (refusal why) =
-            ap (laidAll (on p b t)) (said-ended st run d)
-            ∙ sym (laid-append (on p b t) (said rows st (ended run) parts) (said rows st (ended before) d))
-            ∙ ap (λ (y : Laying). laidAll y (said rows st (ended before) d)) (sym l)
-            ∙ laid-off (refusal why) (said rows st (ended before) d) in
+        ap (laidAll (on p b t)) (said-ended st run d)
+        ∙ sym (laid-append (on p b t) (said rows st (ended run) parts) (said rows st (ended before) d))
+        ∙ ap (λ (y : Laying). laidAll y (said rows st (ended before) d)) (sym l)
+        ∙ laid-off (refusal why) (said rows st (ended before) d) in
         rw (← e, x) refl;
     deep = omega arith;
     all = all;
@@ -163,9 +163,9 @@ module _ (st : List (List ℕ)) (p : Page) (b t : List ℕ) (run : Run) (d : Dee
   unfolding turnOf
   turns-behind p′ b′ t′ l {run′ = run′} q k =
       let x : laidAll (on p′ b′ t′) (said rows st (ended before) d) ≡ laidAll (on p b t) (said rows st (ended run) d) =
-          ap (λ (y : Laying). laidAll y (said rows st (ended before) d)) l
-          ∙ laid-append (on p b t) (said rows st (ended run) parts) (said rows st (ended before) d)
-          ∙ ap (laidAll (on p b t)) (sym (said-ended st run d)) in
+      ap (λ (y : Laying). laidAll y (said rows st (ended before) d)) l
+      ∙ laid-append (on p b t) (said rows st (ended run) parts) (said rows st (ended before) d)
+      ∙ ap (laidAll (on p b t)) (sym (said-ended st run d)) in
       record {
         does = rw (q, ← e, ← x) (k .does);
         deep = k .deep;
@@ -197,9 +197,9 @@ pub turns-word : (rd : Reading) (src ws : List ℕ) (st : List (List ℕ)) (p : 
     → Turns r states run page b′ t′ w v (turnOf st p b t (ended before) (doing (meaning a))) → Turns r states run page b′ t′ w v (turnOf st p b t (ended before) (deedAt rd src ws h))
 turns-word rd src ws st p b t h z k a {num} e f {r} {states} {run} {page} {b′} {t′} {w} {v} g =
     let q : turnOf st p b t (ended before) (doing (meaning a)) ≡ turnOf st p b t (ended before) (deedAt rd src ws h) =
-        ap (λ (x : Effect). turnOf st p b t (ended before) (doing x)) (f ∙ ap (λ (x : Property). effect rd (getD ws 1 0) x) e)
-        ∙ word-turn rd st p b t (getD ws 1 0) (numberAt ws) (eqb (getD ws 1 0) 2) refl
-        ∙ ap (turnOf st p b t (ended before)) (kind-word rd src ws k ∙ at-token rd src ws h z) in
+    ap (λ (x : Effect). turnOf st p b t (ended before) (doing x)) (f ∙ ap (λ (x : Property). effect rd (getD ws 1 0) x) e)
+    ∙ word-turn rd st p b t (getD ws 1 0) (numberAt ws) (eqb (getD ws 1 0) 2) refl
+    ∙ ap (turnOf st p b t (ended before)) (kind-word rd src ws k ∙ at-token rd src ws h z) in
     rw (← q) g
 
 -- a `u` word

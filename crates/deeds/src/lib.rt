@@ -146,7 +146,10 @@ fn unit_token(
     if depth == 0 {
         return Moved::Refuses(Why::NoState);
     }
-    stays(unit(states, depth - 1, number, run, page, blocks, text), depth)
+    stays(
+        unit(states, depth - 1, number, run, page, blocks, text),
+        depth,
+    )
 }
 
 // Any token but a `u` word, where the walk passes over h tokens behind it and the run has ended.

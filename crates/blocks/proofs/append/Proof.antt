@@ -72,9 +72,9 @@ returns-2 c =
     let n = c .before .before .before .before .before .before .before .capacity .ensures in
     let room = c .before .before .before .before .before .before .if1 .left in (
       page-more (s .args .page .now) (s .pre .0 .words) (length (s .args .bytes .now)) _ _
-      (append-more p (s .args .bytes .now) (s .args .blocks .now) (s .args .text .now) n room (c .before .before .before .before .copy .ensures)),
+          (append-more p (s .args .bytes .now) (s .args .blocks .now) (s .args .text .now) n room (c .before .before .before .before .copy .ensures)),
       held-more (s .args .page .now) (s .pre .0 .words) (length (s .args .blocks .now)) (length (s .args .text .now)) (length (s .args .bytes .now))
-      (still-more p (length (s .args .blocks .now)) (length (s .args .text .now)) (c .before .before .before .before .before .before .before .capacity .result) (length (s .args .bytes .now)) (s .pre .0 .ready .page) n (rw n (s .pre .0 .ready .text)) room),
+          (still-more p (length (s .args .blocks .now)) (length (s .args .text .now)) (c .before .before .before .before .before .before .before .capacity .result) (length (s .args .bytes .now)) (s .pre .0 .ready .page) n (rw n (s .pre .0 .ready .text)) room),
     )
 
 pub append-spec : {M : Type 1} → statement M
