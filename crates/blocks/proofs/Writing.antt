@@ -4,13 +4,13 @@
 --     start-.., append-.., add-..   what the code answers is what laying says
 --     still-..                      and what it asks holds again
 -- Assumes nothing.
-use mathlib.Core.Path.{_≡_, refl, sym, _∙_}
+use mathlib.Core.Path.{_≡_, refl, sym, ap, _∙_}
 use mathlib.Core.List.{List, [], _∷_, _++_}
 use mathlib.Core.Bool.{Bool, true, false, cond, not, true≢false}
 use Prim.Native.Nat.{ℕ, zero, suc, _+_, _-_, _<_, _≤_}
 use native.Mathlib.Omega.{arith}
 use borrow.Author.Tests.{lt-ltb, le-ltb, ltb-true, ltb-false, not-true, not-false}
-use lib.ListN.{length}
+use lib.ListN.{length, getD, set, length-set}
 use lib.Seq.{sets}
 use lib.Dec.{ltb}
 use Rattle.answers.specs.declared.Refusal.{Refusal}
@@ -21,7 +21,7 @@ use Rattle.styles.specs.declared.Style.{Style}
 use Rattle.styles.specs.Styles.{styleWords, sameStyle}
 use Rattle.blocks.specs.declared.Page.{Page}
 use Rattle.blocks.specs.Pages.{blockWords, blockRecord, textCapacity, starts}
-use Rattle.blocks.specs.Laying.{Laying, on, off, styleIn, lastIn, opened, longer, measured, startOf, appendOf, addOf, ReadyBlocks, Ready}
+use Rattle.blocks.specs.Laying.{Laying, on, off, pageOf, styleIn, lastIn, opened, longer, measured, startOf, laidIf, appendOf, addOf, ReadyBlocks, Ready, pageWords, Held}
 
 pub cap-in : (n : ℕ) → n < 2147483647 → n ≡ textCapacity n
 cap-in n h = rw (lt-ltb n 2147483647 h)
@@ -88,10 +88,53 @@ still-more p w v m n h e k l =
     record { page = record { blocks = h .blocks; small = omega arith; from = omega (arith, h .from) }; text = rw (← e) (omega arith) }
 
 module _ (p : Page) (s : Style) (bytes b t : List ℕ) where
-  pub add-full : (r : Refusal) → off r ≡ startOf p s b t → off r ≡ addOf p s bytes b t
-  unfolding addOf
-  add-full r e = rw (← e)
+  module _ (q : Page) (b′ : List ℕ) (x : Bool) (e : laidIf BlockRoom x q b′ t ≡ startOf p s b t) where
+    pub add-full : not x ≡ true → off (refusal BlockRoom) ≡ addOf p s bytes b t
+    unfolding addOf
+    add-full h = rw (← e, not-true x h)
 
-  pub add-on : (q : Page) (b′ : List ℕ) {l : Laying} → on q b′ t ≡ startOf p s b t → l ≡ appendOf q bytes b′ t → l ≡ addOf p s bytes b t
-  unfolding addOf
-  add-on q b′ e f = f ∙ rw (← e)
+    add-begun : not x ≡ false → addOf p s bytes b t ≡ appendOf q bytes b′ t
+    unfolding addOf
+    add-begun h = rw (← e, not-false x h)
+
+    module _ (h : not x ≡ false) (q′ : Page) (b″ t″ : List ℕ) (y : Bool) (f : laidIf TextRoom y q′ b″ t″ ≡ appendOf q bytes b′ t) where
+      pub add-long : not y ≡ true → off (refusal TextRoom) ≡ addOf p s bytes b t
+      add-long k = rw (add-begun h, ← f, not-true y k)
+
+      pub add-on : not y ≡ false → on q′ b″ t″ ≡ addOf p s bytes b t
+      add-on k = rw (add-begun h, ← f, not-false y k)
+
+-- a page's words stored
+page-opened : (l : List ℕ) → length l ≡ pageWords → (a c : ℕ) → pageOf (set (set l 0 a) 2 c) ≡ record { blocks = a; text = getD l 1 0; from = c }
+page-opened [] e a c = absurd (omega arith)
+page-opened (x ∷ []) e a c = absurd (omega arith)
+page-opened (x ∷ y ∷ []) e a c = absurd (omega arith)
+page-opened (x ∷ y ∷ z ∷ []) e a c = refl
+page-opened (x ∷ y ∷ z ∷ w ∷ l) e a c = absurd (omega arith)
+
+page-longer : (l : List ℕ) → length l ≡ pageWords → (n : ℕ) → pageOf (set l 1 n) ≡ record { blocks = getD l 0 0; text = n; from = getD l 2 0 }
+page-longer [] e n = absurd (omega arith)
+page-longer (x ∷ []) e n = absurd (omega arith)
+page-longer (x ∷ y ∷ []) e n = absurd (omega arith)
+page-longer (x ∷ y ∷ z ∷ []) e n = refl
+page-longer (x ∷ y ∷ z ∷ w ∷ l) e n = absurd (omega arith)
+
+module _ (l : List ℕ) (three : length l ≡ pageWords) where
+  pub page-new : (b t : List ℕ) {z : Laying} → on (opened (pageOf l)) b t ≡ z → on (pageOf (set (set l 0 (getD l 0 0 + 1)) 2 (getD l 1 0))) b t ≡ z
+  page-new b t h = ap (λ (p : Page). on p b t) (page-opened l three (getD l 0 0 + 1) (getD l 1 0)) ∙ h
+
+  pub held-new : (w v : ℕ) → ReadyBlocks (pageOf l) w → getD l 0 0 < capacity blockWords w → getD l 1 0 ≤ textCapacity v
+      → Held (set (set l 0 (getD l 0 0 + 1)) 2 (getD l 1 0)) w v
+  held-new w v h k q = record {
+    words = length-set (set l 0 (getD l 0 0 + 1)) 2 (getD l 1 0) ∙ length-set l 0 (getD l 0 0 + 1) ∙ three;
+    ready = rw (page-opened l three (getD l 0 0 + 1) (getD l 1 0)) (still-new (pageOf l) w v h k q);
+  }
+
+  pub begun-new : 0 < getD (set (set l 0 (getD l 0 0 + 1)) 2 (getD l 1 0)) 0 0
+  begun-new = let e : getD (set (set l 0 (getD l 0 0 + 1)) 2 (getD l 1 0)) 0 0 ≡ getD l 0 0 + 1 = ap (λ (p : Page). p .blocks) (page-opened l three (getD l 0 0 + 1) (getD l 1 0)) in omega arith
+
+  pub page-more : (n : ℕ) (b t : List ℕ) {z : Laying} → on (longer (pageOf l) n) b t ≡ z → on (pageOf (set l 1 (getD l 1 0 + n))) b t ≡ z
+  page-more n b t h = ap (λ (p : Page). on p b t) (page-longer l three (getD l 1 0 + n)) ∙ h
+
+  pub held-more : (w v n : ℕ) → Ready (longer (pageOf l) n) w v → Held (set l 1 (getD l 1 0 + n)) w v
+  held-more w v n h = record { words = length-set l 1 (getD l 1 0 + n) ∙ three; ready = rw (page-longer l three (getD l 1 0 + n)) h }

@@ -1,12 +1,14 @@
 -- Pieces laid into lent rooms one after the other, as the code does it: a block's record is written when it starts, and its
 -- length grows with its text. Assumes nothing: these are definitions.
 use Prim.Native.Nat.{ℕ, zero, suc, _+_, _-_, _*_, _≤_, _<_}
+use mathlib.Core.Path.{_≡_}
 use mathlib.Core.List.{List}
-use mathlib.Core.Bool.{cond}
-use lib.ListN.{length, drop, set}
+use mathlib.Core.Bool.{Bool, true, false, cond}
+use lib.ListN.{length, getD, drop, set}
 use lib.Seq.{sets}
 use lib.Dec.{ltb}
 use Rattle.answers.specs.declared.Refusal.{Refusal}
+use Rattle.answers.specs.declared.Why.{Why}
 use Rattle.answers.specs.declared.Why.the-variants.{BlockRoom, TextRoom}
 use Rattle.answers.specs.Answers.{refusal}
 use Rattle.rooms.specs.Streams.{Stream, end, stop, _▸_}
@@ -16,6 +18,8 @@ use Rattle.styles.specs.Styles.{styleAt}
 use Rattle.blocks.specs.declared.Page.{Page}
 use Rattle.blocks.specs.declared.Laid.{Laid}
 use Rattle.blocks.specs.declared.Laid.the-variants.{On, Full}
+use Rattle.blocks.specs.declared.Room.{Room}
+use Rattle.blocks.specs.declared.Room.the-variants.{Fits, NoBlock, NoText}
 use Rattle.blocks.specs.Pages.{Piece, blockRecord, blockWords, textCapacity, Last, none, last, starts}
 
 -- a page with its two rooms, or a refusal
@@ -27,6 +31,24 @@ pub data Laying : Type 0 where
 abbrev pub told : Laid → List ℕ → List ℕ → Laying
 told (On p) b t = on p b t
 told (Full r) b t = off r
+
+-- a page in an array of words, as the code carries it
+abbrev pub pageWords : ℕ
+pageWords = 3
+
+abbrev pub pageOf : List ℕ → Page
+pageOf l = record { blocks = getD l 0 0; text = getD l 1 0; from = getD l 2 0 }
+
+-- what a step answers, with the page and the rooms that it leaves: it is done, or there is no room for it
+abbrev pub laidIf : Why → Bool → Page → List ℕ → List ℕ → Laying
+laidIf why true p b t = on p b t
+laidIf why false p b t = off (refusal why)
+
+-- and what two of them answer
+abbrev pub roomed : Room → Page → List ℕ → List ℕ → Laying
+roomed Fits p b t = on p b t
+roomed NoBlock p b t = off (refusal BlockRoom)
+roomed NoText p b t = off (refusal TextRoom)
 
 -- nothing is laid yet
 abbrev pub blank : Page
@@ -104,7 +126,7 @@ abbrev pub Still : Laid → ℕ → ℕ → Type 0
 Still (On p) w v = Ready p w v
 Still (Full r) w v = 0 ≤ v
 
--- there is a block
-abbrev pub Begun : Laid → Type 0
-Begun (On p) = 0 < p .blocks
-Begun (Full r) = 0 ≤ 0
+-- a page in its array, which fits its rooms
+pub record Held (l : List ℕ) (w v : ℕ) : Type 0 where
+  pub words : length l ≡ pageWords
+  pub ready : Ready (pageOf l) w v

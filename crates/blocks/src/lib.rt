@@ -13,20 +13,29 @@ use crate::copy::copy;
 use crate::record::put;
 use crate::record::style_in;
 use answers::Refusal;
-use answers::Why;
 use styles::Style;
 use styles::same_style;
 ghost use mathlib.Core.Path.{_≡_};
-ghost use mathlib.Core.Bool.{not};
+ghost use mathlib.Core.Bool.{true, not};
 ghost use mathlib.Core.List.{List};
 ghost use Prim.Native.Nat.{ℕ, _≤_, _<_};
 ghost use lib.ListN.{length};
 ghost use Rattle.rooms.specs.Rooms.{capacity as capacityOf};
 ghost use Rattle.blocks.specs.Pages.{blockWords, textCapacity, starts};
-ghost use Rattle.blocks.specs.Laying.{told, blank as blankPage, lastIn, startOf, appendOf, addOf, ReadyBlocks, Ready, Still, Begun};
+ghost use Rattle.answers.specs.declared.Why.the-variants.{BlockRoom, TextRoom};
+ghost use Rattle.blocks.specs.Laying.{pageWords, pageOf, lastIn, laidIf, roomed, startOf, appendOf, addOf, ReadyBlocks, Held};
 
 // How many words a block's record has.
 pub const BLOCK_WORDS: usize = 13;
+
+// A page in an array, as functions hand it on: its words by name.
+pub const BLOCKS: usize = 0;
+
+pub const TEXT: usize = 1;
+
+pub const FROM: usize = 2;
+
+pub const PAGE_WORDS: usize = 3;
 
 // `blocks` records and `text` bytes are written; the last block's text starts at `from`.
 pub struct Page {
@@ -40,17 +49,11 @@ pub enum Laid {
     Full(Refusal),
 }
 
-impl Page {
-    // Nothing is laid yet.
-    pub fn blank() -> Page
-        ensures { λ r. ⌜ r ≡ blankPage ⌝ }
-    {
-        Page {
-            blocks: 0,
-            text: 0,
-            from: 0,
-        }
-    }
+// Whether text found room, for a new block and for itself.
+pub enum Room {
+    Fits,
+    NoBlock,
+    NoText,
 }
 
 // Whether text of a style joins the last of n blocks.
@@ -65,27 +68,26 @@ fn joins(n: usize, s: Style, blocks: &[u32]) -> bool
     same_style(last, s)
 }
 
-// The block that text of a style goes to: the last one, or a new one, without text as yet.
-pub fn start(p: Page, s: Style, blocks: &mut [u32]) -> Laid
-    requires { ⌜ ReadyBlocks p (length (now blocks)) ⌝ }
-    ensures { λ r. ⌜ ((t : List ℕ) → told r (now (blocks .exit)) t ≡ startOf p s (now (blocks .entry)) t) ⌝ }
-    ensures { λ r. ⌜ ((v : ℕ) → p .text ≤ textCapacity v → Still r (length (now (blocks .entry))) v) ⌝ }
-    ensures { λ r. ⌜ Begun r ⌝ }
+// The block that text of a style goes to: the last one, or a new one, without text as yet; false if there is no room for it.
+pub fn start(page: &mut [usize; PAGE_WORDS], s: Style, blocks: &mut [u32]) -> bool
+    requires { ⌜ (length (now page) ≡ pageWords) × ReadyBlocks (pageOf (now page)) (length (now blocks)) ⌝ }
+    ensures { λ r. ⌜ ((t : List ℕ) → laidIf BlockRoom r (pageOf (now (page .exit))) (now (blocks .exit)) t ≡ startOf (pageOf (now (page .entry))) s (now (blocks .entry)) t) ⌝ }
+    ensures { λ r. ⌜ ((v : ℕ) → pageOf (now (page .entry)) .text ≤ textCapacity v → Held (now (page .exit)) (length (now (blocks .entry))) v) ⌝ }
+    ensures { λ r. ⌜ (r ≡ true → 0 < pageOf (now (page .exit)) .blocks) ⌝ }
 {
-    let n = p.blocks;
+    let n = page[BLOCKS];
     if joins(n, s, blocks) {
-        return Laid::On(p);
+        return true;
     }
     if n < blocks.len() / BLOCK_WORDS {
-        let place = p.text as u32;
+        let at = page[TEXT];
+        let place = at as u32;
         put(blocks, n, s, place, 0);
-        return Laid::On(Page {
-            blocks: n + 1,
-            text: p.text,
-            from: p.text,
-        });
+        page[BLOCKS] = n + 1;
+        page[FROM] = at;
+        return true;
     }
-    Laid::Full(Refusal::of(Why::BlockRoom))
+    false
 }
 
 // How many bytes of a text room count.
@@ -98,37 +100,48 @@ fn capacity(n: usize) -> usize
     2147483647
 }
 
-// Text behind the text, in the last block.
-pub fn append(p: Page, bytes: &[u8], blocks: &mut [u32], text: &mut [u8]) -> Laid
-    requires { ⌜ Ready p (length (now blocks)) (length (now text)) × (0 < p .blocks) ⌝ }
-    ensures { λ r. ⌜ told r (now (blocks .exit)) (now (text .exit)) ≡ appendOf p (now (bytes .entry)) (now (blocks .entry)) (now (text .entry)) ⌝ }
-    ensures { λ r. ⌜ Still r (length (now (blocks .entry))) (length (now (text .entry))) ⌝ }
+// Text behind the text, in the last block; false if there is no room for it.
+pub fn append(
+    page: &mut [usize; PAGE_WORDS],
+    bytes: &[u8],
+    blocks: &mut [u32],
+    text: &mut [u8],
+) -> bool
+    requires { ⌜ Held (now page) (length (now blocks)) (length (now text)) × (0 < pageOf (now page) .blocks) ⌝ }
+    ensures { λ r. ⌜ laidIf TextRoom r (pageOf (now (page .exit))) (now (blocks .exit)) (now (text .exit)) ≡ appendOf (pageOf (now (page .entry))) (now (bytes .entry)) (now (blocks .entry)) (now (text .entry)) ⌝ }
+    ensures { λ r. ⌜ Held (now (page .exit)) (length (now (blocks .entry))) (length (now (text .entry))) ⌝ }
 {
-    let at = p.text;
+    let at = page[TEXT];
     let n = bytes.len();
     if capacity(text.len()) - at < n {
-        return Laid::Full(Refusal::of(Why::TextRoom));
+        return false;
     }
     copy(bytes, text, at);
     let end = at + n;
-    let grown = (end - p.from) as u32;
-    blocks[p.blocks * BLOCK_WORDS - 1] = grown;
-    Laid::On(Page {
-        blocks: p.blocks,
-        text: end,
-        from: p.from,
-    })
+    let grown = (end - page[FROM]) as u32;
+    let last = page[BLOCKS] * BLOCK_WORDS - 1;
+    blocks[last] = grown;
+    page[TEXT] = end;
+    true
 }
 
 // Text of a style.
-pub fn add(p: Page, s: Style, bytes: &[u8], blocks: &mut [u32], text: &mut [u8]) -> Laid
-    requires { ⌜ Ready p (length (now blocks)) (length (now text)) ⌝ }
-    ensures { λ r. ⌜ told r (now (blocks .exit)) (now (text .exit)) ≡ addOf p s (now (bytes .entry)) (now (blocks .entry)) (now (text .entry)) ⌝ }
-    ensures { λ r. ⌜ Still r (length (now (blocks .entry))) (length (now (text .entry))) ⌝ }
+pub fn add(
+    page: &mut [usize; PAGE_WORDS],
+    s: Style,
+    bytes: &[u8],
+    blocks: &mut [u32],
+    text: &mut [u8],
+) -> Room
+    requires { ⌜ Held (now page) (length (now blocks)) (length (now text)) ⌝ }
+    ensures { λ r. ⌜ roomed r (pageOf (now (page .exit))) (now (blocks .exit)) (now (text .exit)) ≡ addOf (pageOf (now (page .entry))) s (now (bytes .entry)) (now (blocks .entry)) (now (text .entry)) ⌝ }
+    ensures { λ r. ⌜ Held (now (page .exit)) (length (now (blocks .entry))) (length (now (text .entry))) ⌝ }
 {
-    let begun = start(p, s, blocks);
-    match begun {
-        Laid::Full(refusal) => Laid::Full(refusal),
-        Laid::On(q) => append(q, bytes, blocks, text),
+    if !start(page, s, blocks) {
+        return Room::NoBlock;
     }
+    if !append(page, bytes, blocks, text) {
+        return Room::NoText;
+    }
+    Room::Fits
 }

@@ -1,5 +1,3 @@
--- Deeds: what a token does. Moves: what becomes of the states. Saying: what is laid. Turns: the loop over the tokens.
-pub mod Deeds
-pub mod Moves
-pub mod Saying
+-- Groups: what the walk passes over. Turns: the loop over the tokens.
+pub mod Groups
 pub mod Turns

@@ -1,3 +1,2 @@
--- Body: what the steps of the walk say. Turns: what the code answers for one token.
+-- Body: what the steps of the walk say.
 pub mod Body
-pub mod Turns

@@ -34,7 +34,8 @@ use Rattle.header.specs.Entering.{Tables}
 use Rattle.header.specs.Header.{tables}
 use Rattle.header.proofs.Tables.{tables-few-256}
 use Rattle.blocks.specs.Pages.{Piece, piece, blocksFrom, blocks, textOf, blockWords, textCapacity, Last, none, last, starts, roomy}
-use Rattle.body.specs.Body.{rows, deeds, body}
+use Rattle.runs.specs.Runs.{rows}
+use Rattle.body.specs.Body.{deeds, body}
 use Rattle.parser.specs.Parsing.{begun, Sizes, Letter, letterFrom, placed, bodied, headed, walked, FewIn}
 
 walk-few : (w : ℕ) (ts : List Shown) → length (walkFrom w ts) ≤ length ts

@@ -43,7 +43,9 @@ use Rattle.settings.specs.Effects as does
 use Rattle.machine.specs.Stack.{stackLimit, moved, stackOf}
 use Rattle.machine.specs.Machine.{Deed, opens, closes, sets, says, unit, refuses, parts, stops, ended, gave, textsOf, writtenAll}
 use Rattle.machine.specs.Machine.{_▸▸_, onward, settle, moveOf, skipOf, spoken, said, machine}
-use Rattle.body.specs.Body.{rows, doing, tokenDeed, deedOf, deeds, body}
+use Rattle.runs.specs.Runs.{rows}
+use Rattle.deeds.specs.Deeds.{doing, tokenDeed}
+use Rattle.body.specs.Body.{deedOf, deeds, body}
 use Rattle.roundtrips.specs.Trips.{Words}
 use Rattle.previews.proofs.Tokens.{All, Fine}
 use Rattle.previews.proofs.States.{Sound, SoundEffect, fresh-sound, all-sound, effect-sound, sound-range, sound-words}

@@ -28,7 +28,7 @@ use Rattle.settings.specs.Fields as field
 use Rattle.settings.specs.Effects.{Effect, sets, says, refuses, setting, fitted, flagOf, lined, spacing, ending}
 use Rattle.settings.specs.Effects.{painterWord, paragraphWord, characterWord, endingWord, effect}
 use Rattle.machine.specs.Machine.{settle}
-use Rattle.body.specs.Body.{rows}
+use Rattle.runs.specs.Runs.{rows}
 use Rattle.fields.specs.Fields.{inRange}
 use Rattle.roundtrips.specs.Trips.{Words}
 use Rattle.previews.proofs.Tokens.{All}

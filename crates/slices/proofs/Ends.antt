@@ -16,10 +16,12 @@ use Rattle.slices.specs.Eights.{packed, marked, isPlain}
 use Rattle.slices.proofs.Marking.{unmarked, some-marked, lead-plain, lead-special}
 use Rattle.slices.proofs.Slices.{lastByte, lastByte-at}
 
-pub end-none : (s : List ℕ) → length s ≡ 0 → 0 ≡ sliceLength s
-unfolding sliceLength
-end-none [] h = refl
-end-none (b ∷ s) h = absurd (omega arith)
+-- fewer than two bytes are one slice, or none
+pub end-short : (s : List ℕ) → length s < 2 → length s ≡ sliceLength s
+unfolding sliceLength upTo
+end-short [] h = refl
+end-short (b ∷ []) h = refl
+end-short (b ∷ c ∷ s) h = absurd (omega arith)
 
 -- a run without a special byte is of the slice
 upTo-plain : (k before : ℕ) (s : List ℕ) → any isSpecial (take k s) ≡ false → k ≤ length s → upTo before s ≡ k + upTo (lastByte before (take k s)) (drop k s)
@@ -80,11 +82,6 @@ module _ (s : List ℕ) (total : ℕ) where
   ends-last before i h e =
       let l : upTo before (drop i s) ≡ 0 = rw (drop-of-length-le s h) in
       omega arith
-
-pub ends-start : (s : List ℕ) → (length s ≡ 0 → ⊥) → Ends s (sliceLength s) (getD s 0 0) 1
-unfolding sliceLength
-ends-start [] h = absurd (h refl)
-ends-start (b ∷ s) h = omega arith
 
 -- i bytes of the first slice are passed
 module _ (s : List ℕ) (total : ℕ) where
@@ -153,3 +150,9 @@ module _ (s : List ℕ) (total : ℕ) where
   found-more {i} f e =
       let q : false ≡ startsSlice (getD s (i - 1) 0) (getD s i 0) = rw (f .special, e) in
       at-more false q (f .at) (f .within) refl
+
+-- a slice's first byte is passed unseen
+pub at-start : (s : List ℕ) → 0 < length s → At s (sliceLength s) 1
+unfolding sliceLength
+at-start [] h = absurd (omega arith)
+at-start (b ∷ s) h = record { some = omega arith; within = omega arith; ends = omega arith }

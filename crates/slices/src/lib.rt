@@ -30,28 +30,21 @@ fn end_from(s: &[u8], from: usize) -> usize
     i
 }
 
-// The length of the first slice of s; 0 if s is empty. Slices of one and two bytes are seen byte by byte; then eight bytes are
-// looked at as one number, and a special byte among them by itself: the byte before it tells whether it starts a slice. Nothing
-// is reset after `\\`: the second backslash is the byte before what follows, as in the crate.
+// The length of the first slice of s; 0 if s is empty. A slice of one byte is seen by itself; then eight bytes are looked at as
+// one number, and a special byte among them by itself: the byte before it tells whether it starts a slice. Nothing is reset
+// after `\\`: the second backslash is the byte before what follows, as in the crate.
 pub fn slice_end(s: &[u8]) -> usize
     ensures length { λ r. ⌜ r ≡ sliceLength (now (s .entry)) ⌝ }
     ensures within { λ r. ⌜ r ≤ length (now (s .entry)) ⌝ }
     ensures some { λ r. ⌜ (0 < length (now (s .entry)) → 0 < r) ⌝ }
 {
-    if s.len() == 0 {
-        return 0;
+    if s.len() < 2 {
+        return s.len();
     }
-    let mut i: usize = 1;
-    while i < 3 {
-        if s.len() <= i {
-            return i;
-        }
-        let before = s[i - 1];
-        if starts_slice(before, s[i]) {
-            return i;
-        }
-        i += 1;
+    if starts_slice(s[0], s[1]) {
+        return 1;
     }
+    let mut i: usize = 2;
     while 8 <= s.len() - i {
         let next = i + 8;
         let marks = marks_of(&s[i..next]);

@@ -12,8 +12,13 @@ use crate::entry::block_at;
 use answers::Refusal;
 use answers::Why;
 use blocks::BLOCK_WORDS;
+use blocks::BLOCKS;
+use blocks::FROM;
 use blocks::Laid;
+use blocks::PAGE_WORDS;
 use blocks::Page;
+use blocks::Room;
+use blocks::TEXT;
 use blocks::add;
 use rooms::clear_bytes_from;
 use rooms::clear_from;
@@ -47,7 +52,7 @@ fn lay_blocks(list: &[u8], k: usize, blocks: &mut [u32], text: &mut [u8]) -> Lai
 {
     let mut t = list;
     let mut n = k;
-    let mut page = Page::blank();
+    let mut page = [0usize; PAGE_WORDS];
     let mut begun = false;
     let mut before = Style::blank();
     while 0 < n {
@@ -58,14 +63,15 @@ fn lay_blocks(list: &[u8], k: usize, blocks: &mut [u32], text: &mut [u8]) -> Lai
             }
             Entry::Is(style, m, count) => {
                 let u = &t[m..];
-                let laid = add(page, style, &u[..count], blocks, text);
+                let laid = add(&mut page, style, &u[..count], blocks, text);
                 match laid {
-                    Laid::Full(refusal) => {
-                        return Laid::Full(refusal);
+                    Room::NoBlock => {
+                        return Laid::Full(Refusal::of(Why::BlockRoom));
                     }
-                    Laid::On(p) => {
-                        page = p;
+                    Room::NoText => {
+                        return Laid::Full(Refusal::of(Why::TextRoom));
                     }
+                    Room::Fits => {}
                 }
                 t = &u[count..];
                 n -= 1;
@@ -77,7 +83,11 @@ fn lay_blocks(list: &[u8], k: usize, blocks: &mut [u32], text: &mut [u8]) -> Lai
     if 0 < t.len() {
         return Laid::Full(Refusal::of(Why::StoredLong));
     }
-    Laid::On(page)
+    Laid::On(Page {
+        blocks: page[BLOCKS],
+        text: page[TEXT],
+        from: page[FROM],
+    })
 }
 
 // Lays a whole list onto a page.

@@ -5,7 +5,8 @@
 //   plain text
 //
 // Any other slice goes to `tokenize`, which calls itself on what follows a bracket or a line feed. No function here calls
-// itself, so the compiler lays all of it into the cutter's loop.
+// itself, so the compiler lays all of it into the cutter's loop. What it does not lay in, `tokenize` and `word`, gives its
+// answer in memory: that is taken apart and put together again, so that the other ways keep theirs in registers.
 use crate::is_mark;
 use crate::mark;
 use crate::plain;
@@ -106,7 +107,15 @@ fn quick_word(s: &[u8], place: usize, names: &Table, room: &mut [u32], n: usize)
     let e = letters_of(s);
     let k = e + lead_of(&s[e..], Class::Numeral);
     if !ends_at(s, k) {
-        return word(s, place, names, room, n);
+        let other = word(s, place, names, room, n);
+        match other {
+            Written::Refused(why) => {
+                return Written::Refused(why);
+            }
+            Written::Done(m) => {
+                return Written::Done(m);
+            }
+        }
     }
     let first = numbered(&s[..k], e, place, names, room, n);
     match first {
@@ -126,7 +135,11 @@ fn escaped(s: &[u8], place: usize, names: &Table, room: &mut [u32], n: usize) ->
             return quick_word(&s[1..], place, names, room, n);
         }
     }
-    tokenize(s, place, names, room, n)
+    let rest = tokenize(s, place, names, room, n);
+    match rest {
+        Written::Refused(why) => Written::Refused(why),
+        Written::Done(m) => Written::Done(m),
+    }
 }
 
 // A slice that begins with a bracket or a line feed. What follows is cut again: by `tokenize`, which calls itself on it.
@@ -138,7 +151,11 @@ fn marked(s: &[u8], place: usize, names: &Table, room: &mut [u32], n: usize) -> 
     if s.len() == 1 {
         return Written::Done(mark(s[0], room, n));
     }
-    tokenize(s, place, names, room, n)
+    let rest = tokenize(s, place, names, room, n);
+    match rest {
+        Written::Refused(why) => Written::Refused(why),
+        Written::Done(m) => Written::Done(m),
+    }
 }
 
 // The tokens of a slice that stands at `place`.

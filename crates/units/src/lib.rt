@@ -3,7 +3,6 @@
 //
 //   Run    what has come of a run so far
 //   step   one token: it is skipped, waits for the other half of its pair, or gives a value
-//   waits  whether a surrogate is left without its other half
 //
 // Every public function is total. A surrogate that is no part of a pair gives U+FFFD.
 use tokens::Property;
@@ -24,26 +23,6 @@ pub struct Gave {
     pub lost: bool,
     pub some: bool,
     pub value: u32,
-}
-
-impl Run {
-    // Before the first token.
-    pub fn before() -> Run
-        ensures { λ r. ⌜ r ≡ beforeOf ⌝ }
-    {
-        Run {
-            begun: false,
-            skipped: 0,
-            high: 0,
-        }
-    }
-
-    // Whether a surrogate waits: at the end of a run it is lost.
-    pub fn waits(self) -> bool
-        ensures { λ r. ⌜ r ≡ ltb 0 (self .high) ⌝ }
-    {
-        0 < self.high
-    }
 }
 
 fn is_high(u: u32) -> bool

@@ -33,7 +33,9 @@ use Rattle.header.specs.Header.{noTables, nextStep, tablesFrom, tables}
 use Rattle.readings.specs.declared.Reading.{Reading}
 use Rattle.blocks.specs.Pages.{Piece, blocks, textOf, blockWords, textCapacity, none, roomy}
 use Rattle.machine.specs.Machine.{start}
-use Rattle.body.specs.Body.{rows, tokenDeed, deedOf, deeds, body}
+use Rattle.runs.specs.Runs.{rows}
+use Rattle.deeds.specs.Deeds.{tokenDeed}
+use Rattle.body.specs.Body.{deedOf, deeds, body}
 use Rattle.parser.specs.Parsing.{begun, Sizes, Letter, letterFrom, placed, bodied, headed, walked}
 use Rattle.veil.specs.Said.{Named, Said, refuses, says}
 use Rattle.veil.proofs.Bare.{bare, bareAll, bareStep, bareSteps}

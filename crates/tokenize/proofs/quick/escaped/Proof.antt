@@ -1,4 +1,5 @@
 -- `escaped` meets its contract. Assumes nothing.
+use mathlib.Core.Path.{sym}
 use borrow.Author.Needs.{needs}
 use Rattle.rooms.proofs.Rooms.{wrote-as}
 use Rattle.tokens.specs.Tokens.{shownLayout}
@@ -38,11 +39,23 @@ returns c = wrote-as shownLayout (word-slice _ (c .before .before .before .befor
 tokenize-requires : tie.Need-tokenize-requires
 tokenize-requires c κs = search needs
 
+enum-known-rest : tie.Need-enum-known-rest
+enum-known-rest c = search needs
+
+enum-known-rest-2 : tie.Need-enum-known-rest-2
+enum-known-rest-2 c = search needs
+
 same-length-2 : tie.Need-same-length-2
 same-length-2 c = search needs
 
 returns-2 : tie.Need-returns-2
-returns-2 c = search needs
+returns-2 c = rw (sym (c .before .rest .given .1)) (c .before .before .before .before .before .tokenize .ensures)
+
+same-length-3 : tie.Need-same-length-3
+same-length-3 c = search needs
+
+returns-3 : tie.Need-returns-3
+returns-3 c = rw (sym (c .before .rest2 .given .1)) (c .before .before .before .before .before .tokenize .ensures)
 
 pub escaped-spec : {M : Type 1} → statement M
 escaped-spec =
@@ -57,5 +70,9 @@ escaped-spec =
     same-length
     returns
     tokenize-requires
+    enum-known-rest
+    enum-known-rest-2
     same-length-2
-    returns-2)
+    returns-2
+    same-length-3
+    returns-3)

@@ -1,5 +1,5 @@
 -- `marked` meets its contract: the mark's token, and then what follows it. Plain text is what cutting it again gives. Assumes nothing.
-use mathlib.Core.Path.{refl}
+use mathlib.Core.Path.{refl, sym}
 use native.Mathlib.Omega.{arith}
 use lib.ListN.{length-take, length-drop}
 use borrow.Author.Needs.{needs}
@@ -31,11 +31,23 @@ returns c = wrote-then shownLayout name-apart _ (tokens-alone _ _ (λ z. omega (
 tokenize-requires : tie.Need-tokenize-requires
 tokenize-requires c κs = search needs
 
+enum-known-rest : tie.Need-enum-known-rest
+enum-known-rest c = search needs
+
+enum-known-rest-2 : tie.Need-enum-known-rest-2
+enum-known-rest-2 c = search needs
+
 same-length-2 : tie.Need-same-length-2
 same-length-2 c = search needs
 
 returns-2 : tie.Need-returns-2
-returns-2 c = search needs
+returns-2 c = rw (sym (c .before .rest .given .1)) (c .before .before .before .before .before .tokenize .ensures)
+
+same-length-3 : tie.Need-same-length-3
+same-length-3 c = search needs
+
+returns-3 : tie.Need-returns-3
+returns-3 c = rw (sym (c .before .rest2 .given .1)) (c .before .before .before .before .before .tokenize .ensures)
 
 pub marked-spec : {M : Type 1} → statement M
 marked-spec =
@@ -46,5 +58,9 @@ marked-spec =
     same-length
     returns
     tokenize-requires
+    enum-known-rest
+    enum-known-rest-2
     same-length-2
-    returns-2)
+    returns-2
+    same-length-3
+    returns-3)

@@ -1,4 +1,5 @@
 -- `quick_word` meets its contract: the shape is that of the definition, or `tokenize` finds it. Assumes nothing.
+use mathlib.Core.Path.{sym}
 use native.Mathlib.Omega.{arith}
 use lib.ListN.{length-take, length-drop}
 use borrow.Author.Needs.{needs}
@@ -42,11 +43,23 @@ ends-at-requires c κs = search needs
 word-requires : tie.Need-word-requires
 word-requires c κs = search needs
 
+enum-known-other : tie.Need-enum-known-other
+enum-known-other c = search needs
+
 same-length : tie.Need-same-length
 same-length c = search needs
 
 returns : tie.Need-returns
-returns c = search needs
+returns c = rw (sym (c .before .other .given .1)) (c .before .before .before .before .before .word .ensures)
+
+enum-known-other-2 : tie.Need-enum-known-other-2
+enum-known-other-2 c = search needs
+
+same-length-2 : tie.Need-same-length-2
+same-length-2 c = search needs
+
+returns-2 : tie.Need-returns-2
+returns-2 c = rw (sym (c .before .other2 .given .1)) (c .before .before .before .before .before .word .ensures)
 
 slice-aggregate-numbered : tie.Need-slice-aggregate-numbered
 slice-aggregate-numbered c = let h = simp (length-take, length-drop) at (c .before .before .before .lead-of .ensures .1) in simp length-take (omega (arith, h, c .before .before .before .before .before .letters-of .ensures))
@@ -68,19 +81,19 @@ behind-requires c κs =
     let b = named-next _ _ (c .before .before .before .before .before .before .numbered .ensures) (c .before .before .first2 .given .1) in
     (c .before .before .before .before .before .before .before .before .before .before .before .before .before .before .before .before .pre .0, omega (arith, b, c .before .before .before .before .before .before .before .before .before .before .before .before .before .before .before .before .pre), omega (arith, h, c .before .before .before .before .before .before .before .before .before .before .before .before .before .letters-of .ensures))
 
-same-length-2 : tie.Need-same-length-2
-same-length-2 c = search needs
-
-returns-2 : tie.Need-returns-2
-returns-2 c =
-    let h = simp (length-take, length-drop) at (c .before .before .before .before .before .before .before .before .before .before .lead-of .ensures .1) in
-    wrote-stops shownLayout name-apart _ (word-shape _ _ _ (c .before .before .before .before .before .before .before .before .before .before .before .before .letters-of .ensures .0) (c .before .before .before .before .before .before .before .before .before .before .lead-of .ensures .0) _ (c .before .before .before .before .before .before .before .before .before .ends-at .ensures) (c .before .before .before .before .before .before .before .before .if1 .left) _ (omega (arith, h, c .before .before .before .before .before .before .before .before .before .before .before .before .letters-of .ensures))) (c .before .before .before .before .before .numbered .ensures) (c .before .first .given .1)
-
 same-length-3 : tie.Need-same-length-3
 same-length-3 c = search needs
 
 returns-3 : tie.Need-returns-3
 returns-3 c =
+    let h = simp (length-take, length-drop) at (c .before .before .before .before .before .before .before .before .before .before .lead-of .ensures .1) in
+    wrote-stops shownLayout name-apart _ (word-shape _ _ _ (c .before .before .before .before .before .before .before .before .before .before .before .before .letters-of .ensures .0) (c .before .before .before .before .before .before .before .before .before .before .lead-of .ensures .0) _ (c .before .before .before .before .before .before .before .before .before .ends-at .ensures) (c .before .before .before .before .before .before .before .before .if1 .left) _ (omega (arith, h, c .before .before .before .before .before .before .before .before .before .before .before .before .letters-of .ensures))) (c .before .before .before .before .before .numbered .ensures) (c .before .first .given .1)
+
+same-length-4 : tie.Need-same-length-4
+same-length-4 c = search needs
+
+returns-4 : tie.Need-returns-4
+returns-4 c =
     let h = simp (length-take, length-drop) at (c .before .before .before .before .before .before .before .before .before .before .before .before .before .before .lead-of .ensures .1) in
     wrote-then shownLayout name-apart _ (word-shape _ _ _ (c .before .before .before .before .before .before .before .before .before .before .before .before .before .before .before .before .letters-of .ensures .0) (c .before .before .before .before .before .before .before .before .before .before .before .before .before .before .lead-of .ensures .0) _ (c .before .before .before .before .before .before .before .before .before .before .before .before .before .ends-at .ensures) (c .before .before .before .before .before .before .before .before .before .before .before .before .if1 .left) _ (omega (arith, h, c .before .before .before .before .before .before .before .before .before .before .before .before .before .before .before .before .letters-of .ensures))) (c .before .before .before .before .before .before .before .before .before .numbered .ensures) (c .before .before .before .before .before .first2 .given .1) (c .before .before .behind .ensures)
 
@@ -96,14 +109,18 @@ quick-word-spec =
     add-k
     ends-at-requires
     word-requires
+    enum-known-other
     same-length
     returns
+    enum-known-other-2
+    same-length-2
+    returns-2
     slice-aggregate-numbered
     numbered-requires
     enum-known-first
     enum-known-first-2
     behind-requires
-    same-length-2
-    returns-2
     same-length-3
-    returns-3)
+    returns-3
+    same-length-4
+    returns-4)
