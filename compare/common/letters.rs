@@ -64,16 +64,21 @@ pub fn braced(inside: &[u8]) -> Vec<u8> {
 /// Each byte below 128 in each place of each telling letter, put in and put over.
 pub fn every_byte_everywhere(sink: &mut Sink) {
     for letter in TELLING {
-        for place in 0..=letter.len() {
-            for byte in 0..128 {
-                let mut put = letter.to_vec();
-                put.insert(place, byte);
+        every_byte_in(letter, sink);
+    }
+}
+
+/// The same in any bytes.
+fn every_byte_in(bytes: &[u8], sink: &mut Sink) {
+    for place in 0..=bytes.len() {
+        for byte in 0..128 {
+            let mut put = bytes.to_vec();
+            put.insert(place, byte);
+            sink(&put);
+            if place < bytes.len() {
+                put = bytes.to_vec();
+                put[place] = byte;
                 sink(&put);
-                if place < letter.len() {
-                    put = letter.to_vec();
-                    put[place] = byte;
-                    sink(&put);
-                }
             }
         }
     }
@@ -109,6 +114,24 @@ pub fn names_and_near_misses(sink: &mut Sink) {
     }
     for (one, two) in NAMES.iter().flat_map(|one| NAMES.iter().map(move |two| (one, two))) {
         named(&[one.as_bytes(), two.as_bytes()].concat());
+    }
+}
+
+/// Each name, each with a byte less, and with each byte below 128 more or other in each place:
+/// without a number and with one of either sign.
+pub fn names_but_a_byte(sink: &mut Sink) {
+    let mut numbered = |name: &[u8]| {
+        for number in ["", "7", "-7"] {
+            sink(&[b"{\\", name, number.as_bytes(), b"}"].concat());
+        }
+    };
+    for name in NAMES {
+        let name = name.as_bytes();
+        numbered(name);
+        for place in 0..name.len() {
+            numbered(&[&name[..place], &name[place + 1..]].concat());
+        }
+        every_byte_in(name, &mut numbered);
     }
 }
 

@@ -30,9 +30,10 @@ pub fn run(plan: &Plan) -> bool {
 
 fn listed(judge: &mut Judge, depth: usize) {
     type Family = fn(&mut letters::Sink);
-    const FAMILIES: [(&str, Family); 5] = [
+    const FAMILIES: [(&str, Family); 6] = [
         ("each byte in each place", letters::every_byte_everywhere),
         ("names and near misses", letters::names_and_near_misses),
+        ("names but a byte", letters::names_but_a_byte),
         ("hex pairs", letters::every_hex_pair),
         ("numbers", letters::numbers),
         ("long letters", letters::long),

@@ -1,9 +1,9 @@
 -- The names of control words (01, Cutting). Assumes nothing: these are definitions.
 use Prim.Native.Nat.{ℕ, zero, suc, _+_}
-use mathlib.Core.List.{List, [], _∷_, _++_}
+use mathlib.Core.List.{List, [], _∷_, _++_, map, flatten}
 use mathlib.Core.Bool.{Bool, true, false, cond}
 use lib.Dec.{eqb}
-use lib.ListN.{length, getD, take}
+use lib.ListN.{length, getD}
 use Rattle.bytes.specs.Texts.{bytesOf}
 
 -- "The 49 names, in this order, are one table"
@@ -79,25 +79,54 @@ wordNumber w = placeIn names w
 unfoldable pub nameOf : ℕ → List ℕ
 nameOf k = getD names k []
 
--- how many names stand before the first that starts with a byte
+-- The code's table: four rows of bytes, one behind the other.
+
+-- "Hold the 49 names as one run of bytes" (02, A3)
+unfoldable pub run : List ℕ
+run = flatten names
+
+-- "with the place where each ends": b, where the first name begins, and then where each ends, which is where the next begins
+unfoldable pub boundsFrom : ℕ → List (List ℕ) → List ℕ
+boundsFrom b [] = b ∷ []
+boundsFrom b (n ∷ ns) = b ∷ boundsFrom (b + length n) ns
+
+-- The names in the order of search. A word is compared only with names that have its first byte, so what counts is the order
+-- of these: the ones that are met most come first.
+abbrev pub order : List (List ℕ)
+order =
+    bytesOf "ansi"
+    ∷ bytesOf "b" ∷ bytesOf "blue" ∷ bytesOf "bullet"
+    ∷ bytesOf "cf" ∷ bytesOf "colortbl"
+    ∷ bytesOf "emdash" ∷ bytesOf "endash"
+    ∷ bytesOf "f" ∷ bytesOf "fs" ∷ bytesOf "fi" ∷ bytesOf "fcharset" ∷ bytesOf "fonttbl" ∷ bytesOf "filetbl"
+    ∷ bytesOf "green"
+    ∷ bytesOf "i"
+    ∷ bytesOf "li" ∷ bytesOf "line" ∷ bytesOf "lquote" ∷ bytesOf "ldblquote"
+    ∷ bytesOf "par" ∷ bytesOf "pard" ∷ bytesOf "plain" ∷ bytesOf "pardeftab"
+    ∷ bytesOf "ql" ∷ bytesOf "qr" ∷ bytesOf "qj" ∷ bytesOf "qc"
+    ∷ bytesOf "rtf" ∷ bytesOf "red" ∷ bytesOf "ri" ∷ bytesOf "rquote" ∷ bytesOf "rdblquote"
+    ∷ bytesOf "s" ∷ bytesOf "sb" ∷ bytesOf "sa" ∷ bytesOf "sl" ∷ bytesOf "slmul"
+    ∷ bytesOf "super" ∷ bytesOf "sub" ∷ bytesOf "strike" ∷ bytesOf "scaps" ∷ bytesOf "stylesheet" ∷ bytesOf "sectd"
+    ∷ bytesOf "tab"
+    ∷ bytesOf "u" ∷ bytesOf "ul" ∷ bytesOf "uc" ∷ bytesOf "ulnone" ∷ []
+
+-- the number of the first in a list of names that starts with a byte, 49 if none does
 unfoldable pub firstWith : ℕ → List (List ℕ) → ℕ
-firstWith b [] = zero
-firstWith b (n ∷ ns) = cond (eqb (getD n 0 0) b) zero (suc (firstWith b ns))
+firstWith b [] = 49
+firstWith b (n ∷ ns) = cond (eqb (getD n 0 0) b) (wordNumber n) (firstWith b ns)
 
--- the row of a name in the code's table, where k is its number and ns are the names behind it: its length, the number of
--- the next name with the same first byte, then its bytes, with dots up to ten
-unfoldable pub row : ℕ → List ℕ → List (List ℕ) → List ℕ
-row k n ns = length n ∷ (suc k + firstWith (getD n 0 0) ns) ∷ take 10 (n ++ bytesOf "..........")
+-- what stands behind a name in a list of names
+unfoldable pub behind : List ℕ → List (List ℕ) → List (List ℕ)
+behind w [] = []
+behind w (n ∷ ns) = cond (sameBytes w n) ns (behind w ns)
 
-unfoldable pub rowsFrom : ℕ → List (List ℕ) → List ℕ
-rowsFrom k [] = []
-rowsFrom k (n ∷ ns) = row k n ns ++ rowsFrom (suc k) ns
+-- for each name the number of the next one with its first byte, 49 if there is none
+unfoldable pub links : List ℕ
+links = map (λ (n : List ℕ). firstWith (getD n 0 0) (behind n order)) names
 
--- for f bytes from b on the number of the first name that starts with the byte
-unfoldable pub headsFrom : ℕ → ℕ → List ℕ
-headsFrom b zero = []
-headsFrom b (suc f) = firstWith b names ∷ headsFrom (suc b) f
+-- for each byte from a to z the number of the first name that starts with it, 49 if there is none
+unfoldable pub heads : List ℕ
+heads = map (λ (b : ℕ). firstWith b order) (bytesOf "abcdefghijklmnopqrstuvwxyz")
 
--- the code's table: the rows, and the heads of the letters a to z
 unfoldable pub rows : List ℕ
-rows = rowsFrom 0 names ++ headsFrom 97 26
+rows = run ++ boundsFrom 0 names ++ links ++ heads
