@@ -7,9 +7,12 @@ use crate::read::{Row, CRATE, EXTRACTORS, NEEDED};
 use crate::stored;
 use crate::table::{figure, Table};
 
-/// How many times the crate's speed.
+/// How many times the crate's speed: ordinary mail in rooms of just enough, and in the extractor's.
+const ENOUGH: f64 = 5.5;
 const ORDINARY: f64 = 5.0;
 const WORST: f64 = 300.0;
+/// How many times the codec's speed.
+const CHECK: f64 = 1.1;
 /// How many times as long a byte may take in a long letter.
 const GROWTH: f64 = 1.3;
 
@@ -28,6 +31,8 @@ impl Targets {
             let of_kind = |row: &&Row| row.letter.kind == kind && row.letter.size == size;
             rows.iter().find(of_kind).map(|row| (row.times.times(side, CRATE), kind))
         };
+        let what = format!("mail of 2 KB, rooms just enough: at least {ENOUGH} times the crate");
+        self.at_least(what, ENOUGH, times(MAIL, Size::Short, NEEDED));
         let what = format!("mail of 2 KB, extractor's rooms: at least {ORDINARY} times the crate");
         self.at_least(what, ORDINARY, times(MAIL, Size::Short, EXTRACTORS));
         let what = format!("60,000 bytes of line breaks: at least {WORST} times the crate");
@@ -42,7 +47,8 @@ impl Targets {
 
     pub fn of_stored(&mut self, rows: &[stored::Row]) {
         let all = rows.iter().map(|row| (row.ours(), row.name));
-        self.at_least("the check of stored lists: at least the codec's speed".into(), 1.0, all);
+        let what = format!("the check of stored lists: at least {CHECK} times the codec's speed");
+        self.at_least(what, CHECK, all);
     }
 
     pub fn of_processes(&mut self, processes: &Processes) {
