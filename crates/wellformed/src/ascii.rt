@@ -1,6 +1,6 @@
-// How far ASCII goes on: text is passed over 32 bytes at once, then eight, and byte by byte where fewer are left.
+// How far ASCII goes on: text is passed over 64 bytes at once, then eight, and byte by byte where fewer are left.
 //
-//   ascii_blocks   behind whole blocks of 32 bytes
+//   ascii_blocks   behind whole blocks of 64 bytes
 //   ascii_eights   behind eight bytes at once; where one of them is above 127, up to it
 //
 // Both say only that what they pass over is UTF-8 by itself.
@@ -12,7 +12,7 @@ ghost use lib.ListN.{length};
 ghost use Rattle.wellformed.specs.Ascii.{packed, highs, Passed};
 
 // How many bytes a block has that is looked at as a whole.
-const BLOCK: usize = 32;
+const BLOCK: usize = 64;
 
 // Bytes as one number, the first one lowest. The compiler makes one load of it.
 fn word_of(s: &[u8]) -> u64

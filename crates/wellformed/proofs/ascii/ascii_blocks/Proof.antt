@@ -47,8 +47,8 @@ loop-again c =
     let at-high = c .before in
     let at-loop = at-high .before .before .before in
     let start = at-loop .before .before in
-    passed-more _ (at-loop .loop .inv) 32 (omega arith)
-    (as-part (start .args .s .now) (at-loop .loop .at) 32 (sym (at-high .has-high .ensures) ∙ c .if1 .left))
+    passed-more _ (at-loop .loop .inv) 64 (omega arith)
+    (as-part (start .args .s .now) (at-loop .loop .at) 64 (sym (at-high .has-high .ensures) ∙ c .if1 .left))
 
 returns-2 : tie.Need-returns-2 Inv-loop μ-loop
 returns-2 c = c .before .loop .inv
