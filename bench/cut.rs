@@ -3,9 +3,9 @@
 use crate::clock::{time, Times};
 use crate::letters::{self, Letter};
 use crate::table::{count, figure, Table};
-use common::cut::{Cut, RECORD_WORDS};
+use common::cut::{are_told, Cut};
 use common::oracle::wrapping;
-use model::{EXTRACTOR, TOKENS};
+use model::{EXTRACTOR, TOKENS, TOKEN_WORDS};
 use std::hint::black_box;
 
 const CRATE: usize = 0;
@@ -45,14 +45,15 @@ pub fn run(rounds: usize) -> bool {
 impl Row {
     /// None, and a line that says so, if the sides differ.
     fn new(letter: Letter) -> Option<Row> {
-        let Cut::Tokens(records) = wrapping::cut(letter.text()) else {
+        let Cut::Tokens(told) = wrapping::cut(letter.text()) else {
             panic!("the crate refuses {}", letter.kind);
         };
-        let tokens = records.len();
-        let mut needed = vec![0; tokens * RECORD_WORDS];
-        let wide = (tokens <= EXTRACTOR[TOKENS]).then(|| vec![0; EXTRACTOR[TOKENS] * RECORD_WORDS]);
+        let tokens = told.len();
+        let mut needed = vec![0; tokens * TOKEN_WORDS];
+        let wide = (tokens <= EXTRACTOR[TOKENS]).then(|| vec![0; EXTRACTOR[TOKENS] * TOKEN_WORDS]);
         let answer = library::cut(&letter.bytes, &mut needed);
-        if answer != (0, tokens as u32) || needed != records.as_flattened() {
+        let (records, _) = needed.as_chunks::<TOKEN_WORDS>();
+        if answer != [0, 0, tokens as u32] || !are_told(&told, records) {
             eprintln!("bench: DIFFERENCE: {} of {} bytes", letter.kind, letter.bytes.len());
             return None;
         }

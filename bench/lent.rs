@@ -1,8 +1,9 @@
 //! Rooms that are lent again and again, and what our reader leaves in them.
 
+use common::cut::are_told;
 use common::whole::Document;
 use library::Slices;
-use model::{TEXT, WIDTHS};
+use model::{Numbers, TEXT, TOKEN_WORDS, WIDTHS};
 
 /// Sizes in records, and in bytes of text.
 pub type Sizes = [usize; 5];
@@ -18,17 +19,17 @@ impl Lent {
         Lent { words, text: vec![0; sizes[TEXT]] }
     }
 
-    /// Our plain reading: refusal number and counts.
-    pub fn read(&mut self, letter: &[u8]) -> [u32; 6] {
+    /// Our plain reading.
+    pub fn read(&mut self, letter: &[u8]) -> Numbers {
         let [tokens, fonts, colours, blocks] = &mut self.words;
         let words = [tokens, fonts, colours, blocks].map(Vec::as_mut_slice);
         library::read_plain(letter, Slices { words, text: &mut self.text })
     }
 
-    /// Whether our reading of the letter is the crate's, word by word.
+    /// Whether our reading of the letter is the crate's, word by word: all that the crate tells.
     pub fn reads_as(&mut self, letter: &[u8], document: &Document) -> bool {
         let numbers = self.read(letter).map(|number| number as usize);
-        let [0, counts @ ..] = numbers else {
+        let [0, 0, counts @ ..] = numbers else {
             return false;
         };
         let [tokens, fonts, colours, blocks] = self.words.each_ref().map(Vec::as_slice);
@@ -36,7 +37,7 @@ impl Lent {
             (*key, letter[*place as usize..][..*length as usize].to_vec())
         });
         counts == needed(document)
-            && tokens.as_chunks().0.starts_with(&document.tokens)
+            && are_told(&document.tokens, &tokens.as_chunks::<TOKEN_WORDS>().0[..counts[0]])
             && names.eq(document.fonts.iter().cloned())
             && colours.starts_with(&document.colours)
             && blocks.as_chunks().0.starts_with(&document.blocks)

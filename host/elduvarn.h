@@ -8,7 +8,7 @@
  * elements; a room overlaps no other slice of its call. That is all a host has to keep to: lengths
  * and contents are free. No memory is allocated, nothing is kept behind a call.
  *
- * A room is lent to be written. It holds whole records only: of 20 words for tokens, 18 count. On
+ * A room is lent to be written. It holds whole records only: of 20 words for tokens, 16 count. On
  * success the records and bytes that the counts tell stand at its start, and all behind them is
  * zero. On a refusal all counts are 0 and all rooms are zero. What was in a room is never read. */
 
@@ -56,17 +56,26 @@ enum elduvarn_refusal {
     ELDUVARN_OUTPUT_ROOM = 25        /* the list does not fit its room */
 };
 
+/* Where a letter is refused. 3 to 6 and 9 to 16 carry the place of the slice; the others 0, and so
+ * does success. It is the slice that is refused, or that the refused token was cut from; for 10,
+ * that of the table's word. A place counts the source's bytes from 0, white space in front too.
+ *
+ * A slice starts where the letter does, and at each {, }, \ and line feed that has no \ before it.
+ * So {\f-1} is refused by 12 at 1; and since the text behind a bracket belongs to the bracket's
+ * slice, {}}b} is refused by 14 at 2. */
+
 /* Words of a record.
  *
  * Token: kind (0 text, 1 open, 2 close, 3 line break, 4 ignorable, 5 word), word number, 1 if a
- * number is present, that number modulo 2^32, source place, length.
+ * number is present, that number modulo 2^32, source place and length (of a text or an unknown
+ * word), source place and length of the slice that the token was cut from.
  * Font: key, source place and length of the name. Colour: red * 65536 + green * 256 + blue.
  * Block, each word a signed one modulo 2^32: colour, font, size, flags (1 bold, 2 italic,
  * 4 underline, 8 super, 16 sub, 32 small capitals, 64 strike), alignment (0 left, 1 right,
  * 2 centre, 3 justified), before, after, line kind (0 automatic, 1 value), line value, multiplier,
  * tab, text place, text length. */
 enum {
-    ELDUVARN_TOKEN_WORDS = 6,
+    ELDUVARN_TOKEN_WORDS = 8,
     ELDUVARN_FONT_WORDS = 3,
     ELDUVARN_COLOUR_WORDS = 1,
     ELDUVARN_BLOCK_WORDS = 13
@@ -76,7 +85,7 @@ enum {
 enum { ELDUVARN_MOST_SOURCE = 65536, ELDUVARN_MOST_FONTS = 256, ELDUVARN_MOST_COLOURS = 256 };
 
 struct elduvarn_cut_answer {
-    uint32_t refusal, tokens;
+    uint32_t refusal, place, tokens;
 };
 
 /* Cuts a letter into tokens. Refusals 1 to 7. */
@@ -84,7 +93,7 @@ struct elduvarn_cut_answer elduvarn_cut(const uint8_t *source, size_t source_len
                                         size_t tokens_len);
 
 struct elduvarn_read_answer {
-    uint32_t refusal, tokens, fonts, colours, blocks, text;
+    uint32_t refusal, place, tokens, fonts, colours, blocks, text;
 };
 
 /* Reads a letter: tokens, font and colour table, blocks, and their text in UTF-8. Refusals 1 to 20.
@@ -150,6 +159,13 @@ static inline const char *elduvarn_refusal_name(uint32_t refusal)
         "StoredField",    "OutputRoom",
     };
     return refusal < sizeof names / sizeof *names ? names[refusal] : "no refusal";
+}
+
+/* Whether a refusal carries a place. A place of 0 may be one, too: the source's first byte. */
+static inline int elduvarn_refusal_has_place(uint32_t refusal)
+{
+    return (refusal >= ELDUVARN_HEX_SHORT && refusal <= ELDUVARN_LAST_SLICE) ||
+           (refusal >= ELDUVARN_FIRST_TOKEN && refusal <= ELDUVARN_TOO_DEEP);
 }
 
 #ifdef __cplusplus

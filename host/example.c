@@ -20,10 +20,14 @@ struct page {
     struct elduvarn_read_answer counts;
 };
 
-static int refused(const char *doing, uint32_t refusal)
+/* The place is that in a letter; a list has none. */
+static int refused(const char *doing, uint32_t refusal, uint32_t place)
 {
-    fprintf(stderr, "example: %s: refused by %u, %s\n", doing, (unsigned)refusal,
+    fprintf(stderr, "example: %s: refused by %u, %s", doing, (unsigned)refusal,
             elduvarn_refusal_name(refusal));
+    if (elduvarn_refusal_has_place(refusal))
+        fprintf(stderr, ", at byte %u", (unsigned)place);
+    fputc('\n', stderr);
     return REFUSED;
 }
 
@@ -96,7 +100,7 @@ static int read_back(const struct page *page, const uint8_t *list, size_t bytes)
                memcmp(back.text, page->text, text) == 0;
     leave(&back);
     if (answer.refusal != ELDUVARN_SUCCESS)
-        return refused("reading back", answer.refusal);
+        return refused("reading back", answer.refusal, 0);
     if (!same) {
         fputs("example: the list was not read back as it was stored\n", stderr);
         return NOT_BACK;
@@ -115,10 +119,10 @@ static int store(const struct page *page)
         elduvarn_stored_write(page->blocks, words, page->text, page->counts.text, list, most);
     int status;
     if (written.refusal != ELDUVARN_SUCCESS) {
-        status = refused("storing", written.refusal);
+        status = refused("storing", written.refusal, 0);
     } else {
         uint32_t refusal = elduvarn_stored_check(list, written.bytes);
-        status = refusal != ELDUVARN_SUCCESS ? refused("checking", refusal)
+        status = refusal != ELDUVARN_SUCCESS ? refused("checking", refusal, 0)
                                              : read_back(page, list, written.bytes);
     }
     free(list);
@@ -131,7 +135,7 @@ static int preview(const uint8_t *letter, size_t size, int paragraphs)
     int status;
     read_letter(&page, letter, size, paragraphs);
     if (page.counts.refusal != ELDUVARN_SUCCESS) {
-        status = refused("reading", page.counts.refusal);
+        status = refused("reading", page.counts.refusal, page.counts.place);
     } else {
         fwrite(page.text, 1, page.counts.text, stdout);
         putchar('\n');

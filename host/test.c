@@ -39,7 +39,7 @@ static void told(int good, uint32_t is, uint32_t should)
     failed++;
     printf("FAILED %s: %s: ", layouts[layout], now);
     if (is == should)
-        printf("other counts or rooms than expected\n");
+        printf("not the place, the counts or the rooms that are expected\n");
     else
         printf("%u %s, not %u %s\n", (unsigned)is, elduvarn_refusal_name(is), (unsigned)should,
                elduvarn_refusal_name(should));
@@ -78,48 +78,127 @@ static int holds_words(const uint32_t *room, size_t size, const uint32_t *front,
     return holds_bytes((const uint8_t *)room, size * 4, front, count * 4);
 }
 
+/* Letters refused, and where: the smallest of docs/REFUSALS.md, and others whose place tells more.
+ * Those of 1 and 16 are made elsewhere, those of 7 and 17 to 20 by rooms that are too small. */
+static const struct {
+    const char *source;
+    uint32_t refusal, place;
+} refused[] = {
+    {"\x80", ELDUVARN_NOT_ASCII, 0},
+    {"{a\\'zz\x80}", ELDUVARN_NOT_ASCII, 0},
+    {"\\'}", ELDUVARN_HEX_SHORT, 0},
+    {"{a\\'e}", ELDUVARN_HEX_SHORT, 2},
+    {"\\'zz}", ELDUVARN_HEX_BAD, 0},
+    {" {}\\'zz}", ELDUVARN_HEX_BAD, 3},
+    {"{\\'zz\\a-}", ELDUVARN_HEX_BAD, 1},
+    {"\\a-}", ELDUVARN_NUMBER_BAD, 0},
+    {"{\\b2147483648}", ELDUVARN_NUMBER_BAD, 1},
+    {"{\\rtf1 hello\\b-}", ELDUVARN_NUMBER_BAD, 12},
+    {"{\\\\b\n\\a- c}", ELDUVARN_NUMBER_BAD, 5},
+    {"a", ELDUVARN_LAST_SLICE, 0},
+    {"\t {a} b\n", ELDUVARN_LAST_SLICE, 4},
+    {"{a\nb", ELDUVARN_LAST_SLICE, 2},
+    {"{\\}", ELDUVARN_LAST_SLICE, 1},
+    {"{\\a- c", ELDUVARN_LAST_SLICE, 1},
+    {"", ELDUVARN_NO_TOKENS, 0},
+    {" \n ", ELDUVARN_NO_TOKENS, 0},
+    {"}", ELDUVARN_FIRST_TOKEN, 0},
+    {" \n}", ELDUVARN_FIRST_TOKEN, 2},
+    {"  a{}}", ELDUVARN_FIRST_TOKEN, 2},
+    {"{\\\n\\fonttbl}", ELDUVARN_TABLE_LINE_BREAK, 3},
+    {"{{\\\n\\fonttbl}}", ELDUVARN_TABLE_LINE_BREAK, 4},
+    {" {\\\n\\\n\\colortbl}", ELDUVARN_TABLE_LINE_BREAK, 6},
+    {"{\\fonttbl\\f}", ELDUVARN_FONT_NUMBER, 9},
+    {"{\\fonttbl{\\f0 A;}{\\f B;}}", ELDUVARN_FONT_NUMBER, 18},
+    {"{\\f-1}", ELDUVARN_NUMBER_FIELD, 1},
+    {"{a\\f-1}", ELDUVARN_NUMBER_FIELD, 2},
+    {"{\\fs65536}", ELDUVARN_NUMBER_FIELD, 1},
+    {"{\\colortbl\\red256}", ELDUVARN_NUMBER_FIELD, 10},
+    {"{a\\*}", ELDUVARN_IGNORABLE_IN_BODY, 2},
+    {"{}}}", ELDUVARN_NO_STATE, 3},
+    {"{a}}}", ELDUVARN_NO_STATE, 4},
+    {"{}}b}", ELDUVARN_NO_STATE, 2}, /* b is of the slice of the bracket before it */
+    {"{}}\\b c}", ELDUVARN_NO_STATE, 3},
+    {"{}}\\\n}", ELDUVARN_NO_STATE, 3},
+    {" {}}\\u65 \\u66 }", ELDUVARN_NO_STATE, 4},
+    {"{\\sl-2147483648}", ELDUVARN_LINE_SPACING, 1},
+    {"{a\\sl-2147483648}", ELDUVARN_LINE_SPACING, 2},
+};
+
 /* The cutter. */
 
-static void cuts(const char *letter, size_t size, size_t room, uint32_t refusal,
-                 const uint32_t *records, uint32_t count)
+/* Expected are `count` tokens, or a refusal at a place. */
+static void cuts_to(const char *letter, size_t size, size_t room, uint32_t refusal, uint32_t place,
+                    const uint32_t *records, uint32_t count)
 {
     const uint8_t *source = given_bytes(letter, size);
     uint32_t *tokens = lend_words(room);
     will("cut of %zu bytes %.40s in %zu words", size, letter, room);
     struct elduvarn_cut_answer answer = elduvarn_cut(source, size, tokens, room);
-    int good = answer.tokens == count &&
+    int good = answer.place == place && answer.tokens == count &&
                holds_words(tokens, room, records, (size_t)count * ELDUVARN_TOKEN_WORDS);
     told(good, answer.refusal, refusal);
     give_back();
 }
 
+static void cuts(const char *letter, size_t size, size_t room, const uint32_t *records,
+                 uint32_t count)
+{
+    cuts_to(letter, size, room, ELDUVARN_SUCCESS, 0, records, count);
+}
+
+static void cut_refuses(const char *letter, size_t size, size_t room, uint32_t refusal,
+                        uint32_t place)
+{
+    cuts_to(letter, size, room, refusal, place, NULL, 0);
+}
+
 static void test_cut(void)
 {
+    enum { ONE = ELDUVARN_TOKEN_WORDS };
     /* 01's table of names has b at 13 and fs at 10. */
     static const uint32_t styled[] = {
-        1, 0,  0, 0,  0,  0, /* { */
-        5, 13, 1, 1,  0,  0, /* b */
-        5, 10, 1, 24, 0,  0, /* fs */
-        0, 0,  0, 0,  10, 1, /* a */
-        2, 0,  0, 0,  0,  0, /* } */
+        1, 0,  0, 0,  0,  0, 0,  1, /* { */
+        5, 13, 1, 1,  0,  0, 1,  3, /* b */
+        5, 10, 1, 24, 0,  0, 4,  7, /* fs */
+        0, 0,  0, 0,  10, 1, 4,  7, /* a, of the same slice */
+        2, 0,  0, 0,  0,  0, 11, 1, /* } */
     };
-    static const uint32_t minus[] = {1, 0, 0, 0, 0, 0, 5, 2, 1, 4294963383u,
-                                     0, 0, 2, 0, 0, 0, 0, 0};
-    static const uint32_t unknown[] = {5, 49, 1, 7, 0, 2, 2, 0, 0, 0, 0, 0};
+    static const uint32_t minus[] = {
+        1, 0, 0, 0,           0, 0, 0, 1, /* { */
+        5, 2, 1, 4294963383u, 0, 0, 1, 8, /* u */
+        2, 0, 0, 0,           0, 0, 9, 1, /* } */
+    };
+    static const uint32_t unknown[] = {
+        5, 49, 1, 7, 0, 2, 0, 3, /* x */
+        2, 0,  0, 0, 0, 0, 3, 1, /* } */
+    };
+    /* The text behind a bracket is of the bracket's slice; what is trimmed counts. */
+    static const uint32_t behind[] = {
+        1, 0, 0, 0, 0, 0, 2, 2, /* { */
+        0, 0, 0, 0, 3, 1, 2, 2, /* a */
+        2, 0, 0, 0, 0, 0, 4, 3, /* } */
+        0, 0, 0, 0, 5, 2, 4, 3, /* bc */
+        2, 0, 0, 0, 0, 0, 7, 1, /* } */
+    };
+    static const uint32_t close[] = {2, 0, 0, 0, 0, 0, 0, 1};
     const char *letter = "{\\b1\\fs24 a}";
     for (size_t room = 0; room < COUNT(styled); room++)
-        cuts(letter, strlen(letter), room, ELDUVARN_TOKEN_ROOM, NULL, 0);
-    for (size_t more = 0; more < 8; more++)
-        cuts(letter, strlen(letter), COUNT(styled) + more, 0, styled, 5);
-    cuts("{\\u-3913 }", 10, COUNT(minus), 0, minus, 3);
-    cuts("\\x7}", 4, COUNT(unknown), 0, unknown, 2);
-    cuts("", 0, 0, 0, NULL, 0);
-    cuts("", 0, 1, 0, NULL, 0);
-    cuts(" ", 1, 6, 0, NULL, 0);
-    cuts("a", 1, 6, ELDUVARN_LAST_SLICE, NULL, 0);
-    cuts("}", 1, 6, 0, unknown + 6, 1);
-    cuts("}", 1, 5, ELDUVARN_TOKEN_ROOM, NULL, 0);
-    cuts("\x80", 1, 6, ELDUVARN_NOT_ASCII, NULL, 0);
+        cut_refuses(letter, strlen(letter), room, ELDUVARN_TOKEN_ROOM, 0);
+    for (size_t more = 0; more < ONE + 2; more++)
+        cuts(letter, strlen(letter), COUNT(styled) + more, styled, 5);
+    cuts("{\\u-3913 }", 10, COUNT(minus), minus, 3);
+    cuts("\\x7}", 4, COUNT(unknown), unknown, 2);
+    cuts("\n {a}bc}\n", 9, COUNT(behind), behind, 5);
+    cuts("", 0, 0, NULL, 0);
+    cuts("", 0, 1, NULL, 0);
+    cuts(" ", 1, ONE, NULL, 0);
+    cuts("}", 1, ONE, close, 1);
+    cut_refuses("}", 1, ONE - 1, ELDUVARN_TOKEN_ROOM, 0);
+    for (size_t i = 0; i < COUNT(refused); i++)
+        if (refused[i].refusal <= ELDUVARN_LAST_SLICE)
+            cut_refuses(refused[i].source, strlen(refused[i].source), 10 * ONE, refused[i].refusal,
+                        refused[i].place);
 }
 
 /* The reader. A letter with its counts, and its text in both readings. */
@@ -160,11 +239,13 @@ static struct read read_in(reading *by, const char *source, size_t size, const s
     return read;
 }
 
-static int is_empty(const struct read *read)
+/* Whether all is as a refusal at that place leaves it. */
+static int is_empty(const struct read *read, uint32_t place)
 {
     const struct elduvarn_read_answer *is = &read->answer;
-    int good = is->tokens == 0 && is->fonts == 0 && is->colours == 0 && is->blocks == 0 &&
-               is->text == 0 && holds_bytes(read->text, read->room[TEXT], NULL, 0);
+    int good = is->place == place && is->tokens == 0 && is->fonts == 0 && is->colours == 0 &&
+               is->blocks == 0 && is->text == 0 &&
+               holds_bytes(read->text, read->room[TEXT], NULL, 0);
     for (int i = 0; i < 4; i++)
         good &= holds_words(read->words[i], read->room[i], NULL, 0);
     return good;
@@ -173,7 +254,7 @@ static int is_empty(const struct read *read)
 static int has_counts(const struct read *read, const struct letter *letter, const char *text)
 {
     const struct elduvarn_read_answer *is = &read->answer;
-    return is->tokens == letter->tokens && is->fonts == letter->fonts &&
+    return is->place == 0 && is->tokens == letter->tokens && is->fonts == letter->fonts &&
            is->colours == letter->colours && is->blocks == letter->blocks &&
            is->text == strlen(text) &&
            holds_bytes(read->text, read->room[TEXT], text, strlen(text));
@@ -208,7 +289,7 @@ static void reads(reading *by, const struct letter *letter, const char *text)
         if (room[i]-- == 0)
             continue;
         struct read read = read_in(by, letter->source, size, room);
-        told(is_empty(&read), read.answer.refusal, refusals[i]);
+        told(is_empty(&read, 0), read.answer.refusal, refusals[i]);
         give_back();
     }
 }
@@ -232,37 +313,14 @@ static const struct letter letters[] = {
     {"{\\rtf1 a\\b b}", 6, 0, 0, 2, "ab", "ab"},
 };
 
-/* The smallest letters of docs/REFUSALS.md; those of 1 and 16 are made elsewhere. */
-static const struct {
-    const char *source;
-    uint32_t refusal;
-} refused[] = {
-    {"\x80", ELDUVARN_NOT_ASCII},
-    {"\\'}", ELDUVARN_HEX_SHORT},
-    {"\\'zz}", ELDUVARN_HEX_BAD},
-    {"\\a-}", ELDUVARN_NUMBER_BAD},
-    {"a", ELDUVARN_LAST_SLICE},
-    {"", ELDUVARN_NO_TOKENS},
-    {"}", ELDUVARN_FIRST_TOKEN},
-    {"{\\\n\\fonttbl}", ELDUVARN_TABLE_LINE_BREAK},
-    {"{\\fonttbl\\f}", ELDUVARN_FONT_NUMBER},
-    {"{\\f-1}", ELDUVARN_NUMBER_FIELD},
-    {"{\\fs65536}", ELDUVARN_NUMBER_FIELD},
-    {"{\\b2147483648}", ELDUVARN_NUMBER_BAD},
-    {"{a\\*}", ELDUVARN_IGNORABLE_IN_BODY},
-    {"{}}}", ELDUVARN_NO_STATE},
-    {"{a}}}", ELDUVARN_NO_STATE},
-    {"{\\sl-2147483648}", ELDUVARN_LINE_SPACING},
-};
-
-static const size_t ample[ROOMS] = {600, 60, 20, 260, 100};
+static const size_t ample[ROOMS] = {100 * ELDUVARN_TOKEN_WORDS, 60, 20, 260, 100};
 static reading *const readings[] = {elduvarn_read_plain, elduvarn_read_paragraphs};
 
-static void refuses(const char *source, size_t size, uint32_t refusal)
+static void refuses(const char *source, size_t size, uint32_t refusal, uint32_t place)
 {
     for (size_t by = 0; by < COUNT(readings); by++) {
         struct read read = read_in(readings[by], source, size, ample);
-        told(is_empty(&read), read.answer.refusal, refusal);
+        told(is_empty(&read, place), read.answer.refusal, refusal);
         give_back();
     }
 }
@@ -271,7 +329,8 @@ static void refuses(const char *source, size_t size, uint32_t refusal)
 static void reads_records(const char *source, int room, const uint32_t *records, size_t words)
 {
     struct read read = read_in(elduvarn_read_plain, source, strlen(source), ample);
-    told(holds_words(read.words[room], ample[room], records, words), read.answer.refusal, 0);
+    told(read.answer.place == 0 && holds_words(read.words[room], ample[room], records, words),
+         read.answer.refusal, 0);
     give_back();
 }
 
@@ -279,26 +338,31 @@ static void reads_records(const char *source, int room, const uint32_t *records,
 static void test_limits(void)
 {
     static char letter[ELDUVARN_MOST_SOURCE + 1];
-    static const size_t rooms[ROOMS] = {18, 0, 0, 13, ELDUVARN_MOST_SOURCE - 2};
+    static const size_t rooms[ROOMS] = {3 * ELDUVARN_TOKEN_WORDS, 0, 0, ELDUVARN_BLOCK_WORDS,
+                                        ELDUVARN_MOST_SOURCE - 2};
     memset(letter, '{', 64);
     letter[63] = '}';
     struct read read = read_in(elduvarn_read_plain, letter, 64, ample);
-    told(read.answer.tokens == 64, read.answer.refusal, 0);
+    told(read.answer.place == 0 && read.answer.tokens == 64, read.answer.refusal, 0);
     give_back();
     letter[63] = '{';
     letter[64] = '}';
-    refuses(letter, 65, ELDUVARN_TOO_DEEP);
+    refuses(letter, 65, ELDUVARN_TOO_DEEP, 63);
+    letter[64] = '{';
+    letter[65] = '}';
+    letter[0] = '\n';
+    refuses(letter, 66, ELDUVARN_TOO_DEEP, 64);
 
     memset(letter, 'a', sizeof letter);
     letter[0] = '{';
     letter[ELDUVARN_MOST_SOURCE - 1] = '}';
     read = read_in(elduvarn_read_plain, letter, ELDUVARN_MOST_SOURCE, rooms);
-    told(read.answer.text == ELDUVARN_MOST_SOURCE - 2 &&
+    told(read.answer.place == 0 && read.answer.text == ELDUVARN_MOST_SOURCE - 2 &&
              holds_bytes(read.text, rooms[TEXT], letter + 1, rooms[TEXT]),
          read.answer.refusal, 0);
     give_back();
-    refuses(letter, sizeof letter, ELDUVARN_SOURCE_TOO_LONG);
-    cuts(letter, sizeof letter, 6, ELDUVARN_SOURCE_TOO_LONG, NULL, 0);
+    refuses(letter, sizeof letter, ELDUVARN_SOURCE_TOO_LONG, 0);
+    cut_refuses(letter, sizeof letter, ELDUVARN_TOKEN_WORDS, ELDUVARN_SOURCE_TOO_LONG, 0);
 }
 
 static void test_read(void)
@@ -315,7 +379,7 @@ static void test_read(void)
     reads_records("{\\colortbl\\red200\\green16\\blue46;}", COLOURS, colours, COUNT(colours));
     reads_records("{\\rtf1 a\\b b}", BLOCKS, listing, COUNT(listing));
     for (size_t i = 0; i < COUNT(refused); i++)
-        refuses(refused[i].source, strlen(refused[i].source), refused[i].refusal);
+        refuses(refused[i].source, strlen(refused[i].source), refused[i].refusal, refused[i].place);
     test_limits();
 }
 
@@ -512,7 +576,7 @@ static void test_round_trip(void)
     struct read read = read_in(elduvarn_read_paragraphs, letter, strlen(letter), ample);
     size_t words = (size_t)read.answer.blocks * ELDUVARN_BLOCK_WORDS, text = read.answer.text;
     size_t most = elduvarn_stored_most(read.answer.blocks, text);
-    told(read.answer.blocks == 6 && text == strlen(shown) &&
+    told(read.answer.place == 0 && read.answer.blocks == 6 && text == strlen(shown) &&
              holds_bytes(read.text, ample[TEXT], shown, text),
          read.answer.refusal, 0);
     will("storing and reading back that letter");
@@ -548,6 +612,16 @@ static void test_stored(void)
     test_round_trip();
 }
 
+/* Which refusals carry a place: 3 to 6 and 9 to 16. */
+static void test_has_place(void)
+{
+    static const char has[] = "...yyyy..yyyyyyyy..........";
+    for (uint32_t refusal = 0; refusal + 1 < sizeof has; refusal++) {
+        will("whether %u has a place", (unsigned)refusal);
+        told(elduvarn_refusal_has_place(refusal) == (has[refusal] == 'y'), refusal, refusal);
+    }
+}
+
 int main(int count, char **words)
 {
     if (count == 2 && strcmp(words[1], "names") == 0) {
@@ -557,6 +631,7 @@ int main(int count, char **words)
     }
     signal(SIGSEGV, stepped_outside);
     signal(SIGBUS, stepped_outside);
+    test_has_place();
     for (layout = 0; layout < LAYOUTS; layout++) {
         test_cut();
         test_read();

@@ -4,8 +4,9 @@
 #   stop N WORDS     the same, and ends with status N
 #   take FILE        takes standard input from that file, or ends with status 2
 #   build NAME       proves and builds that program, if that is not done yet, or ends with status 3
+#   keep FILE        keeps the letter on standard input, as far as a program takes it, in that file
 #   run NAME         runs it: standard input to standard output
-#   explain NUMBER   tells a refusal's name and condition
+#   explain NUMBER PLACE FILE   tells a refusal's name, place and condition, and shows the bytes around the place in the letter
 #
 # shellcheck shell=sh disable=SC2154
 
@@ -25,6 +26,11 @@ take() {
     [ ! -d "$1" ] || stop 2 "$1 is a folder, not a letter"
     [ -r "$1" ] || stop 2 "$1 cannot be read"
     exec <"$1"
+}
+
+# The longest letter is 65,536 bytes; a byte more shows that one is longer.
+keep() {
+    head -c 65537 >"$1"
 }
 
 need_rt() {
@@ -100,8 +106,20 @@ run() (
     exec "$kit/bin/qemu-x86_64" "$kit/lib/ld-linux-x86-64.so.2" --library-path "$kit/lib" "$program"
 )
 
-# The number's row in the catalogue.
+# The number's row in the catalogue; the numbers that carry a place are those that it names (docs/REFUSALS.md).
 explain() {
-    row=$(awk -F ' *[|] *' -v n="$1" '$2 == n { print n ", " $3 ": " $4 }' "$here/docs/REFUSALS.md")
+    case $1 in
+        [3-6] | 9 | 1[0-6]) where=", at byte $2" ;;
+        *) where= ;;
+    esac
+    row=$(awk -F ' *[|] *' -v n="$1" -v where="$where" '$2 == n { print n ", " $3 where ": " $4 }' "$here/docs/REFUSALS.md")
     say "refused by $row (docs/REFUSALS.md)"
+    [ -z "$where" ] || point "$2" "$3"
+}
+
+# The letter around byte $1 of the file $2, and a mark below that byte. What does not print stands as a dot.
+point() {
+    from=$(($1 > 30 ? $1 - 30 : 0))
+    say "    $(tail -c +$((from + 1)) "$2" | head -c 60 | LC_ALL=C tr -c ' -~' .)"
+    say "    $(printf "%$(($1 - from))s^" '')"
 }

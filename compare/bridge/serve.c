@@ -3,7 +3,7 @@
  *
  * A request on standard input: eight u32 (function, source length, the sizes of five rooms in
  * elements, a junk byte), then the source. The answer on standard output: a u32 that is 1 if nothing
- * outside a room was written, the six u32 of a reading (those that another function has, then
+ * outside a room was written, the seven u32 of a reading (those that another function has, and
  * zeros), then all elements of the rooms. Rooms are filled with junk and stand between guards, the
  * source between bytes that would change the answer if they were read. All is little endian.
  *
@@ -20,12 +20,12 @@ enum { CUT, PLAIN, PARAGRAPHS, STORED_CHECK, STORED_READ, STORED_WRITE };
 enum { GUARD = 64, GUARD_BYTE = 0x6B, SPACE = 256 << 20, AHEAD = 1 << 16, BEHIND = 1 << 16 };
 
 struct answer {
-    u32 words[6];
+    u32 words[7];
 };
 
 #ifdef CUTTER
 struct cut_answer {
-    u32 refusal, tokens;
+    u32 refusal, place, tokens;
 };
 struct cut_answer elduvarn_cut(const u8 *, usize, u32 *, usize);
 #elif defined STORED
@@ -212,7 +212,7 @@ static struct given given_by(u32 *head)
 #ifdef STORED
 static struct answer counted(u32 refusal, usize one, usize two)
 {
-    struct answer answer = {{refusal, one, one >> 32, two, two >> 32, 0}};
+    struct answer answer = {{refusal, one, one >> 32, two, two >> 32, 0, 0}};
     return answer;
 }
 
@@ -238,7 +238,7 @@ static struct answer answered(u32 function, struct given g, u8 **room, const u32
         words[i] = (u32 *)room[i];
 #ifdef CUTTER
     struct cut_answer cut = elduvarn_cut(g.source, g.length, words[0], sizes[2]);
-    struct answer answer = {{cut.refusal, cut.tokens, 0, 0, 0, 0}};
+    struct answer answer = {{cut.refusal, cut.place, cut.tokens, 0, 0, 0, 0}};
     return answer;
 #else
     return (function == PLAIN ? elduvarn_read_plain : elduvarn_read_paragraphs)(

@@ -15,8 +15,11 @@ pub const STORED_WRITE: u32 = 5;
 /// neither end waits for the other. A single request may be larger.
 pub const BATCH: usize = 32_000;
 
+/// The numbers of a reading's answer; another function has fewer, and then zeros.
+pub type Numbers = [u32; 7];
+
 /// The answer in place of the library's where it wrote outside a room.
-pub const WROTE_OUTSIDE: [u32; 6] = [u32::MAX; 6];
+pub const WROTE_OUTSIDE: Numbers = [u32::MAX; 7];
 
 /// compare/run names the emulator and the server here, with a space between them.
 const COMMAND: &str = "ELDUVARN_BRIDGE";
@@ -45,10 +48,11 @@ pub fn send(requests: &[u8]) {
 }
 
 /// The answer to the oldest request, and its rooms.
-pub fn receive(words: [&mut [u32]; 4], text: &mut [u8]) -> [u32; 6] {
+pub fn receive(words: [&mut [u32]; 4], text: &mut [u8]) -> Numbers {
     with_server(|server| {
         let mut take = |bytes: &mut [u8]| server.answers.read_exact(bytes).expect("an answer");
-        let mut head = [0; 28];
+        // Whether nothing outside a room was written stands before the answer.
+        let mut head = [0; size_of::<u32>() + size_of::<Numbers>()];
         take(&mut head);
         let mut buffer = Vec::new();
         for room in words {
@@ -61,7 +65,7 @@ pub fn receive(words: [&mut [u32]; 4], text: &mut [u8]) -> [u32; 6] {
         let guards_hold = numbers.next() == Some(1);
         let answer: Vec<u32> = numbers.collect();
         if guards_hold {
-            answer.try_into().expect("six numbers")
+            answer.try_into().expect("as many numbers")
         } else {
             WROTE_OUTSIDE
         }

@@ -1,8 +1,9 @@
-//! The form in which both sides answer: a refusal number, or tokens of six words each
-//! (kind, word number, 1 if a number is present, that number, source place, length).
+//! A cutting as the crate can tell it: a refusal number, or the first words of each token's record
+//! (kind, word number, 1 if a number is present, that number, source place, length). It keeps
+//! neither the slices that tokens were cut from nor the places of refusals: these are the model's.
 
-pub const RECORD_WORDS: usize = 6;
-pub type Record = [u32; RECORD_WORDS];
+/// What the crate tells of a token.
+pub type Told = [u32; 6];
 
 pub const SOURCE_LIMIT: usize = 65_536;
 
@@ -34,25 +35,22 @@ pub const UNKNOWN: u32 = NAMES.len() as u32;
 /// The answer to a letter in a room that holds everything.
 #[derive(Debug, Clone, PartialEq, Eq)]
 pub enum Cut {
-    Tokens(Vec<Record>),
+    Tokens(Vec<Told>),
     Refused(u32),
 }
 
 impl Cut {
-    /// What a room of so many words must show: the refusal number (0 for success) and the records.
-    pub fn in_room(&self, words: usize) -> (u32, &[Record]) {
-        match self {
-            Cut::Refused(number) => (*number, &[]),
-            Cut::Tokens(records) if records.len() > words / RECORD_WORDS => (ROOM_SMALL, &[]),
-            Cut::Tokens(records) => (0, records),
+    /// Whether these are the same records, or the same refusal number, as far as the crate tells.
+    pub fn agrees<const WORDS: usize>(&self, answer: Result<&[[u32; WORDS]], u32>) -> bool {
+        match (self, answer) {
+            (Cut::Tokens(told), Ok(records)) => are_told(told, records),
+            (Cut::Refused(number), Err(refusal)) => *number == refusal,
+            _ => false,
         }
     }
+}
 
-    /// The words of a room that is just large enough.
-    pub fn words(&self) -> usize {
-        match self {
-            Cut::Refused(_) => 0,
-            Cut::Tokens(records) => records.len() * RECORD_WORDS,
-        }
-    }
+/// Whether these are the same records, as far as the crate tells.
+pub fn are_told<const WORDS: usize>(told: &[Told], records: &[[u32; WORDS]]) -> bool {
+    told.len() == records.len() && told.iter().zip(records).all(|(t, record)| record.starts_with(t))
 }

@@ -119,6 +119,32 @@ pub const TELLING: &[&str] = &[
     "{a}}{\\b b}c}", "{\\li9\\ri9\\fi9 a\\li0 b}", "{\n\\b\n a\n}", "a{}", "{\\'41{\\'42}\\'43}",
 ];
 
+/// What is refused wherever it is read, by each number from 3 to 5 and from 10 to 15; 6 and 9 are
+/// met at the ends of a letter.
+#[rustfmt::skip]
+const FAULTS: [&str; 21] = [
+    "\\'4", "\\'zz", "\\b-", "\\zz9999999999;", "{\\\n\\fonttbl x}", "{\\\n\n\\\na\\colortbl}",
+    "{\\\n \\\n\\colortbl}", "{\\fonttbl{\\f1 A;}b\\f C;}", "{\\colortbl;\\red256 ;}",
+    "{\\colortbl;\\green1 \\blue-1;}", "\\cf65536 ", "\\f-1 ", "\\fs70000 ", "\\*a",
+    "}}}a", "}}}}\\b ", "}}}\\\n", "}} } \\u65 \\'42a", "}}}\\'41\\u \\u66 ", "}}{}}\\zz1 a",
+    "\\sl-2147483648 ",
+];
+/// What may stand before a letter: white space, and slices without a token.
+pub const FRONTS: [&str; 4] = ["", " \t\n", "\\~x\n", "\\-\\~ \n \\;"];
+
+/// Each fault, and one bracket too many for 16, in each place of a letter behind each front.
+pub fn faults_everywhere(letter: &str, sink: &mut Sink) {
+    let deep = "{a".repeat(64);
+    for front in FRONTS {
+        for place in 0..=letter.len() {
+            let (before, behind) = letter.split_at(place);
+            for fault in FAULTS.into_iter().chain([deep.as_str()]) {
+                sink([front, before, fault, behind].concat().as_bytes());
+            }
+        }
+    }
+}
+
 /// Each name with each number, in the body and in both tables.
 pub fn words_with_numbers(sink: &mut Sink) {
     const AROUND: [(&str, &str); 3] =

@@ -5,8 +5,8 @@
 //!   mutate    damaged letters
 //!   fragments, reading_grammar   letters for the whole reading, listed and at random
 //!   oracle    the crate's answers, from both of its builds
-//!   cut       the form of a cutter's answer
-//!   whole     the form of a reading's
+//!   cut       the form of the crate's cuttings
+//!   whole     the form of its readings
 //!   room      what is lent for a call
 //!   program   modes and options of the programs
 //!   bridge    our library on another processor

@@ -55,7 +55,7 @@ fn parser_refusal(error: &ParserError) -> u32 {
     }
 }
 
-fn told(tokens: Vec<cut::Record>, document: &RtfDocument) -> Document {
+fn told(tokens: Vec<cut::Told>, document: &RtfDocument) -> Document {
     let header = &document.header;
     let mut fonts: Vec<(u32, Vec<u8>)> = header
         .font_table

@@ -24,7 +24,7 @@ fn refusal(error: &LexerError) -> u32 {
     }
 }
 
-fn record(source: &str, token: &Token) -> cut::Record {
+fn record(source: &str, token: &Token) -> cut::Told {
     match token {
         Token::PlainText(text) => {
             let (place, length) = span(source, text);

@@ -1,6 +1,7 @@
-//! A whole reading as the crate can tell it: it keeps the names of fonts, not their places.
+//! A whole reading as the crate can tell it: it keeps the names of fonts, not their places, and of
+//! tokens and refusals what `cut` says.
 
-use crate::cut::Record;
+use crate::cut::Told;
 
 pub type Block = [u32; 13];
 
@@ -12,7 +13,7 @@ pub enum Whole {
 
 #[derive(Debug, Clone, Default, PartialEq, Eq)]
 pub struct Document {
-    pub tokens: Vec<Record>,
+    pub tokens: Vec<Told>,
     /// Keys, ascending, with the bytes of the names.
     pub fonts: Vec<(u32, Vec<u8>)>,
     pub colours: Vec<u32>,

@@ -1,12 +1,13 @@
-//! One letter on both sides, word by word.
+//! One letter on all sides: the model against the crate, ours against the model, word by word.
 
 use crate::ours;
 use crate::report;
 use crate::seen::Seen;
-use common::cut::{Cut, RECORD_WORDS, ROOM_SMALL};
+use common::cut::ROOM_SMALL;
 use common::oracle::{self, Reading};
 use common::random::Random;
 use common::room::{Room, Source};
+use model::{Cut, Refusal, Token, TOKEN_WORDS};
 
 /// One letter in so many is also tried in small rooms, and each that is so short.
 const SMALL_ROOMS: usize = 8;
@@ -27,8 +28,8 @@ pub struct Judge {
 /// Our answer in one room, where it is not the one expected.
 pub struct Fault {
     pub words: usize,
-    pub refusal: u32,
-    pub tokens: u32,
+    /// Refusal number, its place, token count.
+    pub numbers: [u32; 3],
     pub what: String,
     pub room: Vec<u32>,
 }
@@ -47,20 +48,22 @@ impl Judge {
         }
     }
 
-    /// Compares a letter of at most 65,536 bytes, all below 128, with both builds of the crate.
+    /// Compares a letter of at most 65,536 bytes, all below 128, with both builds of the crate and
+    /// with the model, which alone has slices and places.
     pub fn letter(&mut self, letter: &[u8]) {
         let text = std::str::from_utf8(letter).expect("a letter for the crate is ASCII");
         let wrapping = oracle::wrapping_reading(text);
         let checked = oracle::checked_reading(text);
-        match wrapping {
-            Reading::Answered(cut) if checked == Reading::Answered(cut.clone()) => {
-                let small_rooms = letter.len() <= SHORT || self.random.once_in(SMALL_ROOMS);
-                self.expect(letter, &cut, small_rooms);
-            }
-            wrapping => {
-                self.letters += 1;
-                self.differ(|| report::builds(letter, &wrapping, &checked));
-            }
+        let cut = model::cut(letter);
+        let answer = cut.as_deref().map_err(|refusal| refusal.number);
+        let agrees = matches!(&wrapping, Reading::Answered(told) if told.agrees(answer))
+            && wrapping == checked;
+        if agrees {
+            let small_rooms = letter.len() <= SHORT || self.random.once_in(SMALL_ROOMS);
+            self.expect(letter, &cut, small_rooms);
+        } else {
+            self.letters += 1;
+            self.differ(|| report::builds(letter, &cut, &wrapping, &checked));
         }
     }
 
@@ -69,10 +72,10 @@ impl Judge {
         self.letters += 1;
         self.seen.count(cut);
         // No byte gives more than one token, so this is ample whatever the answer is.
-        let ample = letter.len() * RECORD_WORDS + 11;
+        let ample = (letter.len() + 2) * TOKEN_WORDS - 1;
         let mut fault = self.call(letter, cut, ample).err();
         if small_rooms && fault.is_none() {
-            fault = rooms(cut.words())
+            fault = rooms(enough(cut))
                 .into_iter()
                 .find_map(|words| self.call(letter, cut, words).err());
         }
@@ -83,25 +86,24 @@ impl Judge {
 
     fn call(&mut self, letter: &[u8], cut: &Cut, words: usize) -> Result<(), Fault> {
         self.calls += 1;
-        let (refusal, records) = cut.in_room(words);
-        if refusal == ROOM_SMALL {
+        let (refusal, records) = in_room(cut, words);
+        if refusal.number == ROOM_SMALL {
             self.seen.count_small_room();
         }
         let junk = self.random.draw() as u32 | 0x8000_0001;
-        let answer = ours::cut(self.source.lend(letter), self.room.lend(words, junk));
+        let numbers = ours::cut(self.source.lend(letter), self.room.lend(words, junk));
         let wrong = wrong_word(self.room.lent(), records.as_flattened(), junk);
         let what = if !self.room.guards_hold() {
             "a word outside the room was written".to_string()
-        } else if answer != (refusal, records.len() as u32) {
-            "another refusal or count".to_string()
+        } else if numbers != [refusal.number, refusal.place, records.len() as u32] {
+            "another refusal, place or count".to_string()
         } else if let Some(wrong) = wrong {
             wrong
         } else {
             return Ok(());
         };
-        let (refusal, tokens) = answer;
         let room = self.room.lent().to_vec();
-        Err(Fault { words, refusal, tokens, what, room })
+        Err(Fault { words, numbers, what, room })
     }
 
     fn differ(&mut self, print: impl FnOnce()) {
@@ -111,6 +113,19 @@ impl Judge {
             print();
         }
     }
+}
+
+/// What a room of so many words must show: the refusal, of number 0 for success, and the records.
+pub fn in_room(cut: &Cut, words: usize) -> (Refusal, &[Token]) {
+    match model::in_room(cut, words) {
+        Ok(records) => (Refusal::default(), records),
+        Err(refusal) => (refusal, &[]),
+    }
+}
+
+/// The words of a room that is just large enough.
+fn enough(cut: &Cut) -> usize {
+    cut.as_ref().map_or(0, |records| records.len() * TOKEN_WORDS)
 }
 
 /// Says where the room is not the records and then zeros.
@@ -127,18 +142,18 @@ fn wrong_word(room: &[u32], records: &[u32], junk: u32) -> Option<String> {
 
 /// Rooms around the size that is just enough; all of them up to it if it is small.
 fn rooms(enough: usize) -> Vec<usize> {
-    if enough <= 5 * RECORD_WORDS {
-        return (0..=enough + RECORD_WORDS + 2).collect();
+    if enough <= 5 * TOKEN_WORDS {
+        return (0..=enough + TOKEN_WORDS + 2).collect();
     }
-    let less = enough - RECORD_WORDS;
+    let less = enough - TOKEN_WORDS;
     let half = enough / 2;
     vec![
         0,
         1,
-        5,
-        6,
-        7,
-        12,
+        TOKEN_WORDS - 1,
+        TOKEN_WORDS,
+        TOKEN_WORDS + 1,
+        2 * TOKEN_WORDS,
         half,
         half + 1,
         less - 1,
@@ -147,8 +162,8 @@ fn rooms(enough: usize) -> Vec<usize> {
         enough - 1,
         enough,
         enough + 1,
-        enough + 5,
-        enough + 6,
-        enough + 7,
+        enough + TOKEN_WORDS - 1,
+        enough + TOKEN_WORDS,
+        enough + TOKEN_WORDS + 1,
     ]
 }

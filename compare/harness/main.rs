@@ -1,7 +1,7 @@
-//! Our cutter against rtf-parser 0.4.3.
+//! Our cutter against rtf-parser 0.4.3 and against the model.
 //!
 //!   compare   the parts of a comparison
-//!   judge     one letter on both sides
+//!   judge     one letter on all sides
 //!   limits    refusals 1 and 2
 //!   ours      our library's C interface
 //!   seen      what the letters covered

@@ -1,10 +1,13 @@
 //! What the letters have covered, so that a run that tested little shows.
 
-use common::cut::{Cut, NAMES, ROOM_SMALL, WORD};
+use common::cut::{NAMES, ROOM_SMALL, WORD};
+use model::Cut;
 
 #[derive(Default)]
 pub struct Seen {
     refusals: [u64; ROOM_SMALL as usize + 1],
+    /// Those of them whose place is not 0.
+    placed: [u64; ROOM_SMALL as usize + 1],
     kinds: [u64; WORD as usize + 1],
     words: Vec<u64>,
     longest: usize,
@@ -13,8 +16,11 @@ pub struct Seen {
 impl Seen {
     pub fn count(&mut self, cut: &Cut) {
         match cut {
-            Cut::Refused(number) => self.refusals[*number as usize] += 1,
-            Cut::Tokens(records) => {
+            Err(refusal) => {
+                self.refusals[refusal.number as usize] += 1;
+                self.placed[refusal.number as usize] += u64::from(refusal.place > 0);
+            }
+            Ok(records) => {
                 self.refusals[0] += 1;
                 self.words.resize(NAMES.len() + 1, 0);
                 for record in records {
@@ -42,6 +48,7 @@ impl Seen {
             print!("  {number}: {count}");
         }
         println!("  (7: calls, the others: letters)");
+        println!("places:  not 0 in {:?} of the letters with 3 to 6", &self.placed[3..=6]);
         let [text, open, close, breaks, ignorable, word] = self.kinds;
         println!(
             "tokens:  text {text}, open {open}, close {close}, line break {breaks}, \

@@ -4,12 +4,14 @@
 #[repr(C)]
 struct CutAnswer {
     refusal: u32,
+    place: u32,
     tokens: u32,
 }
 
 #[repr(C)]
 struct ReadAnswer {
     refusal: u32,
+    place: u32,
     tokens: u32,
     fonts: u32,
     colours: u32,
@@ -93,24 +95,25 @@ pub struct Slices<'a> {
     pub text: &'a mut [u8],
 }
 
-/// Cuts a source of any length and bytes into a room of any size: refusal number and token count.
-pub fn cut(source: &[u8], room: &mut [u32]) -> (u32, u32) {
-    let answer =
+/// Cuts a source of any length and bytes into a room of any size: refusal number, its place, token
+/// count.
+pub fn cut(source: &[u8], room: &mut [u32]) -> [u32; 3] {
+    let CutAnswer { refusal, place, tokens } =
         unsafe { elduvarn_cut(source.as_ptr(), source.len(), room.as_mut_ptr(), room.len()) };
-    (answer.refusal, answer.tokens)
+    [refusal, place, tokens]
 }
 
-/// Reads a source of any length and bytes in rooms of any sizes: refusal number and counts.
-pub fn read_plain(source: &[u8], rooms: Slices) -> [u32; 6] {
+/// Reads a source of any length and bytes in rooms of any sizes: refusal number, its place, counts.
+pub fn read_plain(source: &[u8], rooms: Slices) -> [u32; 7] {
     read(elduvarn_read_plain, source, rooms)
 }
 
-pub fn read_paragraphs(source: &[u8], rooms: Slices) -> [u32; 6] {
+pub fn read_paragraphs(source: &[u8], rooms: Slices) -> [u32; 7] {
     read(elduvarn_read_paragraphs, source, rooms)
 }
 
 #[inline(always)]
-fn read(function: Read, source: &[u8], rooms: Slices) -> [u32; 6] {
+fn read(function: Read, source: &[u8], rooms: Slices) -> [u32; 7] {
     let Slices { words: [tokens, fonts, colours, blocks], text } = rooms;
     let answer = unsafe {
         function(
@@ -128,8 +131,8 @@ fn read(function: Read, source: &[u8], rooms: Slices) -> [u32; 6] {
             text.len(),
         )
     };
-    let ReadAnswer { refusal, tokens, fonts, colours, blocks, text } = answer;
-    [refusal, tokens, fonts, colours, blocks, text]
+    let ReadAnswer { refusal, place, tokens, fonts, colours, blocks, text } = answer;
+    [refusal, place, tokens, fonts, colours, blocks, text]
 }
 
 /// The refusal number of a stored list.

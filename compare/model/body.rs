@@ -1,7 +1,7 @@
 //! 01's "Body".
 
 use crate::cut::{number_of, CLOSE, IGNORABLE, LINE_BREAK, OPEN, TEXT, WORD};
-use crate::{units, Block, Kind, Met, Rooms, Token, BLOCKS, WIDTHS};
+use crate::{units, Block, Kind, Met, Refusal, Rooms, Token, BLOCKS, WIDTHS};
 
 const DEEPEST: usize = 64;
 /// The longest text room that counts.
@@ -55,7 +55,7 @@ impl Body {
         kind: Kind,
         rooms: &Rooms,
         met: &mut Met,
-    ) -> Result<Body, u32> {
+    ) -> Result<Body, Refusal> {
         let mut body = Body {
             blocks: Vec::new(),
             text: Vec::new(),
@@ -78,20 +78,29 @@ impl Body {
         Ok(body)
     }
 
-    /// One token, or a run of `u`.
-    fn step(&mut self, source: &[u8], run: &[Token], kind: Kind, met: &mut Met) -> Result<(), u32> {
-        let token = run[0];
-        if token[0] == OPEN {
-            return self.open();
+    /// One token, or a run of `u`, whose first it is that finds no state.
+    fn step(
+        &mut self,
+        source: &[u8],
+        run: &[Token],
+        kind: Kind,
+        met: &mut Met,
+    ) -> Result<(), Refusal> {
+        let token = &run[0];
+        match token[0] {
+            OPEN if self.states.len() == DEEPEST => return Err(Refusal::at(16, token)),
+            OPEN => {
+                self.states.push(self.states.last().copied().unwrap_or(FRESH));
+                return Ok(());
+            }
+            IGNORABLE => return Err(Refusal::at(13, token)),
+            _ => {}
         }
-        if token[0] == IGNORABLE {
-            return Err(13);
-        }
-        let state = self.states.last_mut().ok_or(14_u32)?;
-        match token {
+        let state = self.states.last_mut().ok_or(Refusal::at(14, token))?;
+        match *token {
             [CLOSE, ..] => _ = self.states.pop(),
             [LINE_BREAK, ..] => self.add(b"\n")?,
-            [TEXT, _, _, _, place, length] => {
+            [TEXT, _, _, _, place, length, ..] => {
                 self.add(&source[place as usize..(place + length) as usize])?
             }
             [WORD, U, ..] => self.units(run, met)?,
@@ -99,20 +108,15 @@ impl Body {
             [WORD, word @ EMDASH..=LINE, ..] => {
                 self.add(SIGNS[(word - EMDASH) as usize].as_bytes())?
             }
-            [_, word, present, number, ..] => state.word(word, present == 1, number as i32)?,
+            [_, word, present, number, ..] => {
+                let set = state.word(word, present == 1, number as i32);
+                set.map_err(|refused| Refusal::at(refused, token))?
+            }
         }
         Ok(())
     }
 
-    fn open(&mut self) -> Result<(), u32> {
-        if self.states.len() == DEEPEST {
-            return Err(16);
-        }
-        self.states.push(self.states.last().copied().unwrap_or(FRESH));
-        Ok(())
-    }
-
-    fn units(&mut self, run: &[Token], met: &mut Met) -> Result<(), u32> {
+    fn units(&mut self, run: &[Token], met: &mut Met) -> Result<(), Refusal> {
         let skip = self.states.last().map_or(0, |state| state.skip);
         met.negative_skip |= skip < 0;
         met.large_skip |= skip > 65_535;
@@ -125,14 +129,15 @@ impl Body {
         self.add(&text)
     }
 
-    fn add(&mut self, text: &[u8]) -> Result<(), u32> {
-        let style = self.states.last().ok_or(14_u32)?.style.map(|word| word as u32);
+    /// Adds text in the state on top, of which there is one.
+    fn add(&mut self, text: &[u8]) -> Result<(), Refusal> {
+        let style = self.states[self.states.len() - 1].style.map(|word| word as u32);
         let joins = self.blocks.last().is_some_and(|block| block[..11] == style);
         if !joins && self.blocks.len() == self.most_blocks {
-            return Err(19);
+            return Err(Refusal::nowhere(19));
         }
         if text.len() > self.most_text - self.text.len() {
-            return Err(20);
+            return Err(Refusal::nowhere(20));
         }
         if !joins {
             let mut block = [0; 13];
@@ -153,7 +158,7 @@ fn is_unit(token: &Token) -> bool {
 }
 
 impl State {
-    /// A word that adds no text; its number is 0 if it has none.
+    /// A word that adds no text; its number is 0 if it has none. The refusal is that of the word.
     fn word(&mut self, word: u32, present: bool, number: i32) -> Result<(), u32> {
         match crate::NAMES.get(word as usize).copied().unwrap_or("") {
             "cf" => self.style[COLOUR] = fitting(number)?,

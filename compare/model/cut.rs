@@ -1,6 +1,6 @@
 //! 01's "Cutting", with the mended rules on byte 11.
 
-use crate::Token;
+use crate::{Cut, Refusal, Token};
 
 pub const TEXT: u32 = 0;
 pub const OPEN: u32 = 1;
@@ -38,6 +38,9 @@ const fn same(one: &[u8], two: &[u8]) -> bool {
 
 const U: u32 = number_of("u");
 
+/// What 01's rules tell of a token; its slice is put behind these words.
+type Told = [u32; 6];
+
 /// A part of a source, from the first place to before the second.
 #[derive(Clone, Copy)]
 struct Part<'a> {
@@ -46,32 +49,36 @@ struct Part<'a> {
     end: usize,
 }
 
-pub fn tokens(source: &[u8]) -> Result<Vec<Token>, u32> {
+pub fn tokens(source: &[u8]) -> Cut {
     if source.len() > 65_536 {
-        return Err(1);
+        return Err(Refusal::nowhere(1));
     }
     if source.iter().any(|byte| *byte > 127) {
-        return Err(2);
+        return Err(Refusal::nowhere(2));
     }
     let mut tokens = Vec::new();
     let Some(mut start) = source.iter().position(|byte| !white(*byte)) else {
         return Ok(tokens);
     };
     let end = source.iter().rposition(|byte| !white(*byte)).map_or(start, |last| last + 1);
+    let mut told = Vec::new();
     for place in start + 1..end {
         if special(source[place]) && source[place - 1] != b'\\' {
-            slice(Part { source, start, end: place }, &mut tokens)?;
+            let whole = Part { source, start, end: place };
+            slice(whole, &mut told).map_err(|number| whole.refused(number))?;
+            tokens.extend(told.drain(..).map(|told| whole.token(told)));
             start = place;
         }
     }
-    if source[start..end] != *b"}" {
-        return Err(6);
+    let last = Part { source, start, end };
+    if last.bytes() != b"}" {
+        return Err(last.refused(6));
     }
-    tokens.push(bare(CLOSE));
+    tokens.push(last.token(bare(CLOSE)));
     Ok(tokens)
 }
 
-fn slice(part: Part, tokens: &mut Vec<Token>) -> Result<(), u32> {
+fn slice(part: Part, tokens: &mut Vec<Told>) -> Result<(), u32> {
     match part.bytes().first() {
         None => return Ok(()),
         Some(b'{') => tokens.push(bare(OPEN)),
@@ -86,7 +93,7 @@ fn slice(part: Part, tokens: &mut Vec<Token>) -> Result<(), u32> {
     slice(part.after(1), tokens)
 }
 
-fn escape(part: Part, tokens: &mut Vec<Token>) -> Result<(), u32> {
+fn escape(part: Part, tokens: &mut Vec<Told>) -> Result<(), u32> {
     match part.after(1).bytes().first() {
         Some(b'{' | b'}' | b'\\') => tokens.push(text(part.after(1))),
         Some(b'\'') => {
@@ -106,7 +113,7 @@ fn escape(part: Part, tokens: &mut Vec<Token>) -> Result<(), u32> {
     Ok(())
 }
 
-fn word(part: Part, tokens: &mut Vec<Token>) -> Result<(), u32> {
+fn word(part: Part, tokens: &mut Vec<Told>) -> Result<(), u32> {
     let bytes = part.bytes();
     let stop = bytes.iter().position(|byte| ends_word(*byte)).unwrap_or(bytes.len());
     let named = bytes[..stop].strip_suffix(b";").unwrap_or(&bytes[..stop]);
@@ -129,17 +136,17 @@ fn word(part: Part, tokens: &mut Vec<Token>) -> Result<(), u32> {
     Ok(())
 }
 
-fn plain_tail(part: Part, tokens: &mut Vec<Token>) {
+fn plain_tail(part: Part, tokens: &mut Vec<Told>) {
     if !part.bytes().iter().all(|byte| white(*byte)) {
         tokens.push(text(part));
     }
 }
 
-fn text(part: Part) -> Token {
-    [TEXT, 0, 0, 0, part.start as u32, (part.end - part.start) as u32]
+fn text(part: Part) -> Told {
+    [TEXT, 0, 0, 0, part.start as u32, part.bytes().len() as u32]
 }
 
-fn bare(kind: u32) -> Token {
+fn bare(kind: u32) -> Told {
     [kind, 0, 0, 0, 0, 0]
 }
 
@@ -184,5 +191,16 @@ impl<'a> Part<'a> {
     /// Without so many bytes in front, or the empty part at its end.
     fn after(self, bytes: usize) -> Self {
         Part { start: (self.start + bytes).min(self.end), ..self }
+    }
+
+    /// A token that was cut from this slice.
+    fn token(self, [kind, word, present, number, place, length]: Told) -> Token {
+        let slice = [self.start, self.bytes().len()].map(|number| number as u32);
+        [kind, word, present, number, place, length, slice[0], slice[1]]
+    }
+
+    /// A refusal that this slice caused.
+    fn refused(self, number: u32) -> Refusal {
+        Refusal { number, place: self.start as u32 }
     }
 }

@@ -1,7 +1,7 @@
 //! 01's "Header walk".
 
 use crate::cut::{number_of, CLOSE, IGNORABLE, LINE_BREAK, OPEN, TEXT, WORD};
-use crate::{Rooms, Token, COLOURS, FONTS, WIDTHS};
+use crate::{Refusal, Rooms, Token, COLOURS, FONTS, WIDTHS};
 use std::collections::BTreeMap;
 
 const FONTTBL: u32 = number_of("fonttbl");
@@ -30,20 +30,20 @@ enum Group {
     Colours,
 }
 
-pub fn walk(source: &[u8], tokens: &[Token], rooms: &Rooms) -> Result<Header, u32> {
+pub fn walk(source: &[u8], tokens: &[Token], rooms: &Rooms) -> Result<Header, Refusal> {
     let mut header =
         Header { passed: vec![false; tokens.len()], fonts: Fonts::new(), colours: Vec::new() };
     let most = |room: usize| MOST.min(rooms[room] / WIDTHS[room]);
     let mut at = 0;
     while at + 1 < tokens.len() {
-        let Some(group) = group(&tokens[at..]) else {
+        let Some((group, word)) = group(&tokens[at..]) else {
             at += 1;
             continue;
         };
         let end = at + length(&tokens[at..]);
         let inside = &tokens[at + 1..end];
         if !matches!(group, Group::Hidden) && inside[0][0] == LINE_BREAK {
-            return Err(10);
+            return Err(Refusal::at(10, word));
         }
         match group {
             Group::Hidden => {}
@@ -56,14 +56,16 @@ pub fn walk(source: &[u8], tokens: &[Token], rooms: &Rooms) -> Result<Header, u3
     Ok(header)
 }
 
-fn group(tokens: &[Token]) -> Option<Group> {
+/// What the first token behind a bracket and line breaks makes of the group, and that token.
+fn group(tokens: &[Token]) -> Option<(Group, &Token)> {
     if tokens[0][0] != OPEN {
         return None;
     }
-    match tokens[1..].iter().find(|token| token[0] != LINE_BREAK)? {
-        [IGNORABLE, ..] | [WORD, STYLESHEET, 0, ..] => Some(Group::Hidden),
-        [WORD, FONTTBL, 0, ..] => Some(Group::Fonts),
-        [WORD, COLORTBL, 0, ..] => Some(Group::Colours),
+    let first = tokens[1..].iter().find(|token| token[0] != LINE_BREAK)?;
+    match first {
+        [IGNORABLE, ..] | [WORD, STYLESHEET, 0, ..] => Some((Group::Hidden, first)),
+        [WORD, FONTTBL, 0, ..] => Some((Group::Fonts, first)),
+        [WORD, COLORTBL, 0, ..] => Some((Group::Colours, first)),
         _ => None,
     }
 }
@@ -84,7 +86,7 @@ fn length(tokens: &[Token]) -> usize {
     tokens.len()
 }
 
-fn fonts(source: &[u8], tokens: &[Token], most: usize) -> Result<Fonts, u32> {
+fn fonts(source: &[u8], tokens: &[Token], most: usize) -> Result<Fonts, Refusal> {
     let mut fonts = Fonts::new();
     let mut key = 0;
     let mut name = [0, 0];
@@ -93,11 +95,11 @@ fn fonts(source: &[u8], tokens: &[Token], most: usize) -> Result<Fonts, u32> {
             [WORD, F, present, number, ..] => {
                 store(&mut fonts, key, name, most)?;
                 if present == 0 {
-                    return Err(11);
+                    return Err(Refusal::at(11, token));
                 }
                 key = number % 65_536;
             }
-            [TEXT, _, _, _, place, length] => name = without_semicolons(source, place, length),
+            [TEXT, _, _, _, place, length, ..] => name = without_semicolons(source, place, length),
             [CLOSE, ..] => store(&mut fonts, key, name, most)?,
             _ => {}
         }
@@ -105,9 +107,9 @@ fn fonts(source: &[u8], tokens: &[Token], most: usize) -> Result<Fonts, u32> {
     Ok(fonts)
 }
 
-fn store(fonts: &mut Fonts, key: u32, name: [u32; 2], most: usize) -> Result<(), u32> {
+fn store(fonts: &mut Fonts, key: u32, name: [u32; 2], most: usize) -> Result<(), Refusal> {
     if !fonts.contains_key(&key) && fonts.len() == most {
-        return Err(17);
+        return Err(Refusal::nowhere(17));
     }
     fonts.insert(key, name);
     Ok(())
@@ -121,7 +123,7 @@ fn without_semicolons(source: &[u8], place: u32, length: u32) -> [u32; 2] {
     }
 }
 
-fn colours(tokens: &[Token], most: usize) -> Result<Vec<u32>, u32> {
+fn colours(tokens: &[Token], most: usize) -> Result<Vec<u32>, Refusal> {
     let mut colours = Vec::new();
     let [mut red, mut green] = [0, 0];
     for token in tokens {
@@ -130,12 +132,12 @@ fn colours(tokens: &[Token], most: usize) -> Result<Vec<u32>, u32> {
             continue;
         };
         if matches!(word, RED | GREEN | BLUE) && number > 255 {
-            return Err(12);
+            return Err(Refusal::at(12, token));
         }
         match word {
             RED => red = number,
             GREEN => green = number,
-            BLUE if colours.len() == most => return Err(18),
+            BLUE if colours.len() == most => return Err(Refusal::nowhere(18)),
             BLUE => colours.push(65_536 * red + 256 * green + number),
             _ => {}
         }

@@ -1,6 +1,6 @@
-//! A model of both readings, written from document 01 and the mended rules of docs/DIFFERENCES.md.
-//! It knows neither the crate nor our library, and takes the shortest way that a rule allows: it
-//! judges what the crate has no answer for.
+//! A model of both readings, written from document 01, request A4 and the mended rules of
+//! docs/DIFFERENCES.md. It knows neither the crate nor our library, and takes the shortest way that
+//! a rule allows: it judges what the crate has no answer for, as are slices and refusals' places.
 //!
 //!   cut      tokens
 //!   header   the walk and the tables
@@ -14,7 +14,11 @@ mod units;
 
 pub use cut::NAMES;
 
-pub type Token = [u32; 6];
+/// 01's six words, then place and length of the slice that the token was cut from.
+pub const TOKEN_WORDS: usize = 8;
+pub type Token = [u32; TOKEN_WORDS];
+/// The word that has the place of the slice.
+const SLICE: usize = 6;
 /// Key, place and length of the name.
 pub type Font = [u32; 3];
 pub type Block = [u32; 13];
@@ -35,17 +39,31 @@ pub const BLOCKS: usize = 3;
 pub const TEXT: usize = 4;
 pub const ROOM_NAMES: [&str; 5] = ["token", "font", "colour", "block", "text"];
 /// Elements of a record: words, and bytes of the text.
-pub const WIDTHS: [usize; 5] = [6, 3, 1, 13, 1];
+pub const WIDTHS: [usize; 5] = [TOKEN_WORDS, 3, 1, 13, 1];
 
 /// Elements lent, record or not.
 pub type Rooms = [usize; 5];
 /// Records that the extractor's rooms hold.
 pub const EXTRACTOR: [usize; 5] = [1_024, 256, 256, 128, 8_192];
 
-/// The answer; nothing but the refusal number if that is not 0.
+/// A refusal's number, and the place of the slice that caused it or that its token was cut from; 0
+/// for a number that has none.
+#[derive(Debug, Clone, Copy, Default, PartialEq, Eq)]
+pub struct Refusal {
+    pub number: u32,
+    pub place: u32,
+}
+
+/// The tokens of a letter.
+pub type Cut = Result<Vec<Token>, Refusal>;
+
+/// Refusal number, place and the five counts.
+pub type Numbers = [u32; 7];
+
+/// The answer; nothing but the refusal if its number is not 0.
 #[derive(Debug, Clone, Default, PartialEq, Eq)]
 pub struct Answer {
-    pub refusal: u32,
+    pub refusal: Refusal,
     pub tokens: Vec<Token>,
     pub fonts: Vec<Font>,
     pub colours: Vec<u32>,
@@ -62,11 +80,23 @@ pub struct Met {
     pub ill_formed: bool,
 }
 
+impl Refusal {
+    /// One that has no place.
+    pub fn nowhere(number: u32) -> Self {
+        Refusal { number, place: 0 }
+    }
+
+    /// One that a token met.
+    fn at(number: u32, token: &Token) -> Self {
+        Refusal { number, place: token[SLICE] }
+    }
+}
+
 impl Answer {
-    /// Refusal number and counts.
-    pub fn numbers(&self) -> [u32; 6] {
+    pub fn numbers(&self) -> Numbers {
+        let Refusal { number, place } = self.refusal;
         let [tokens, fonts, colours, blocks, text] = self.counts().map(|count| count as u32);
-        [self.refusal, tokens, fonts, colours, blocks, text]
+        [number, place, tokens, fonts, colours, blocks, text]
     }
 
     pub fn counts(&self) -> [usize; 5] {
@@ -90,6 +120,20 @@ impl Answer {
     }
 }
 
+/// Cuts a source of any length and bytes, in a room that holds everything.
+pub fn cut(source: &[u8]) -> Cut {
+    cut::tokens(source)
+}
+
+/// What a token room of so many words shows of a cutting.
+pub fn in_room(cut: &Cut, words: usize) -> Result<&[Token], Refusal> {
+    match cut {
+        Err(refusal) => Err(*refusal),
+        Ok(tokens) if tokens.len() > words / TOKEN_WORDS => Err(Refusal::nowhere(7)),
+        Ok(tokens) => Ok(tokens),
+    }
+}
+
 /// Reads a source of any length and bytes in rooms of any sizes.
 pub fn read(source: &[u8], kind: Kind, rooms: &Rooms) -> (Answer, Met) {
     let mut met = Met::default();
@@ -100,21 +144,19 @@ pub fn read(source: &[u8], kind: Kind, rooms: &Rooms) -> (Answer, Met) {
     (answer, met)
 }
 
-fn answer(source: &[u8], kind: Kind, rooms: &Rooms, met: &mut Met) -> Result<Answer, u32> {
-    let tokens = cut::tokens(source)?;
-    if tokens.len() > rooms[TOKENS] / WIDTHS[TOKENS] {
-        return Err(7);
-    }
-    let first = tokens.first().ok_or(8_u32)?;
+fn answer(source: &[u8], kind: Kind, rooms: &Rooms, met: &mut Met) -> Result<Answer, Refusal> {
+    let cut = cut(source);
+    let tokens = in_room(&cut, rooms[TOKENS])?;
+    let first = tokens.first().ok_or(Refusal::nowhere(8))?;
     if first[0] != cut::OPEN {
-        return Err(9);
+        return Err(Refusal::at(9, first));
     }
-    let header = header::walk(source, &tokens, rooms)?;
-    let body = body::Body::read(source, &tokens, &header.passed, kind, rooms, met)?;
+    let header = header::walk(source, tokens, rooms)?;
+    let body = body::Body::read(source, tokens, &header.passed, kind, rooms, met)?;
     let fonts = header.fonts.iter().map(|(key, [place, length])| [*key, *place, *length]).collect();
     Ok(Answer {
-        refusal: 0,
-        tokens,
+        refusal: Refusal::default(),
+        tokens: tokens.to_vec(),
         fonts,
         colours: header.colours,
         blocks: body.blocks,

@@ -20,8 +20,9 @@ const TIMES: usize = 2;
 
 const HEADING: &str = "\
 pairs on which both builds of the crate were asked as well as ours,
-pairs outside 01's domain, asked of ours alone; pairs of calls in small rooms,
-the same for paragraph reading. The numbers are those of the model.";
+pairs outside 01's domain, asked of ours alone; those of both whose first letter
+is refused at a place that is not 0; pairs of calls in small rooms, the same for
+paragraph reading. The numbers are those of the model.";
 
 type Letters = [Vec<u8>; 2];
 

@@ -4,7 +4,7 @@ use crate::ours::{self, Slices};
 use common::bridge::WROTE_OUTSIDE;
 use common::room::{Room, Source};
 use common::whole::{Document, Whole};
-use model::{Answer, Kind, Rooms, ROOM_NAMES};
+use model::{Answer, Kind, Numbers, Rooms, ROOM_NAMES, TOKEN_WORDS};
 
 /// The source and five rooms full of junk, between guards.
 #[derive(Default)]
@@ -26,7 +26,7 @@ pub struct Call {
 
 /// Our answer, where it is not the one expected.
 pub struct Fault {
-    pub numbers: [u32; 6],
+    pub numbers: Numbers,
     pub what: String,
 }
 
@@ -40,16 +40,18 @@ impl Lent {
         }
     }
 
-    /// Makes a call that was sent ahead, and tells what the rooms hold in the crate's form; or the
-    /// numbers, if there is no such answer.
-    pub fn told(&mut self, call: &Call) -> Result<Whole, [u32; 6]> {
+    /// Makes a call that was sent ahead, and tells what the rooms hold in the crate's form, which
+    /// has no places of refusals; or the numbers, if there is no such answer.
+    pub fn told(&mut self, call: &Call) -> Result<Whole, Numbers> {
         let numbers = self.answered(call);
         if !self.guards_hold() {
             return Err(WROTE_OUTSIDE);
         }
         match numbers {
-            [0, counts @ ..] => self.document(&call.letter, counts).map(Whole::Read).ok_or(numbers),
-            [refusal, 0, 0, 0, 0, 0] => Ok(Whole::Refused(refusal)),
+            [0, 0, counts @ ..] => {
+                self.document(&call.letter, counts).map(Whole::Read).ok_or(numbers)
+            }
+            [refusal, _, 0, 0, 0, 0, 0] if refusal != 0 => Ok(Whole::Refused(refusal)),
             _ => Err(numbers),
         }
     }
@@ -62,8 +64,9 @@ impl Lent {
             let name = letter.get(*place as usize..)?.get(..*length as usize)?;
             Some((*key, name.to_vec()))
         });
+        let tokens = words(0).as_chunks::<TOKEN_WORDS>().0.get(..tokens)?.iter();
         Some(Document {
-            tokens: words(0).as_chunks().0.get(..tokens)?.to_vec(),
+            tokens: tokens.filter_map(|token| token.first_chunk().copied()).collect(),
             fonts: fonts.collect::<Option<_>>()?,
             colours: words(2).get(..colours)?.to_vec(),
             blocks: words(3).as_chunks().0.get(..blocks)?.to_vec(),
@@ -71,7 +74,7 @@ impl Lent {
         })
     }
 
-    fn answered(&mut self, call: &Call) -> [u32; 6] {
+    fn answered(&mut self, call: &Call) -> Numbers {
         let Call { letter, kind, rooms, junk, .. } = call;
         let junk = *junk;
         let [a, b, c, d] = &mut self.words;
@@ -89,12 +92,12 @@ impl Lent {
         self.words.iter().all(Room::guards_hold) && self.text.guards_hold()
     }
 
-    fn wrong(&self, numbers: [u32; 6], expected: &Answer) -> Option<String> {
+    fn wrong(&self, numbers: Numbers, expected: &Answer) -> Option<String> {
         if !self.guards_hold() || numbers == WROTE_OUTSIDE {
             return Some("an element outside a room was written".to_string());
         }
         if numbers != expected.numbers() {
-            return Some("another refusal or count".to_string());
+            return Some("another refusal, place or count".to_string());
         }
         for (i, front) in expected.words().into_iter().enumerate() {
             if let Some(wrong) = wrong_element(self.words[i].lent(), front) {

@@ -1,7 +1,7 @@
-//! The extractor's listing, as 01's "Sample letters" gives its form.
+//! The extractor's listing, as 01's "Sample letters" and request A4 give its form.
 
 use common::whole::{Block, Document, Whole};
-use model::{Answer, Font, Rooms, WIDTHS};
+use model::{Answer, Font, Refusal, Rooms, WIDTHS};
 
 /// Bytes of input that the extractor takes.
 pub const INPUT: usize = 8_192;
@@ -15,33 +15,33 @@ pub fn rooms() -> Rooms {
 
 pub fn of_model(letter: &[u8]) -> Vec<u8> {
     if letter.len() > INPUT {
-        return refused(1);
+        return refused(Refusal::nowhere(1));
     }
     let (answer, _) = model::read(letter, model::Kind::Plain, &rooms());
     of_answer(&answer)
 }
 
 pub fn of_answer(answer: &Answer) -> Vec<u8> {
-    if answer.refusal != 0 {
+    if answer.refusal.number != 0 {
         return refused(answer.refusal);
     }
     read(answer.tokens.len(), &answer.fonts, &answer.colours, &answer.blocks, &answer.text)
 }
 
-/// The crate's reading as a listing; it has no places of names, so the model's are taken.
-pub fn of_crate(whole: &Whole, places: &[Font]) -> Vec<u8> {
+/// The crate's reading as a listing; it has no places, so those of the model's answer are taken.
+pub fn of_crate(whole: &Whole, answer: &Answer) -> Vec<u8> {
     let Document { tokens, fonts, colours, blocks, text } = match whole {
-        Whole::Refused(number) => return refused(*number),
+        Whole::Refused(number) => return refused(Refusal { number: *number, ..answer.refusal }),
         Whole::Read(document) => document,
     };
-    let place = |i: usize| places.get(i).map_or(0, |font| font[1]);
+    let place = |i: usize| answer.fonts.get(i).map_or(0, |font| font[1]);
     let font = |(i, (key, name)): (usize, &(u32, Vec<u8>))| [*key, place(i), name.len() as u32];
     let fonts: Vec<Font> = fonts.iter().enumerate().map(font).collect();
     read(tokens.len(), &fonts, colours, blocks, text)
 }
 
-fn refused(number: u32) -> Vec<u8> {
-    format!("{number} 0 0 0 0 0\n").into_bytes()
+fn refused(Refusal { number, place }: Refusal) -> Vec<u8> {
+    format!("{number} {place} 0 0 0 0 0\n").into_bytes()
 }
 
 fn read(tokens: usize, fonts: &[Font], colours: &[u32], blocks: &[Block], text: &[u8]) -> Vec<u8> {

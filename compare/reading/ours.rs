@@ -2,7 +2,7 @@
 //! the model in its place.
 
 use crate::lent::Call;
-use model::Kind;
+use model::{Kind, Numbers};
 
 #[cfg(archive)]
 pub use library::Slices;
@@ -39,9 +39,9 @@ pub fn send(calls: &[Call]) {
     bridge::send(&requests);
 }
 
-/// Reads a source of any length and bytes in rooms of any sizes: refusal number and counts.
+/// Reads a source of any length and bytes in rooms of any sizes.
 #[cfg(archive)]
-pub fn read(kind: Kind, source: &[u8], rooms: Slices) -> [u32; 6] {
+pub fn read(kind: Kind, source: &[u8], rooms: Slices) -> Numbers {
     match kind {
         Kind::Plain => library::read_plain(source, rooms),
         Kind::Paragraphs => library::read_paragraphs(source, rooms),
@@ -49,12 +49,12 @@ pub fn read(kind: Kind, source: &[u8], rooms: Slices) -> [u32; 6] {
 }
 
 #[cfg(bridge)]
-pub fn read(_kind: Kind, _source: &[u8], rooms: Slices) -> [u32; 6] {
+pub fn read(_kind: Kind, _source: &[u8], rooms: Slices) -> Numbers {
     common::bridge::receive(rooms.words, rooms.text)
 }
 
 #[cfg(not(any(archive, bridge)))]
-pub fn read(kind: Kind, source: &[u8], rooms: Slices) -> [u32; 6] {
+pub fn read(kind: Kind, source: &[u8], rooms: Slices) -> Numbers {
     let Slices { words, text } = rooms;
     let [tokens, fonts, colours, blocks] = words.each_ref().map(|room| room.len());
     let (answer, _) = model::read(source, kind, &[tokens, fonts, colours, blocks, text.len()]);

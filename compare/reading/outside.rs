@@ -2,6 +2,7 @@
 //! asked all the same, where that is safe, and what it did is counted and shown.
 
 use crate::report;
+use common::cut::are_told;
 use common::oracle::{self, Reading};
 use common::whole::Whole;
 use model::{Answer, Met};
@@ -23,7 +24,7 @@ pub enum Outside {
 impl Outside {
     /// None for a letter in 01's domain.
     pub fn of(answer: &Answer, met: &Met) -> Option<Outside> {
-        match answer.refusal {
+        match answer.refusal.number {
             1 => Some(Outside::TooLong),
             2 => Some(Outside::NotAscii),
             _ if met.large_skip => Some(Outside::LargeSkip),
@@ -119,15 +120,15 @@ impl Tallies {
     }
 }
 
-/// Whether the model's answer is the crate's.
+/// Whether the model's answer is the crate's, as far as the crate tells it.
 pub fn agrees(letter: &[u8], answer: &Answer, whole: &Whole) -> bool {
     match whole {
-        Whole::Refused(number) => answer.refusal == *number,
+        Whole::Refused(number) => answer.refusal.number == *number,
         Whole::Read(document) => {
             let fonts = answer.fonts.iter().map(|font| (font[0], report::name(letter, font)));
             let told = document.fonts.iter().map(|(key, name)| (*key, name.as_slice()));
-            answer.refusal == 0
-                && answer.tokens == document.tokens
+            answer.refusal.number == 0
+                && are_told(&document.tokens, &answer.tokens)
                 && fonts.eq(told)
                 && answer.colours == document.colours
                 && answer.blocks == document.blocks

@@ -10,8 +10,9 @@ use common::{fragments, grammar, letters, mutate, oracle, reading_grammar};
 
 const HEADING: &str = "\
 letters on which both builds of the crate were compared,
-letters that the model judged alone, calls in small rooms (by the model),
-the same for paragraph reading. A number with zeros only was not covered.";
+letters that the model judged alone, those of both whose place is not 0,
+calls in small rooms (by the model), the same for paragraph reading.
+A number with zeros only was not covered.";
 
 /// True if there is no difference.
 pub fn run(plan: &Plan) -> bool {
@@ -42,11 +43,12 @@ fn sequences(judge: &mut Judge, depth: usize) {
 
 fn listed(judge: &mut Judge) {
     type Family = fn(&mut letters::Sink);
-    const FAMILIES: [(&str, Family); 8] = [
+    const FAMILIES: [(&str, Family); 9] = [
         ("words with numbers", fragments::words_with_numbers),
         ("pairs of words", fragments::pairs_of_words),
         ("states, fonts, colours", fragments::limits),
         ("each byte in each place", every_byte_everywhere),
+        ("each fault in each place", faults_everywhere),
         ("bytes above 127, length", outer_limits),
         ("the cutter's letters", letters::every_byte_everywhere),
         ("the cutter's numbers", letters::numbers),
@@ -79,6 +81,11 @@ fn every_byte_everywhere(sink: &mut letters::Sink) {
     }
 }
 
+/// Each refusal, wherever its slice stands.
+fn faults_everywhere(sink: &mut letters::Sink) {
+    telling().for_each(|letter| fragments::faults_everywhere(letter, sink));
+}
+
 /// Refusals 1 and 2, and the longest letters that do not get them.
 fn outer_limits(sink: &mut letters::Sink) {
     for letter in telling() {
@@ -101,7 +108,10 @@ fn drawn(judge: &mut Judge, seed: u64, count: usize) {
     let random = |salt: u64| Random::new(seed ^ salt);
     part(judge, "sequences at random", |judge| {
         let mut random = random(0x50_0B);
-        (0..count).for_each(|_| judge.letter(&fragments::soup(&mut random, 24)));
+        (0..count).for_each(|_| {
+            let letter = fragments::soup(&mut random, 24);
+            judge.letter(&behind_front(&mut random, letter));
+        });
     });
     part(judge, "by the grammar", |judge| {
         let mut random = random(0x6_4A3A);
@@ -131,9 +141,18 @@ fn drawn(judge: &mut Judge, seed: u64, count: usize) {
 /// A letter of the grammar, mostly short.
 pub fn letter(random: &mut Random) -> Vec<u8> {
     let size = size(random);
-    let mut letter = reading_grammar::letter(random, size);
+    let letter = reading_grammar::letter(random, size);
+    let mut letter = behind_front(random, letter);
     letter.truncate(SOURCE_LIMIT);
     letter
+}
+
+/// Now and then something in front that moves every place.
+fn behind_front(random: &mut Random, letter: Vec<u8>) -> Vec<u8> {
+    if !random.once_in(4) {
+        return letter;
+    }
+    [random.pick(&fragments::FRONTS).as_bytes(), &letter].concat()
 }
 
 /// Mostly short: there each rule meets each other soonest.

@@ -4,7 +4,7 @@ use crate::lent::{Call, Fault, Lent};
 use crate::ours;
 use common::oracle::Reading;
 use common::whole::Whole;
-use model::{Answer, Kind, KINDS};
+use model::{Answer, Kind, Refusal, KINDS};
 
 /// Bytes of a letter or a text, and records, that are shown.
 const SHOWN_BYTES: usize = 200;
@@ -64,8 +64,8 @@ pub fn reading(reading: &Reading<Whole>) -> String {
 }
 
 pub fn answer(letter: &[u8], answer: &Answer) -> String {
-    if answer.refusal != 0 {
-        return format!("refusal {}", answer.refusal);
+    if let Refusal { number: number @ 1.., place } = answer.refusal {
+        return format!("refusal {number} at {place}");
     }
     format!(
         "{} tokens {}, fonts {}, colours {}, blocks {}, text {}",

@@ -1,7 +1,7 @@
 //! What the letters have covered, so that a run that tested little shows.
 
 use common::cut::WORD;
-use model::{Answer, Kind};
+use model::{Answer, Kind, Refusal};
 
 const REFUSALS: usize = 21;
 
@@ -10,6 +10,8 @@ pub struct Seen {
     with_crate: [u64; REFUSALS],
     /// Letters outside the equality with the crate, which was not compared.
     by_model: [u64; REFUSALS],
+    /// Letters of both sorts whose refusal has a place that is not 0.
+    placed: [u64; REFUSALS],
     /// Calls in rooms that may not hold the answer, plain and by paragraphs.
     small: [[u64; REFUSALS]; 2],
     words: [u64; 50],
@@ -21,6 +23,7 @@ impl Seen {
         Seen {
             with_crate: [0; REFUSALS],
             by_model: [0; REFUSALS],
+            placed: [0; REFUSALS],
             small: [[0; REFUSALS]; 2],
             words: [0; 50],
             most: [0; 5],
@@ -29,7 +32,9 @@ impl Seen {
 
     pub fn letter(&mut self, answer: &Answer, with_crate: bool) {
         let counts = if with_crate { &mut self.with_crate } else { &mut self.by_model };
-        counts[answer.refusal as usize] += 1;
+        let Refusal { number, place } = answer.refusal;
+        counts[number as usize] += 1;
+        self.placed[number as usize] += u64::from(place > 0);
         for (most, count) in self.most.iter_mut().zip(answer.counts()) {
             *most = count.max(*most);
         }
@@ -39,7 +44,7 @@ impl Seen {
     }
 
     pub fn small_rooms(&mut self, kind: Kind, answer: &Answer) {
-        self.small[kind as usize][answer.refusal as usize] += 1;
+        self.small[kind as usize][answer.refusal.number as usize] += 1;
     }
 
     pub fn successes(&self) -> u64 {
@@ -49,13 +54,18 @@ impl Seen {
     /// The heading says what the columns count; the second is named `alone`.
     pub fn print(&self, heading: &str, alone: &str) {
         println!("\nBy refusal number: {heading}");
-        let columns = ["crate", alone, "small", "paragraphs"].map(|name| format!("{name:>13}"));
+        let columns = ["crate", alone, "placed", "small", "paragraphs"];
+        let columns = columns.map(|name| format!("{name:>13}"));
         println!(" no.{}", columns.concat());
         for number in 0..REFUSALS {
             let small = self.small.map(|counts| counts[number]);
             println!(
-                "{number:4} {:12} {:12} {:12} {:12}",
-                self.with_crate[number], self.by_model[number], small[0], small[1]
+                "{number:4} {:12} {:12} {:12} {:12} {:12}",
+                self.with_crate[number],
+                self.by_model[number],
+                self.placed[number],
+                small[0],
+                small[1]
             );
         }
         let [tokens, fonts, colours, blocks, text] = self.most;

@@ -1,21 +1,22 @@
 //! Sizes of rooms.
 
 use common::random::Random;
-use model::{Answer, Rooms, BLOCKS, TEXT, TOKENS, WIDTHS};
+use model::{Answer, Rooms, BLOCKS, TEXT, TOKENS, TOKEN_WORDS, WIDTHS};
 
 /// Rooms that hold everything, whatever the answer is: no byte gives more than one token, font,
 /// colour or byte of text, and no three bytes more than one block.
 pub fn ample(bytes: usize) -> Rooms {
     // More than the 256 that count.
     let fonts = bytes.min(260);
-    [bytes * 6 + 11, fonts * 3 + 2, fonts + 1, (bytes / 3 + 2) * 13 + 5, bytes + 3]
+    let tokens = (bytes + 2) * TOKEN_WORDS - 1;
+    [tokens, fonts * 3 + 2, fonts + 1, (bytes / 3 + 2) * 13 + 5, bytes + 3]
 }
 
 /// Rooms that hold the answer, often with little to spare for tokens, blocks and text. A table that
 /// a later one replaces may have needed more than the answer's, so theirs stay ample.
 pub fn large(random: &mut Random, answer: &Answer, bytes: usize) -> Rooms {
     let mut rooms = ample(bytes);
-    if answer.refusal == 0 && !(bytes < 100 && random.once_in(4)) {
+    if answer.refusal.number == 0 && !(bytes < 100 && random.once_in(4)) {
         let counts = answer.counts();
         for i in [TOKENS, BLOCKS, TEXT] {
             rooms[i] = counts[i] * WIDTHS[i] + random.below(3 * WIDTHS[i] + 1);
@@ -31,7 +32,7 @@ pub fn tight(random: &mut Random, answer: &Answer, bytes: usize) -> Rooms {
     for (i, room) in rooms.iter_mut().enumerate() {
         if random.below(5) < 2 {
             // How far a refused letter came is not known: small rooms may stop it sooner.
-            let records = if answer.refusal == 0 { counts[i] } else { random.below(8) };
+            let records = if answer.refusal.number == 0 { counts[i] } else { random.below(8) };
             *room = around(random, records * WIDTHS[i], WIDTHS[i]);
         }
     }

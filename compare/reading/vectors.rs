@@ -144,21 +144,22 @@ impl List {
             return (1, false);
         }
         let (answer, met) = model::read(letter, Kind::Plain, &listing::rooms());
-        let limited = matches!(answer.refusal, 7 | 16..);
+        let refusal = answer.refusal.number;
+        let limited = matches!(refusal, 7 | 16..);
         if limited || Outside::of(&answer, &met).is_some() {
-            return (answer.refusal, false);
+            return (refusal, false);
         }
         let text = std::str::from_utf8(letter).expect("a letter for the crate is ASCII");
         let says = oracle::whole_readings(text, false);
         let same = |reading: &Reading<_>| match reading {
-            Reading::Answered(whole) => listing::of_crate(whole, &answer.fonts) == listing,
+            Reading::Answered(whole) => listing::of_crate(whole, &answer) == listing,
             Reading::Panicked(_) => false,
         };
         if !says.iter().all(same) {
             self.differences += 1;
             println!("{}", report::model_against_crate(letter, Kind::Plain, &answer, &says));
         }
-        (answer.refusal, true)
+        (refusal, true)
     }
 
     fn file(&self) -> Vec<u8> {

@@ -2,7 +2,7 @@
 //! for what stands in hidden groups that the header walk reaches and that a brace of their own
 //! closes. This walk shares no code with the model's.
 
-use common::cut::{Cut, Record, CLOSE, IGNORABLE, LINE_BREAK, NAMES, OPEN, WORD};
+use common::cut::{Cut, Told, CLOSE, IGNORABLE, LINE_BREAK, NAMES, OPEN, WORD};
 use common::oracle::{self, Reading};
 use std::ops::Range;
 
@@ -20,7 +20,7 @@ enum Group {
 }
 
 /// The crate's tokens; none if it refuses the letter.
-pub fn tokens(letter: &[u8]) -> Option<Vec<Record>> {
+pub fn tokens(letter: &[u8]) -> Option<Vec<Told>> {
     let text = std::str::from_utf8(letter).ok()?;
     match oracle::wrapping_reading(text) {
         Reading::Answered(Cut::Tokens(tokens)) => Some(tokens),
@@ -42,7 +42,7 @@ pub fn veil(letter: &[u8]) -> Option<Vec<Step<'_>>> {
     Some(steps)
 }
 
-fn step<'a>(letter: &'a [u8], &[kind, word, present, number, place, length]: &Record) -> Step<'a> {
+fn step<'a>(letter: &'a [u8], &[kind, word, present, number, place, length]: &Told) -> Step<'a> {
     Step::Token([kind, word, present, number], &letter[place as usize..][..length as usize])
 }
 
@@ -55,7 +55,7 @@ pub fn is_hidden(group: &[u8]) -> bool {
 }
 
 /// The hidden groups that the walk reaches, brace to brace, without one that is never closed.
-pub fn hidden_groups(tokens: &[Record]) -> Vec<Range<usize>> {
+pub fn hidden_groups(tokens: &[Told]) -> Vec<Range<usize>> {
     let mut groups = Vec::new();
     let mut at = 0;
     while at + 1 < tokens.len() {
@@ -74,7 +74,7 @@ pub fn hidden_groups(tokens: &[Record]) -> Vec<Range<usize>> {
     groups
 }
 
-fn group(tokens: &[Record]) -> Option<Group> {
+fn group(tokens: &[Told]) -> Option<Group> {
     if tokens[0][0] != OPEN {
         return None;
     }
@@ -90,7 +90,7 @@ fn group(tokens: &[Record]) -> Option<Group> {
 }
 
 /// Tokens up to the closing brace that matches the first one's opening brace.
-fn length(tokens: &[Record]) -> Option<usize> {
+fn length(tokens: &[Told]) -> Option<usize> {
     let mut open = 0;
     let closed = tokens.iter().position(|token| {
         match token[0] {

@@ -50,7 +50,7 @@ mod bridged {
     }
 
     fn received(words: &mut [u32], bytes: &mut [u8]) -> [u64; 3] {
-        let [refusal, one, one_high, two, two_high, _] =
+        let [refusal, one, one_high, two, two_high, ..] =
             bridge::receive([&mut [], &mut [], &mut [], words], bytes).map(u64::from);
         [refusal, one_high << 32 | one, two_high << 32 | two]
     }

@@ -1,16 +1,18 @@
 //! The list of answers and its file.
 //!
 //! All numbers are u32, little endian. For each answer: the letter's length n, the words of the
-//! room lent, the refusal number, the token count c, then the n bytes and c times six words.
+//! room lent, the refusal number, its place, the token count c, then the n bytes and c records.
 
-use common::cut::{Cut, Record};
 use common::oracle::{self, Reading};
 use common::random::Random;
+use model::{Cut, Refusal, Token, TOKEN_WORDS};
 use std::collections::{BTreeMap, BTreeSet};
 
 pub const LONGEST_LETTER: usize = 400;
 pub const LARGEST_ROOM: usize = 600;
-const LARGEST_FILE: usize = 400_000;
+const LARGEST_FILE: usize = 500_000;
+/// The numbers before a letter.
+const HEAD: usize = 5;
 
 /// A letter and the words of the room lent. The length stands first: short letters come first.
 #[derive(PartialEq, Eq, PartialOrd, Ord)]
@@ -20,9 +22,9 @@ struct Call {
     words: usize,
 }
 
-/// The refusal number and the records of each call.
+/// The refusal, of number 0 for success, and the records of each call.
 pub struct List {
-    answers: BTreeMap<Call, (u32, Vec<Record>)>,
+    answers: BTreeMap<Call, (Refusal, Vec<Token>)>,
     bytes: usize,
     random: Random,
 }
@@ -38,19 +40,23 @@ impl List {
 
     /// Adds a letter in a room of about the right size.
     pub fn add(&mut self, letter: &[u8]) {
-        let cut = crate_answer(letter);
-        let spare = *self.random.pick(&[0, 0, 1, 5, 6, 7, 13]);
-        self.put(letter, &cut, cut.words() + spare);
+        let cut = answer(letter);
+        let spares = [0, 0, 1, TOKEN_WORDS - 1, TOKEN_WORDS, TOKEN_WORDS + 1, 2 * TOKEN_WORDS + 1];
+        let spare = *self.random.pick(&spares);
+        self.put(letter, &cut, enough(&cut) + spare);
     }
 
     /// Adds a letter in rooms from none to more than enough.
     pub fn add_in_rooms(&mut self, letter: &[u8]) {
-        let cut = crate_answer(letter);
-        let enough = cut.words();
-        for words in [0, 1, 5, 6, 7, enough, enough + 11] {
+        let cut = answer(letter);
+        let enough = enough(&cut);
+        for words in [0, 1, TOKEN_WORDS - 1, TOKEN_WORDS, TOKEN_WORDS + 1] {
             self.put(letter, &cut, words);
         }
-        for less in [1, 6] {
+        for words in [enough, enough + 2 * TOKEN_WORDS - 1] {
+            self.put(letter, &cut, words);
+        }
+        for less in [1, TOKEN_WORDS] {
             self.put(letter, &cut, enough.saturating_sub(less));
         }
     }
@@ -58,8 +64,11 @@ impl List {
     /// Adds what a room must show, unless the list has it or the letter or file gets too long.
     pub fn put(&mut self, letter: &[u8], cut: &Cut, words: usize) {
         let words = words.min(LARGEST_ROOM);
-        let (refusal, records) = cut.in_room(words);
-        let bytes = 16 + letter.len() + size_of_val(records);
+        let (refusal, records) = match model::in_room(cut, words) {
+            Ok(records) => (Refusal::default(), records),
+            Err(refusal) => (refusal, [].as_slice()),
+        };
+        let bytes = HEAD * size_of::<u32>() + letter.len() + size_of_val(records);
         let call = Call { length: letter.len(), letter: letter.to_vec(), words };
         let fits = letter.len() <= LONGEST_LETTER && self.bytes + bytes <= LARGEST_FILE;
         if fits && !self.answers.contains_key(&call) {
@@ -72,7 +81,9 @@ impl List {
         let mut file = Vec::with_capacity(self.bytes);
         for (call, (refusal, records)) in &self.answers {
             let (length, words) = (call.length as u32, call.words as u32);
-            for number in [length, words, *refusal, records.len() as u32] {
+            let Refusal { number, place } = *refusal;
+            let head: [u32; HEAD] = [length, words, number, place, records.len() as u32];
+            for number in head {
                 file.extend_from_slice(&number.to_le_bytes());
             }
             file.extend_from_slice(&call.letter);
@@ -89,7 +100,7 @@ impl List {
         let largest = self.answers.keys().map(|c| c.words).max().unwrap_or(0);
         let mut refusals = [0; 8];
         for (refusal, _) in self.answers.values() {
-            refusals[*refusal as usize] += 1;
+            refusals[refusal.number as usize] += 1;
         }
         println!("by refusal number, 0 to 7: {refusals:?}");
         println!("longest letter {longest} bytes, largest room {largest} words");
@@ -97,13 +108,23 @@ impl List {
     }
 }
 
-/// What both builds of the crate say.
-pub fn crate_answer(letter: &[u8]) -> Cut {
+/// The words of a room that is just large enough.
+fn enough(cut: &Cut) -> usize {
+    cut.as_ref().map_or(0, |records| records.len() * TOKEN_WORDS)
+}
+
+/// What both builds of the crate say, with the model's slices and places.
+pub fn answer(letter: &[u8]) -> Cut {
     let text = std::str::from_utf8(letter).expect("a letter for the crate is ASCII");
     let wrapping = oracle::wrapping_reading(text);
     assert_eq!(wrapping, oracle::checked_reading(text), "the two builds differ on {text:?}");
+    let cut = model::cut(letter);
     match wrapping {
-        Reading::Answered(cut) => cut,
+        Reading::Answered(told) => {
+            let answer = cut.as_deref().map_err(|refusal| refusal.number);
+            assert!(told.agrees(answer), "the model differs from the crate on {text:?}");
+            cut
+        }
         Reading::Panicked(message) => panic!("the crate panics on {text:?}: {message}"),
     }
 }

@@ -1,13 +1,14 @@
-//! Writes the crate's answers to a list of letters, for a program that replays them on our cutter.
-//! Only the crate is asked: our library is not linked.
+//! Writes the crate's answers to a list of letters, with the model's slices and places, for a
+//! program that replays them on our cutter. Our library is not linked.
 
 mod list;
 
-use common::cut::{Cut, NAMES, NOT_ASCII, RECORD_WORDS};
+use common::cut::{NAMES, NOT_ASCII};
 use common::letters::{braced, repeated, MARKS, NUMBERS, SPACES, TELLING};
 use common::random::Random;
 use common::{grammar, mutate, oracle};
-use list::{crate_answer, List, LARGEST_ROOM, LONGEST_LETTER};
+use list::{answer, List, LARGEST_ROOM, LONGEST_LETTER};
+use model::{Refusal, TOKEN_WORDS};
 use std::process::ExitCode;
 
 const USAGE: &str = "mode: vectors FILE [--seed N] [--count N]";
@@ -44,9 +45,9 @@ fn add_listed(list: &mut List) {
 
 /// As many tokens as the largest room holds, one less and more, and the longest letters.
 fn add_large(list: &mut List) {
-    const HELD: usize = LARGEST_ROOM / RECORD_WORDS;
+    const HELD: usize = LARGEST_ROOM / TOKEN_WORDS;
     for size in [HELD - 1, HELD, HELD + 1, LONGEST_LETTER] {
-        let cut = crate_answer(&repeated(b"{", size));
+        let cut = answer(&repeated(b"{", size));
         list.put(&repeated(b"{", size), &cut, LARGEST_ROOM);
         list.put(&repeated(b"{", size), &cut, LARGEST_ROOM - 1);
     }
@@ -68,8 +69,8 @@ fn add_above_127(list: &mut List) {
         b"{\\\xe2\x80\x94}",
     ];
     for letter in LETTERS {
-        for words in [0, 7, 30] {
-            list.put(letter, &Cut::Refused(NOT_ASCII), words);
+        for words in [0, TOKEN_WORDS + 1, 5 * TOKEN_WORDS] {
+            list.put(letter, &Err(Refusal::nowhere(NOT_ASCII)), words);
         }
     }
 }

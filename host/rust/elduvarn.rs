@@ -1,8 +1,9 @@
 //! Elduvarn for hosts in Rust: RTF letters are cut and read, lists of blocks are stored.
 //!
 //! The exported functions of `host/elduvarn.h` over slices. The caller lends the rooms, nothing is
-//! allocated, and an answer is what stands in them. A refusal is an error, and leaves every room
-//! zero. Behind what an answer counts, rooms are zero too. What was in a room is never read.
+//! allocated, and an answer is what stands in them. A refusal is an error, that of a letter with
+//! its place, and leaves every room zero. Behind what an answer counts, rooms are zero too. What
+//! was in a room is never read.
 //!
 //! Link the archive that `rt staticlib host` writes, `target/staticlib/libhost.a`. The archive is
 //! proved, this file is not. See `host/README.md`.
@@ -14,7 +15,7 @@ use std::fmt;
 use std::str::{from_utf8, Utf8Error};
 
 /// Words of a token's record.
-pub const TOKEN_WORDS: usize = 6;
+pub const TOKEN_WORDS: usize = 8;
 /// Words of a font's record.
 pub const FONT_WORDS: usize = 3;
 /// Words of a block's record.
@@ -28,7 +29,8 @@ pub const MOST_FONTS: usize = 256;
 pub const MOST_COLOURS: usize = 256;
 
 /// Kind (0 text, 1 open, 2 close, 3 line break, 4 ignorable, 5 word), word number, 1 if a number is
-/// present, that number modulo 2^32, source place, length.
+/// present, that number modulo 2^32, source place and length (of a text or an unknown word), source
+/// place and length of the slice that the token was cut from.
 pub type Token = [u32; TOKEN_WORDS];
 
 /// Key, source place and length of the name.
@@ -134,6 +136,11 @@ impl Refusal {
         self as u32
     }
 
+    /// Whether it carries a place: 3 to 6 and 9 to 16.
+    pub const fn has_place(self) -> bool {
+        matches!(self.number(), 3..=6 | 9..=16)
+    }
+
     /// Success for 0. The archive is proved to give no number but 0 and those above; a later one,
     /// with a refusal more, ends the program here.
     fn told(number: u32) -> Result<(), Refusal> {
@@ -153,18 +160,53 @@ impl fmt::Display for Refusal {
 
 impl Error for Refusal {}
 
+/// A letter's refusal, and where it is.
+#[derive(Clone, Copy, Debug, PartialEq, Eq, Hash)]
+pub struct Refused {
+    /// Why the letter is refused.
+    pub refusal: Refusal,
+    /// 3 to 6 and 9 to 16 carry the place of the slice; the others 0. It is the slice that is
+    /// refused, or that the refused token was cut from; for 10, that of the table's word. A place
+    /// counts the source's bytes from 0, white space in front too.
+    ///
+    /// A slice starts where the letter does, and at each `{`, `}`, `\` and line feed that has no
+    /// `\` before it. So the text behind a bracket belongs to the bracket's slice.
+    pub place: usize,
+}
+
+impl Refused {
+    /// Success for 0, as [`Refusal::told`] has it.
+    fn told(number: u32, place: u32) -> Result<(), Refused> {
+        Refusal::told(number).map_err(|refusal| Refused { refusal, place: place as usize })
+    }
+}
+
+impl fmt::Display for Refused {
+    fn fmt(&self, to: &mut fmt::Formatter<'_>) -> fmt::Result {
+        self.refusal.fmt(to)?;
+        if self.refusal.has_place() {
+            write!(to, ", at byte {}", self.place)?;
+        }
+        Ok(())
+    }
+}
+
+impl Error for Refused {}
+
 /// What the archive exports, as `host/elduvarn.h` declares it. Each slice is a pointer, not null
 /// and aligned, and a length; a room overlaps no other slice. Lengths and contents are free.
 mod exported {
     #[repr(C)]
     pub struct CutAnswer {
         pub refusal: u32,
+        pub place: u32,
         pub tokens: u32,
     }
 
     #[repr(C)]
     pub struct ReadAnswer {
         pub refusal: u32,
+        pub place: u32,
         pub tokens: u32,
         pub fonts: u32,
         pub colours: u32,
@@ -213,7 +255,7 @@ mod exported {
 }
 
 /// Cuts a letter into tokens. Refusals 1 to 7. A letter of n bytes has at most n tokens.
-pub fn cut<'a>(source: &[u8], tokens: &'a mut [Token]) -> Result<&'a [Token], Refusal> {
+pub fn cut<'a>(source: &[u8], tokens: &'a mut [Token]) -> Result<&'a [Token], Refused> {
     // SAFETY: both are slices, so not null, aligned, and of that many elements; the room is
     // borrowed for writing, so it overlaps nothing.
     let answer = unsafe {
@@ -224,7 +266,7 @@ pub fn cut<'a>(source: &[u8], tokens: &'a mut [Token]) -> Result<&'a [Token], Re
             tokens.len() * TOKEN_WORDS,
         )
     };
-    Refusal::told(answer.refusal)?;
+    Refused::told(answer.refusal, answer.place)?;
     Ok(&tokens[..answer.tokens as usize])
 }
 
@@ -278,7 +320,7 @@ pub fn read<'a>(
     source: &[u8],
     reading: Reading,
     rooms: &'a mut Rooms<'_>,
-) -> Result<Letter<'a>, Refusal> {
+) -> Result<Letter<'a>, Refused> {
     let by = match reading {
         Reading::Plain => exported::elduvarn_read_plain,
         Reading::Paragraphs => exported::elduvarn_read_paragraphs,
@@ -301,7 +343,7 @@ pub fn read<'a>(
             rooms.text.len(),
         )
     };
-    Refusal::told(answer.refusal)?;
+    Refused::told(answer.refusal, answer.place)?;
     Ok(Letter {
         tokens: &rooms.tokens[..answer.tokens as usize],
         fonts: &rooms.fonts[..answer.fonts as usize],

@@ -7,8 +7,8 @@
 //! docs/REFUSALS.md. What happens at the borders of a room is tested by ../test.c.
 
 use elduvarn::{
-    cut, read, stored, Block, Colour, Font, Letter, Reading, Refusal, Rooms, Token, BLOCK_WORDS,
-    FONT_WORDS, MOST_COLOURS, MOST_FONTS, MOST_SOURCE, TOKEN_WORDS,
+    cut, read, stored, Block, Colour, Font, Letter, Reading, Refusal, Refused, Rooms, Token,
+    BLOCK_WORDS, FONT_WORDS, MOST_COLOURS, MOST_FONTS, MOST_SOURCE, TOKEN_WORDS,
 };
 use std::fmt::Debug;
 use std::process::ExitCode;
@@ -133,9 +133,13 @@ fn reads(counts: &mut Counts, known: &Known, reading: Reading) {
         let mut room = enough;
         if room[place] > 0 {
             room[place] -= 1;
-            refuses(counts, source.as_bytes(), reading, room, refusal);
+            refuses(counts, source.as_bytes(), reading, room, at(refusal, 0));
         }
     }
+}
+
+fn at(refusal: Refusal, place: usize) -> Refused {
+    Refused { refusal, place }
 }
 
 fn refuses(
@@ -143,46 +147,62 @@ fn refuses(
     source: &[u8],
     reading: Reading,
     room: [usize; 5],
-    refusal: Refusal,
+    refused: Refused,
 ) {
     let start = &source[..source.len().min(20)];
     let what = format!("{reading:?} reading of {} in {room:?}", start.escape_ascii());
     let mut lent = Lent::of(room);
     let is = read(source, reading, &mut lent.rooms()).map(sizes);
-    counts.check(&what, is, Err(refusal));
+    counts.check(&what, is, Err(refused));
     counts.check(&format!("{what}, its rooms"), lent.zero_behind(NONE), true);
 }
 
-/// The smallest letters of docs/REFUSALS.md, and those of 01's limits.
+/// The smallest letters of docs/REFUSALS.md, others whose place tells more, and 01's limits.
 fn test_refusals(counts: &mut Counts) {
     let too_deep = ["{"; 64].concat() + "}";
+    let too_deep_later = " ".to_owned() + &too_deep;
     let too_long = vec![b' '; MOST_SOURCE + 1];
-    let refused: &[(&[u8], Refusal)] = &[
-        (&too_long, Refusal::SourceTooLong),
-        (b"\x80", Refusal::NotAscii),
-        (br"\'}", Refusal::HexShort),
-        (br"\'zz}", Refusal::HexBad),
-        (br"\a-}", Refusal::NumberBad),
-        (br"{\b2147483648}", Refusal::NumberBad),
-        (b"a", Refusal::LastSlice),
-        (b"", Refusal::NoTokens),
-        (b"}", Refusal::FirstToken),
-        (b"{\\\n\\fonttbl}", Refusal::TableLineBreak),
-        (br"{\fonttbl\f}", Refusal::FontNumber),
-        (br"{\f-1}", Refusal::NumberField),
-        (br"{\fs65536}", Refusal::NumberField),
-        (br"{a\*}", Refusal::IgnorableInBody),
-        (b"{}}}", Refusal::NoState),
-        (b"{a}}}", Refusal::NoState),
-        (br"{\sl-2147483648}", Refusal::LineSpacing),
-        (too_deep.as_bytes(), Refusal::TooDeep),
+    let refused: &[(&[u8], Refusal, usize)] = &[
+        (&too_long, Refusal::SourceTooLong, 0),
+        (b"\x80", Refusal::NotAscii, 0),
+        (b"{a\\'zz\x80}", Refusal::NotAscii, 0),
+        (br"\'}", Refusal::HexShort, 0),
+        (br"{a\'e}", Refusal::HexShort, 2),
+        (br"\'zz}", Refusal::HexBad, 0),
+        (br" {}\'zz}", Refusal::HexBad, 3),
+        (br"\a-}", Refusal::NumberBad, 0),
+        (br"{\b2147483648}", Refusal::NumberBad, 1),
+        (br"{\rtf1 hello\b-}", Refusal::NumberBad, 12),
+        (b"a", Refusal::LastSlice, 0),
+        (b"\t {a} b\n", Refusal::LastSlice, 4),
+        (b"", Refusal::NoTokens, 0),
+        (b" \n ", Refusal::NoTokens, 0),
+        (b"}", Refusal::FirstToken, 0),
+        (b" \n}", Refusal::FirstToken, 2),
+        (b"{\\\n\\fonttbl}", Refusal::TableLineBreak, 3),
+        (b"{{\\\n\\fonttbl}}", Refusal::TableLineBreak, 4),
+        (br"{\fonttbl\f}", Refusal::FontNumber, 9),
+        (br"{\fonttbl{\f0 A;}{\f B;}}", Refusal::FontNumber, 18),
+        (br"{\f-1}", Refusal::NumberField, 1),
+        (br"{a\f-1}", Refusal::NumberField, 2),
+        (br"{\fs65536}", Refusal::NumberField, 1),
+        (br"{\colortbl\red256}", Refusal::NumberField, 10),
+        (br"{a\*}", Refusal::IgnorableInBody, 2),
+        (b"{}}}", Refusal::NoState, 3),
+        (b"{a}}}", Refusal::NoState, 4),
+        (b"{}}b}", Refusal::NoState, 2),
+        (br" {}}\u65 \u66 }", Refusal::NoState, 4),
+        (br"{\sl-2147483648}", Refusal::LineSpacing, 1),
+        (br"{a\sl-2147483648}", Refusal::LineSpacing, 2),
+        (too_deep.as_bytes(), Refusal::TooDeep, 63),
+        (too_deep_later.as_bytes(), Refusal::TooDeep, 64),
     ];
-    for &(source, refusal) in refused {
+    for &(source, refusal, place) in refused {
         for reading in [Reading::Plain, Reading::Paragraphs] {
-            refuses(counts, source, reading, AMPLE, refusal);
+            refuses(counts, source, reading, AMPLE, at(refusal, place));
         }
     }
-    refuses(counts, b"", Reading::Plain, NONE, Refusal::NoTokens);
+    refuses(counts, b"", Reading::Plain, NONE, at(Refusal::NoTokens, 0));
 }
 
 fn test_read(counts: &mut Counts) {
@@ -212,16 +232,16 @@ fn test_read(counts: &mut Counts) {
 fn test_cut(counts: &mut Counts) {
     // 01's table of names has b at 13 and fs at 10.
     let styled = [
-        [1, 0, 0, 0, 0, 0],
-        [5, 13, 1, 1, 0, 0],
-        [5, 10, 1, 24, 0, 0],
-        [0, 0, 0, 0, 10, 1],
-        [2, 0, 0, 0, 0, 0],
+        [1, 0, 0, 0, 0, 0, 0, 1],
+        [5, 13, 1, 1, 0, 0, 1, 3],
+        [5, 10, 1, 24, 0, 0, 4, 7],
+        [0, 0, 0, 0, 10, 1, 4, 7],
+        [2, 0, 0, 0, 0, 0, 11, 1],
     ];
     let letter = br"{\b1\fs24 a}";
     for size in 0..8 {
         let mut room = vec![[9; TOKEN_WORDS]; size];
-        let should = if size < 5 { Err(Refusal::TokenRoom) } else { Ok(&styled[..]) };
+        let should = if size < 5 { Err(at(Refusal::TokenRoom, 0)) } else { Ok(&styled[..]) };
         counts.check(&format!("cutting in a room of {size}"), cut(letter, &mut room), should);
         let used = if size < 5 { 0 } else { 5 };
         let zero = room[used..].iter().flatten().all(|&word| word == 0);
@@ -232,8 +252,18 @@ fn test_cut(counts: &mut Counts) {
     counts.check("a negative number", minus, Ok(-3913));
     counts.check("cutting nothing", cut(b"", &mut []), Ok(&[][..]));
     counts.check("cutting blanks", cut(b" ", &mut room), Ok(&[][..]));
-    counts.check("cutting a", cut(b"a", &mut room), Err(Refusal::LastSlice));
-    counts.check("cutting a byte of 128", cut(b"\x80", &mut room), Err(Refusal::NotAscii));
+    let refused: &[(&[u8], Refused)] = &[
+        (b"\x80", at(Refusal::NotAscii, 0)),
+        (br"{a\'e}", at(Refusal::HexShort, 2)),
+        (br" {}\'zz}", at(Refusal::HexBad, 3)),
+        (br"{\rtf1 hello\b-}", at(Refusal::NumberBad, 12)),
+        (b"a", at(Refusal::LastSlice, 0)),
+        (b"\t {a} b\n", at(Refusal::LastSlice, 4)),
+    ];
+    for &(source, refused) in refused {
+        let what = format!("cutting {}", source.escape_ascii());
+        counts.check(&what, cut(source, &mut room), Err(refused));
+    }
 }
 
 /// The sample listing, and its list.
@@ -365,6 +395,16 @@ fn test_names(counts: &mut Counts) {
     }
     let told = Refusal::NoState.to_string();
     counts.check("a refusal, told", told.as_str(), "refused by 14, NoState");
+    let with_place = Refusal::ALL.iter().filter(|refusal| refusal.has_place());
+    let with_place: Vec<u32> = with_place.map(|refusal| refusal.number()).collect();
+    counts.check("with a place", with_place, vec![3, 4, 5, 6, 9, 10, 11, 12, 13, 14, 15, 16]);
+    for (refused, should) in [
+        (at(Refusal::NumberBad, 12), "refused by 5, NumberBad, at byte 12"),
+        (at(Refusal::FirstToken, 0), "refused by 9, FirstToken, at byte 0"),
+        (at(Refusal::NoTokens, 0), "refused by 8, NoTokens"),
+    ] {
+        counts.check("a letter's refusal, told", refused.to_string().as_str(), should);
+    }
 }
 
 fn main() -> ExitCode {

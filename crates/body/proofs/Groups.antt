@@ -1,6 +1,6 @@
 -- Groups that the walk passes over, and what the token does that words start with.
 --     group-.., passed-..      how many tokens the walk passes over behind a bracket, and behind a token
---     deed-parts, deed-kept    a token by whether the walk passes over what stands behind it
+--     act-parts, act-kept      a token by whether the walk passes over what stands behind it
 --     at-step                  the token that words start with, by the same
 -- Assumes nothing.
 use mathlib.Core.Path.{_≡_, refl, _∙_}
@@ -13,16 +13,16 @@ use lib.ListN.{getD}
 use lib.Dec.{eqb, ltb}
 use Rattle.readings.specs.declared.Reading.{Reading}
 use Rattle.tokens.specs.declared.item.Item.the-variants.{Text, Closing, LineBreak, Ignorable, Word, Unknown}
-use Rattle.tokens.specs.Tokens.{Shown, tokenWords}
+use Rattle.tokens.specs.Tokens.{Shown, Token, sliceOf, shownIn, tokenWords, shownBy}
 use Rattle.tokens.specs.Tokens
-use Rattle.tokens.specs.Items.{itemAt, itemOf, numberAt, shownOf, shownAll}
+use Rattle.tokens.specs.Items.{itemAt, itemOf, numberAt, shownOf, shownAll, sliceAt, tokenAt}
 use Rattle.tokens.proofs.Items.{rest, shown-some}
 use Rattle.walk.specs.declared.Aim.{Aim}
 use Rattle.walk.specs.declared.Aim.the-variants.{Nothing, Hide, Fonts, Colours}
-use Rattle.walk.specs.Walk.{aimFrom, aim, level, extent, entered, enteredLength, stepOf, passedBy}
-use Rattle.machine.specs.Machine.{Deed, parts}
+use Rattle.walk.specs.Walk.{aimFrom, aim, level, extent, entered, enteredLength, stepBy, stepOf, passedBy}
+use Rattle.machine.specs.Machine.{at, parts}
 use Rattle.deeds.specs.Deeds.{tokenDeed}
-use Rattle.body.specs.Body.{deedOf}
+use Rattle.body.specs.Body.{actOf}
 use Rattle.deeds.specs.Turns.{deedAt}
 
 -- groups
@@ -100,47 +100,49 @@ extent-some t ts = go (eqb (level t 1) 0)
 
 -- what a bracket begins, by how many tokens are passed over
 module _ (rd : Reading) where
-  entered-parts : (ts : List Shown) (a : Aim) → 0 < enteredLength a ts → parts ≡ deedOf rd (entered a ts)
-  entered-parts ts Nothing h = absurd (omega arith)
-  entered-parts ts Hide h = refl
-  entered-parts ts (Fonts late) h = refl
-  entered-parts ts (Colours late) h = refl
+  entered-parts : (t : Token) (ts : List Token) (a : Aim) → 0 < enteredLength a (shownBy ts) → at 0 parts ≡ actOf rd (entered a t ts)
+  entered-parts t ts Nothing h = absurd (omega arith)
+  entered-parts t ts Hide h = refl
+  entered-parts t ts (Fonts late) h = refl
+  entered-parts t ts (Colours late) h = refl
 
-  entered-some : (t : Shown) (ts : List Shown) (a : Aim) → enteredLength a (t ∷ ts) ≤ 0 → Deed.opens ≡ deedOf rd (entered a (t ∷ ts))
-  entered-some t ts Nothing h = refl
-  entered-some t ts Hide h = let s = extent-some t ts in absurd (omega arith)
-  entered-some t ts (Fonts late) h = let s = extent-some t ts in absurd (omega arith)
-  entered-some t ts (Colours late) h = let s = extent-some t ts in absurd (omega arith)
+  entered-some : (t u : Token) (ts : List Token) (a : Aim) → enteredLength a (shownBy (u ∷ ts)) ≤ 0 → at (sliceOf t) (tokenDeed rd (shownIn t)) ≡ actOf rd (entered a t (u ∷ ts))
+  unfolding shownBy
+  entered-some t u ts Nothing h = refl
+  entered-some t u ts Hide h = let s = extent-some (shownIn u) (shownBy ts) in absurd (omega arith)
+  entered-some t u ts (Fonts late) h = let s = extent-some (shownIn u) (shownBy ts) in absurd (omega arith)
+  entered-some t u ts (Colours late) h = let s = extent-some (shownIn u) (shownBy ts) in absurd (omega arith)
 
-  entered-kept : (ts : List Shown) → enteredLength (aim ts) ts ≤ 0 → Deed.opens ≡ deedOf rd (entered (aim ts) ts)
-  unfolding aimFrom
-  entered-kept [] h = refl
-  entered-kept (t ∷ ts) h = entered-some t ts (aim (t ∷ ts)) h
+  entered-kept : (t : Token) (ts : List Token) → enteredLength (aim (shownBy ts)) (shownBy ts) ≤ 0 → at (sliceOf t) (tokenDeed rd (shownIn t)) ≡ actOf rd (entered (aim (shownBy ts)) t ts)
+  unfolding aimFrom shownBy
+  entered-kept t [] h = refl
+  entered-kept t (u ∷ ts) h = entered-some t u ts (aim (shownBy (u ∷ ts))) h
 
-  pub deed-parts : (t : Shown) (ts : List Shown) {h : ℕ} → 0 < h → h ≡ passedBy t ts → parts ≡ deedOf rd (stepOf t ts)
-  deed-parts Shown.opening ts z e = entered-parts ts (aim ts) (rw e at z)
-  deed-parts Shown.closing ts z e = absurd (omega arith)
-  deed-parts Shown.lineBreak ts z e = absurd (omega arith)
-  deed-parts Shown.ignorable ts z e = absurd (omega arith)
-  deed-parts (Shown.text p bs) ts z e = absurd (omega arith)
-  deed-parts (Shown.word w num) ts z e = absurd (omega arith)
-  deed-parts (Shown.unknown p bs num) ts z e = absurd (omega arith)
+  act-parts : (x : Shown) (t : Token) (ts : List Token) {h : ℕ} → 0 < h → h ≡ passedBy x (shownBy ts) → at 0 parts ≡ actOf rd (stepBy x t ts)
+  act-parts Shown.opening t ts z e = entered-parts t ts (aim (shownBy ts)) (rw e at z)
+  act-parts Shown.closing t ts z e = absurd (omega arith)
+  act-parts Shown.lineBreak t ts z e = absurd (omega arith)
+  act-parts Shown.ignorable t ts z e = absurd (omega arith)
+  act-parts (Shown.text p bs) t ts z e = absurd (omega arith)
+  act-parts (Shown.word w num) t ts z e = absurd (omega arith)
+  act-parts (Shown.unknown p bs num) t ts z e = absurd (omega arith)
 
-  pub deed-kept : (t : Shown) (ts : List Shown) {h : ℕ} → h ≤ 0 → h ≡ passedBy t ts → tokenDeed rd t ≡ deedOf rd (stepOf t ts)
-  deed-kept Shown.opening ts z e = entered-kept ts (rw e at z)
-  deed-kept Shown.closing ts z e = refl
-  deed-kept Shown.lineBreak ts z e = refl
-  deed-kept Shown.ignorable ts z e = refl
-  deed-kept (Shown.text p bs) ts z e = refl
-  deed-kept (Shown.word w num) ts z e = refl
-  deed-kept (Shown.unknown p bs num) ts z e = refl
+  act-kept : (x : Shown) (t : Token) (ts : List Token) {h : ℕ} → h ≤ 0 → h ≡ passedBy x (shownBy ts) → at (sliceOf t) (tokenDeed rd (shownIn t)) ≡ actOf rd (stepBy x t ts)
+  act-kept Shown.opening t ts z e = entered-kept t ts (rw e at z)
+  act-kept Shown.closing t ts z e = refl
+  act-kept Shown.lineBreak t ts z e = refl
+  act-kept Shown.ignorable t ts z e = refl
+  act-kept (Shown.text p bs) t ts z e = refl
+  act-kept (Shown.word w num) t ts z e = refl
+  act-kept (Shown.unknown p bs num) t ts z e = refl
 
--- the token that words start with
+-- the act of the token that words start with: what is passed over has no place
 module _ (rd : Reading) (src ws : List ℕ) where
-  pub at-step : (ts : List Shown) (h : ℕ) → h ≡ passedBy (shownOf src (itemAt ws)) ts → deedAt rd src ws h ≡ deedOf rd (stepOf (shownOf src (itemAt ws)) ts)
+  pub at-step : (ts : List Token) (h : ℕ) → h ≡ passedBy (shownOf src (itemAt ws)) (shownBy ts)
+      → at (cond (ltb 0 h) 0 (sliceAt ws)) (deedAt rd src ws h) ≡ actOf rd (stepOf (tokenAt src ws) ts)
   unfolding deedAt
   at-step ts h e = go (ltb 0 h) refl
     where
-      go : (b : Bool) → ltb 0 h ≡ b → cond b parts (tokenDeed rd (shownOf src (itemAt ws))) ≡ deedOf rd (stepOf (shownOf src (itemAt ws)) ts)
-      go true q = deed-parts rd (shownOf src (itemAt ws)) ts (ltb-true 0 h q) e
-      go false q = deed-kept rd (shownOf src (itemAt ws)) ts (ltb-false 0 h q) e
+      go : (b : Bool) → ltb 0 h ≡ b → at (cond b 0 (sliceAt ws)) (cond b parts (tokenDeed rd (shownOf src (itemAt ws)))) ≡ actOf rd (stepOf (tokenAt src ws) ts)
+      go true q = act-parts rd (shownOf src (itemAt ws)) (tokenAt src ws) ts (ltb-true 0 h q) e
+      go false q = act-kept rd (shownOf src (itemAt ws)) (tokenAt src ws) ts (ltb-false 0 h q) e

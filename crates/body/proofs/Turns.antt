@@ -7,40 +7,43 @@ use mathlib.Core.List.{List, [], _∷_}
 use Prim.Native.Nat.{ℕ, _+_, _-_, _*_, _<_, _≤_}
 use native.Mathlib.Omega.{arith}
 use native.Mathlib.Numerals.{add-one}
+use mathlib.Core.Bool.{Bool, true, false, cond}
+use lib.Dec.{ltb}
 use lib.ListN.{length, set, drop, length-drop, length-take, replicate}
 use Rattle.answers.specs.declared.Refusal.{Refusal}
 use Rattle.answers.specs.declared.Why.{Why}
-use Rattle.answers.specs.Answers.{refusal, Found, found, refused}
+use Rattle.answers.specs.Answers.{refusalAt, Fate, becomes, fails}
 use Rattle.readings.specs.declared.Reading.{Reading}
 use Rattle.rooms.specs.Streams.{Stream, end}
-use Rattle.tokens.specs.Tokens.{Shown, tokenWords}
-use Rattle.tokens.specs.Items.{itemAt, shownOf, shownAll}
-use Rattle.tokens.proofs.Items.{rest, shown-none, shown-some, shown-drop}
+use Rattle.tokens.specs.Tokens.{Token, shownIn, tokenWords, shownBy}
+use Rattle.tokens.specs.Items.{itemAt, shownOf, shownAll, sliceAt, tokenAt, tokensAll}
+use Rattle.tokens.proofs.Items.{rest, tokens-none, tokens-some, tokens-drop, tokens-shown}
 use Rattle.settings.specs.Fields.{freshRow, Setting}
 use Rattle.walk.specs.Walk.{Step, stepOf, passedBy, walk}
 use Rattle.walk.proofs.Walk.{walk-one, walk-end}
 use Rattle.units.specs.declared.Run.{Run}
 use Rattle.units.specs.declared.Gave.{Gave}
 use Rattle.machine.specs.Stack.{moved, stackOf, held}
-use Rattle.machine.specs.Machine.{Deed, ended, parts, gave, skipOf, moveOf, onward, said, machine, _▸▸_}
+use Rattle.machine.specs.Machine.{Deed, at, ended, parts, gave, skipOf, moveOf, onward, said, machine, _▸▸_}
 use Rattle.blocks.specs.declared.Page.{Page}
 use Rattle.blocks.specs.Pages.{Piece}
 use Rattle.blocks.specs.Laying.{Laying, on, off, pageOf, blank, layAll, Held}
-use Rattle.blocks.proofs.Laying.{lay-end, lay-stop, lay-off, ready-blank}
+use Rattle.blocks.proofs.Laying.{lay-end, lay-stop, lay-off, ready-blank, Placeless}
 use Rattle.deeds.specs.declared.stack.Moved.{Moved}
 use Rattle.deeds.specs.declared.stack.Moved.the-variants.{Holds, Refuses}
 use Rattle.runs.specs.Runs.{rows, runWords, runOf, laidAll}
-use Rattle.body.specs.Body.{deedOf, deeds, body}
+use Rattle.body.specs.Body.{actOf, acts, body}
 use Rattle.deeds.specs.Turns.{deedAt, movedBy, Turned, goes, ends, turned, turnOf, Turns}
-use Rattle.runs.proofs.Saying.{lay-said}
+use Rattle.runs.proofs.Saying.{lay-said, laid-placeless}
+use Rattle.deeds.specs.Deeds.{tokenDeed}
 use Rattle.body.proofs.Groups.{at-step}
 
 -- what is said of tokens, from a stack and a run on
-abbrev from : Reading → List (List ℕ) → Run → List Shown → Stream Refusal Piece
-from rd st run ts = machine rows st run (deeds rd (walk ts))
+abbrev from : Reading → List (List ℕ) → Run → List Token → Stream Refusal Piece
+from rd st run ts = machine rows st run (acts rd (walk ts))
 
 abbrev whole : Reading → List ℕ → List ℕ → List ℕ → List ℕ → ℕ → Laying
-whole rd src b₀ t₀ tokens count = layAll (on blank b₀ t₀) (body rd (walk (shownAll src count tokens)))
+whole rd src b₀ t₀ tokens count = layAll (on blank b₀ t₀) (body rd (walk (tokensAll src count tokens)))
 
 pub record Loop (rd : Reading) (src b₀ t₀ tokens : List ℕ) (count : ℕ) (b t : List ℕ) (states : List (List ℕ)) (depth : ℕ) (run page ws : List ℕ) (n : ℕ) : Type 0 where
   pub deep : depth ≤ 64
@@ -51,7 +54,7 @@ pub record Loop (rd : Reading) (src b₀ t₀ tokens : List ℕ) (count : ℕ) (
   pub long-t : length t ≡ length t₀
   pub three : length run ≡ runWords
   pub paged : Held page (length b) (length t)
-  pub left : layAll (on (pageOf page) b t) (from rd (held [] states depth) (runOf run) (shownAll src n ws)) ≡ whole rd src b₀ t₀ tokens count
+  pub left : layAll (on (pageOf page) b t) (from rd (held [] states depth) (runOf run) (tokensAll src n ws)) ≡ whole rd src b₀ t₀ tokens count
 
 pub loop-start : (rd : Reading) (src b t tokens : List ℕ) (count : ℕ) {row : List ℕ} → row ≡ freshRow → (count * tokenWords ≤ length tokens) × (count ≤ 65536)
     → Loop rd src b t tokens count b t (set (replicate 64 (replicate 18 0)) 0 row) 1 (0 ∷ 0 ∷ 0 ∷ []) (0 ∷ 0 ∷ 0 ∷ []) tokens count
@@ -68,27 +71,42 @@ loop-start rd src b t tokens count e h = record {
   left = rw e refl;
 }
 
--- where a token leads, and what is said behind it
-abbrev after : Turned → (List (List ℕ) → Run → Stream Refusal Piece) → Laying
-after (goes st run p b t) more = layAll (on p b t) (more st run)
-after (ends r) more = off r
+-- where a token leads, whose slice stands at p, and what is said behind it
+abbrev after : ℕ → Turned → (List (List ℕ) → Run → Stream Refusal Piece) → Laying
+after p (goes st run pg b t) more = layAll (on pg b t) (more st run)
+after p (ends why) more = off (refusalAt why p)
 
-after-turned : (l : Laying) (m : Found (List (List ℕ))) (run : Run) (more : List (List ℕ) → Run → Stream Refusal Piece)
-    → layAll l (onward m (more (stackOf m) run)) ≡ after (turned l m run) more
-after-turned (on p b t) (found st) run more = refl
-after-turned (on p b t) (refused r) run more = lay-stop p b t r
-after-turned (off r) m run more = lay-off r (onward m (more (stackOf m) run))
+after-turned : (p : ℕ) (l : Laying) → Placeless l → (m : Fate (List (List ℕ))) (run : Run) (more : List (List ℕ) → Run → Stream Refusal Piece)
+    → layAll l (onward p m (more (stackOf m) run)) ≡ after p (turned l m run) more
+after-turned p (on pg b t) h (becomes st) run more = refl
+after-turned p (on pg b t) h (fails why) run more = lay-stop pg b t (refusalAt why p)
+after-turned p (off r) h m run more = lay-off r (onward p m (more (stackOf m) run)) ∙ ap off (sym (h p))
 
 -- one token, and what is behind it
-from-one : (rd : Reading) (st : List (List ℕ)) (run : Run) (t : Shown) (ts : List Shown) {d : Deed Setting} {g : Gave}
-    → d ≡ deedOf rd (stepOf t ts) → g ≡ gave (skipOf rows st) run d
-    → from rd st run (t ∷ ts) ≡ said rows st g d ▸▸ onward (moved freshRow st (moveOf rows d)) (from rd (stackOf (moved freshRow st (moveOf rows d))) (g .run) (drop (passedBy t ts) ts))
-unfolding machine deeds
-from-one rd st run t ts e f = ap (λ (ss : List Step). machine rows st run (deeds rd ss)) (walk-one t ts) ∙ rw (← e, ← f) refl
+from-one : (rd : Reading) (st : List (List ℕ)) (run : Run) (t : Token) (ts : List Token) {q : ℕ} {d : Deed Setting} {g : Gave}
+    → at q d ≡ actOf rd (stepOf t ts) → g ≡ gave (skipOf rows st) run d
+    → from rd st run (t ∷ ts) ≡ said rows st g d ▸▸ onward q (moved freshRow st (moveOf rows d)) (from rd (stackOf (moved freshRow st (moveOf rows d))) (g .run) (drop (passedBy (shownIn t) (shownBy ts)) ts))
+unfolding machine acts
+from-one rd st run t ts e f = ap (λ (ss : List Step). machine rows st run (acts rd ss)) (walk-one t ts) ∙ rw (← e, ← f) refl
 
 from-end : (rd : Reading) (st : List (List ℕ)) (run : Run) → from rd st run [] ≡ said rows st (ended run) parts ▸▸ end
-unfolding machine deeds
-from-end rd st run = ap (λ (ss : List Step). machine rows st run (deeds rd ss)) walk-end
+unfolding machine acts
+from-end rd st run = ap (λ (ss : List Step). machine rows st run (acts rd ss)) walk-end
+
+-- what only parts its neighbours goes on wherever it stands
+onward-parts : (p q : ℕ) (st : List (List ℕ)) (more : Stream Refusal Piece) → onward p (moved freshRow st (moveOf rows parts)) more ≡ onward q (moved freshRow st (moveOf rows parts)) more
+unfolding moved
+onward-parts p q [] more = refl
+onward-parts p q (top ∷ rest) more = refl
+
+onward-at : (rd : Reading) (src ws : List ℕ) (h : ℕ) (st : List (List ℕ)) (more : Stream Refusal Piece)
+    → onward (cond (ltb 0 h) 0 (sliceAt ws)) (moved freshRow st (moveOf rows (deedAt rd src ws h))) more ≡ onward (sliceAt ws) (moved freshRow st (moveOf rows (deedAt rd src ws h))) more
+unfolding deedAt
+onward-at rd src ws h st more = go (ltb 0 h)
+  where
+    go : (b : Bool) → let d = cond b parts (tokenDeed rd (shownOf src (itemAt ws))) in onward (cond b 0 (sliceAt ws)) (moved freshRow st (moveOf rows d)) more ≡ onward (sliceAt ws) (moved freshRow st (moveOf rows d)) more
+    go true = onward-parts 0 (sliceAt ws) st more
+    go false = refl
 
 -- the words of the tokens behind the first k
 words-behind : (k n : ℕ) (ws : List ℕ) → n * tokenWords ≤ length ws → (n - k) * tokenWords ≤ length (rest ws (k * tokenWords))
@@ -103,7 +121,7 @@ module _ {rd : Reading} {src b₀ t₀ tokens : List ℕ} {count : ℕ} {b t : L
       h
       ∙ sym (lay-end (laidAll (on p b t) (said rows (held [] states depth) (ended r) parts)))
       ∙ sym (lay-said (on p b t) (said rows (held [] states depth) (ended r) parts) end)
-      ∙ ap (layAll (on p b t)) (sym (from-end rd (held [] states depth) r) ∙ sym (ap (from rd (held [] states depth) r) (shown-none src n ws y)))
+      ∙ ap (layAll (on p b t)) (sym (from-end rd (held [] states depth) r) ∙ sym (ap (from rd (held [] states depth) r) (tokens-none src n ws y)))
       ∙ l .left
 
   module _ (y : 0 < n) {h : ℕ} (q : ((s : List ℕ) → h ≡ passedBy (shownOf s (itemAt ws)) (shownAll s (n - 1) (rest ws tokenWords))) × (h ≤ n - 1)) where
@@ -117,42 +135,45 @@ module _ {rd : Reading} {src b₀ t₀ tokens : List ℕ} {count : ℕ} {b t : L
     gives = gave (skipOf rows stack) (runOf run) deed
 
     -- the tokens behind the first and those that the walk passes over
-    behind : drop h (shownAll src (n - 1) (rest ws tokenWords)) ≡ shownAll src (n - (h + 1)) (rest ws ((h + 1) * tokenWords))
+    behind : drop h (tokensAll src (n - 1) (rest ws tokenWords)) ≡ tokensAll src (n - (h + 1)) (rest ws ((h + 1) * tokenWords))
     behind =
         let c : h + 1 ≤ n = let u = q .1 in omega arith in
-        let d : drop (h + 1) (shownAll src n ws) ≡ drop h (shownAll src (n - 1) (rest ws tokenWords)) = rw (add-one h, shown-some src n ws y) in
-        sym d ∙ shown-drop src (h + 1) n ws c
+        let d : drop (h + 1) (tokensAll src n ws) ≡ drop h (tokensAll src (n - 1) (rest ws tokenWords)) = rw (add-one h, tokens-some src n ws y) in
+        sym d ∙ tokens-drop src (h + 1) n ws c
 
     abbrev more : List (List ℕ) → Run → Stream Refusal Piece
-    more st r = from rd st r (shownAll src (n - (h + 1)) (rest ws ((h + 1) * tokenWords)))
+    more st r = from rd st r (tokensAll src (n - (h + 1)) (rest ws ((h + 1) * tokenWords)))
 
-    abbrev next : Found (List (List ℕ))
+    abbrev next : Fate (List (List ℕ))
     next = moved freshRow stack (moveOf rows deed)
 
-    front : from rd stack (runOf run) (shownAll src n ws) ≡ said rows stack gives deed ▸▸ onward next (more (stackOf next) (gives .run))
-    front =
-        let tk : Shown = shownOf src (itemAt ws) in
-        let ts : List Shown = shownAll src (n - 1) (rest ws tokenWords) in
-        ap (from rd stack (runOf run)) (shown-some src n ws y)
-        ∙ from-one rd stack (runOf run) tk ts (at-step rd src ws ts h (q .0 src)) refl
-        ∙ ap (λ (j : ℕ). said rows stack gives deed ▸▸ onward next (from rd (stackOf next) (gives .run) (drop j ts))) (sym (q .0 src))
-        ∙ ap (λ (us : List Shown). said rows stack gives deed ▸▸ onward next (from rd (stackOf next) (gives .run) us)) behind
+    passes : h ≡ passedBy (shownOf src (itemAt ws)) (shownBy (tokensAll src (n - 1) (rest ws tokenWords)))
+    passes = q .0 src ∙ ap (passedBy (shownOf src (itemAt ws))) (sym (tokens-shown src (n - 1) (rest ws tokenWords)))
 
-    leads : after (turnOf stack (pageOf page) b t gives deed) more ≡ whole rd src b₀ t₀ tokens count
+    front : from rd stack (runOf run) (tokensAll src n ws) ≡ said rows stack gives deed ▸▸ onward (sliceAt ws) next (more (stackOf next) (gives .run))
+    front =
+        let ts : List Token = tokensAll src (n - 1) (rest ws tokenWords) in
+        ap (from rd stack (runOf run)) (tokens-some src n ws y)
+        ∙ from-one rd stack (runOf run) (tokenAt src ws) ts (at-step rd src ws ts h passes) refl
+        ∙ ap (λ (s : Stream Refusal Piece). said rows stack gives deed ▸▸ s) (onward-at rd src ws h stack (from rd (stackOf next) (gives .run) (drop (passedBy (shownOf src (itemAt ws)) (shownBy ts)) ts)))
+        ∙ ap (λ (j : ℕ). said rows stack gives deed ▸▸ onward (sliceAt ws) next (from rd (stackOf next) (gives .run) (drop j ts))) (sym passes)
+        ∙ ap (λ (us : List Token). said rows stack gives deed ▸▸ onward (sliceAt ws) next (from rd (stackOf next) (gives .run) us)) behind
+
+    leads : after (sliceAt ws) (turnOf stack (pageOf page) b t gives deed) more ≡ whole rd src b₀ t₀ tokens count
     unfolding turnOf
     leads =
         let x : Laying = laidAll (on (pageOf page) b t) (said rows stack gives deed) in
-        sym (after-turned x next (gives .run) more)
-        ∙ sym (lay-said (on (pageOf page) b t) (said rows stack gives deed) (onward next (more (stackOf next) (gives .run))))
+        sym (after-turned (sliceAt ws) x (laid-placeless (on (pageOf page) b t) (said rows stack gives deed) tt) next (gives .run) more)
+        ∙ sym (lay-said (on (pageOf page) b t) (said rows stack gives deed) (onward (sliceAt ws) next (more (stackOf next) (gives .run))))
         ∙ ap (layAll (on (pageOf page) b t)) (sym front)
         ∙ l .left
 
     module _ {m : Moved} {states′ : List (List ℕ)} {r′ : Run} {page′ b′ t′ : List ℕ} (k : Turns m states′ r′ page′ b′ t′ (length b) (length t) (turnOf stack (pageOf page) b t gives deed)) where
-      goes-on : after (turned (on (pageOf page′) b′ t′) (movedBy m states′) r′) more ≡ whole rd src b₀ t₀ tokens count
-      goes-on = ap (λ (z : Turned). after z more) (k .does) ∙ leads
+      goes-on : after (sliceAt ws) (turned (on (pageOf page′) b′ t′) (movedBy m states′) r′) more ≡ whole rd src b₀ t₀ tokens count
+      goes-on = ap (λ (z : Turned). after (sliceAt ws) z more) (k .does) ∙ leads
 
-      pub turn-refused : {why : Why} {r : Refusal} → m ≡ Refuses why → r ≡ refusal why → off r ≡ whole rd src b₀ t₀ tokens count
-      turn-refused u w = ap off w ∙ (rw u at goes-on)
+      pub turn-refused : {why : Why} {p : ℕ} {r : Refusal} → m ≡ Refuses why → p ≡ sliceAt ws → r ≡ refusalAt why p → off r ≡ whole rd src b₀ t₀ tokens count
+      turn-refused {why} u e w = ap off (w ∙ ap (refusalAt why) e) ∙ (rw u at goes-on)
 
       pub turn-on : {d : ℕ} → m ≡ Holds d → {run′ : List ℕ} → r′ ≡ runOf run′ → length run′ ≡ runWords → length b′ ≡ length b → length t′ ≡ length t
           → Loop rd src b₀ t₀ tokens count b′ t′ states′ d run′ page′ (rest ws ((h + 1) * tokenWords)) (n - (h + 1))

@@ -25,12 +25,13 @@ use settings::State;
 use settings::WIDTH;
 use settings::rows::STATES;
 use tokens::TOKEN_WORDS;
+use tokens::item::slice_at;
 ghost use mathlib.Core.Path.{_≡_};
 ghost use mathlib.Core.List.{[]};
 ghost use Prim.Native.Nat.{_*_, _≤_};
 ghost use lib.ListN.{length};
 ghost use Rattle.tokens.specs.Tokens.{tokenWords};
-ghost use Rattle.tokens.specs.Items.{shownAll};
+ghost use Rattle.tokens.specs.Items.{tokensAll};
 ghost use Rattle.walk.specs.Walk.{walk};
 ghost use Rattle.machine.specs.Stack.{stackLimit, held};
 ghost use Rattle.machine.specs.Machine.{ended, parts, said};
@@ -73,7 +74,7 @@ pub fn lay_body(
     text: &mut [u8],
 ) -> Laid
     requires { ⌜ (count * tokenWords ≤ length (now tokens)) × (count ≤ 65536) ⌝ }
-    ensures { λ r. ⌜ told r (now (blocks .exit)) (now (text .exit)) ≡ layAll (on blankPage (now (blocks .entry)) (now (text .entry))) (body reading (walk (shownAll (now (source .entry)) count (now (tokens .entry))))) ⌝ }
+    ensures { λ r. ⌜ told r (now (blocks .exit)) (now (text .exit)) ≡ layAll (on blankPage (now (blocks .entry)) (now (text .entry))) (body reading (walk (tokensAll (now (source .entry)) count (now (tokens .entry))))) ⌝ }
     ensures { λ r. ⌜ Still r (length (now (blocks .entry))) (length (now (text .entry))) ⌝ }
 {
     let mut states = [[0u32; WIDTH]; STATES];
@@ -97,12 +98,13 @@ pub fn lay_body(
             blocks,
             text,
         );
+        let here = t;
         let at = (h + 1) * TOKEN_WORDS;
         t = &t[at..];
         n -= h + 1;
         match moved {
             Moved::Refuses(why) => {
-                return Laid::Full(Refusal::of(why));
+                return Laid::Full(Refusal::at(why, slice_at(here)));
             }
             Moved::Holds(d) => {
                 depth = d;

@@ -18,14 +18,14 @@ use lib.Seq.{length-take-le, take-suc-set, drop-set-lt, drop-drop}
 use Rattle.answers.specs.declared.Why.the-variants.{NumberField, ColourRoom}
 use Rattle.answers.specs.declared.Refusal.{Refusal}
 use Rattle.answers.specs.declared.Outcome.the-variants.{Done, Refused}
-use Rattle.answers.specs.Answers.{refusal, Found, found, refused}
+use Rattle.answers.specs.Answers.{refusal, refusalAt, Found, found, refused, Fate, becomes, fails, foundAt}
 use Rattle.rooms.specs.Rooms.{tableLimit}
 use Rattle.tokens.specs.declared.Property.{Property}
-use Rattle.tokens.specs.Tokens.{Shown, valueOf, tokenWords}
+use Rattle.tokens.specs.Tokens.{Token, valueOf, tokenWords}
 use Rattle.tokens.specs.declared.item.Item.{Item}
 use Rattle.tokens.specs.declared.item.Item.the-variants.{Text, Opening, Closing, LineBreak, Ignorable, Word, Unknown}
-use Rattle.tokens.specs.Items.{itemAt, shownOf, shownAll}
-use Rattle.tokens.proofs.Items.{rest, words-less, shown-none, shown-some}
+use Rattle.tokens.specs.Items.{itemAt, shownOf, sliceAt, tokensAll}
+use Rattle.tokens.proofs.Items.{rest, words-less, tokens-none, tokens-some}
 use Rattle.colours.specs.declared.Colour.{Colour}
 use Rattle.colours.specs.declared.Effect.{Effect}
 use Rattle.colours.specs.declared.Effect.the-variants.{Set, Store, Unfit}
@@ -68,13 +68,13 @@ unfolding wordEffect
 word-other w v c a b d = rw (ne-eqb w 37 a, ne-eqb w 38 b, ne-eqb w 39 d)
 
 -- an effect, and then the room
-abbrev applied : ℕ → List ℕ → Effect → Found Colours
-applied limit cs (Set c) = found (record { table = cs; colour = c })
+abbrev applied : ℕ → List ℕ → Effect → Fate Colours
+applied limit cs (Set c) = becomes (record { table = cs; colour = c })
 applied limit cs (Store c) = kept limit (record { table = cs; colour = c })
-applied limit cs Unfit = refused (refusal NumberField)
+applied limit cs Unfit = fails NumberField
 
 -- both ways of a test
-either : (limit : ℕ) (cs : List ℕ) (t : Bool) (x y : Found Colours) (d e : Effect) → x ≡ applied limit cs d → y ≡ applied limit cs e
+either : (limit : ℕ) (cs : List ℕ) (t : Bool) (x y : Fate Colours) (d e : Effect) → x ≡ applied limit cs d → y ≡ applied limit cs e
     → cond t x y ≡ applied limit cs (cond t d e)
 either limit cs true x y d e p q = p
 either limit cs false x y d e p q = q
@@ -145,7 +145,7 @@ pub record Loop (tokens : List ℕ) (count : ℕ) (room₀ : List ℕ) (limit : 
   pub behind : drop k room ≡ drop k room₀
   pub within : k ≤ limit
   pub small : Small c
-  pub left : (src : List ℕ) → coloursFrom limit (state room k c) (shownAll src n ws) ≡ coloursFrom limit (found noColours) (shownAll src count tokens)
+  pub left : (src : List ℕ) → coloursFrom limit (state room k c) (tokensAll src n ws) ≡ coloursFrom limit (found noColours) (tokensAll src count tokens)
 
 pub loop-start : (tokens : List ℕ) (count : ℕ) (room : List ℕ) (limit : ℕ) → (count * tokenWords ≤ length tokens) × (count ≤ 65536) → limit ≡ tableLimit colourWords (length room)
     → Loop tokens count room limit room tokens count black 0
@@ -167,33 +167,33 @@ module _ {tokens : List ℕ} {count : ℕ} {room₀ : List ℕ} {limit : ℕ} {r
   filled : length (take k room) ≡ k
   filled = let h : limit ≤ length room = l .held in let w : k ≤ limit = l .within in length-take-le k room (omega arith)
 
-  ended : (src : List ℕ) (x : Found Colours) → x ≡ coloursFrom limit (found noColours) (shownAll src count tokens)
-      → tableOf x ≡ colours (tableLimit colourWords (length room₀)) (shownAll src count tokens)
+  ended : (src : List ℕ) (x : Found Colours) → x ≡ coloursFrom limit (found noColours) (tokensAll src count tokens)
+      → tableOf x ≡ colours (tableLimit colourWords (length room₀)) (tokensAll src count tokens)
   unfolding colours
   ended src x e = rw (← (l .limited)) (ap tableOf e)
 
-  stopped : (src : List ℕ) (q : Refusal) (ts : List Shown) → coloursFrom limit (refused q) ts ≡ coloursFrom limit (found noColours) (shownAll src count tokens)
-      → ReadColours (colours (tableLimit colourWords (length room₀)) (shownAll src count tokens)) room₀ (Refused q) room
+  stopped : (src : List ℕ) (q : Refusal) (ts : List Token) → coloursFrom limit (refused q) ts ≡ coloursFrom limit (found noColours) (tokensAll src count tokens)
+      → ReadColours (colours (tableLimit colourWords (length room₀)) (tokensAll src count tokens)) room₀ (Refused q) room
   stopped src q ts e =
-      let z : refused q ≡ colours (tableLimit colourWords (length room₀)) (shownAll src count tokens) = ended src (refused q) (sym (colours-refused limit q ts) ∙ e) in
+      let z : refused q ≡ colours (tableLimit colourWords (length room₀)) (tokensAll src count tokens) = ended src (refused q) (sym (colours-refused limit q ts) ∙ e) in
       rw (← z) refl
 
   -- no token is left
-  pub loop-end : n ≤ 0 → (src : List ℕ) → ReadColours (colours (tableLimit colourWords (length room₀)) (shownAll src count tokens)) room₀ (Done k) room
+  pub loop-end : n ≤ 0 → (src : List ℕ) → ReadColours (colours (tableLimit colourWords (length room₀)) (tokensAll src count tokens)) room₀ (Done k) room
   unfolding coloursFrom
   loop-end h src =
-      let e : state room k c ≡ coloursFrom limit (found noColours) (shownAll src count tokens) = rw (shown-none src n ws h) at (l .left src) in
-      let z : found (take k room) ≡ colours (tableLimit colourWords (length room₀)) (shownAll src count tokens) = ended src (state room k c) e in
+      let e : state room k c ≡ coloursFrom limit (found noColours) (tokensAll src count tokens) = rw (tokens-none src n ws h) at (l .left src) in
+      let z : found (take k room) ≡ colours (tableLimit colourWords (length room₀)) (tokensAll src count tokens) = ended src (state room k c) e in
       let b : room ≡ take k room ++ drop k room₀ = sym (take-append-drop k room) ∙ ap (λ (x : List ℕ). take k room ++ x) (l .behind) in
       rw (← z, filled) (refl, b)
 
   module _ (h : 0 < n) {i : Item} (a : i ≡ itemAt ws) {e : Effect} (b : e ≡ effectOf i c) where
-    turned : (src : List ℕ) → coloursFrom limit (applied limit (take k room) e) (shownAll src (n - 1) (rest ws tokenWords))
-        ≡ coloursFrom limit (found noColours) (shownAll src count tokens)
+    turned : (src : List ℕ) → coloursFrom limit (foundAt (sliceAt ws) (applied limit (take k room) e)) (tokensAll src (n - 1) (rest ws tokenWords))
+        ≡ coloursFrom limit (found noColours) (tokensAll src count tokens)
     unfolding coloursFrom
     turned src =
         rw (b, a, ← (effect-token limit src (itemAt ws) (take k room) c))
-        (rw (shown-some src n ws h) at (l .left src))
+        (rw (tokens-some src n ws h) at (l .left src))
 
     still : SmallEffect e
     still = rw b (effect-small i c (l .small))
@@ -214,24 +214,24 @@ module _ {tokens : List ℕ} {count : ℕ} {room₀ : List ℕ} {limit : ℕ} {r
         }
 
     -- 12, a number that does not fit
-    pub loop-unfit : (q : Refusal) → q ≡ refusal NumberField → e ≡ Unfit → (src : List ℕ)
-        → ReadColours (colours (tableLimit colourWords (length room₀)) (shownAll src count tokens)) room₀ (Refused q) room
-    loop-unfit q y x src = rw y (stopped src (refusal NumberField) (shownAll src (n - 1) (rest ws tokenWords)) (rw x at (turned src)))
+    pub loop-unfit : (p : ℕ) → p ≡ sliceAt ws → (q : Refusal) → q ≡ refusalAt NumberField p → e ≡ Unfit → (src : List ℕ)
+        → ReadColours (colours (tableLimit colourWords (length room₀)) (tokensAll src count tokens)) room₀ (Refused q) room
+    loop-unfit p z q y x src = rw (y, z) (stopped src (refusalAt NumberField (sliceAt ws)) (tokensAll src (n - 1) (rest ws tokenWords)) (rw x at (turned src)))
 
     module _ (d : Colour) (x : e ≡ Store d) where
       pub stored-small : Small d
       stored-small = rw x at still
 
-      stored-turned : (src : List ℕ) → coloursFrom limit (kept limit (record { table = take k room; colour = d })) (shownAll src (n - 1) (rest ws tokenWords))
-          ≡ coloursFrom limit (found noColours) (shownAll src count tokens)
+      stored-turned : (src : List ℕ) → coloursFrom limit (foundAt (sliceAt ws) (kept limit (record { table = take k room; colour = d }))) (tokensAll src (n - 1) (rest ws tokenWords))
+          ≡ coloursFrom limit (found noColours) (tokensAll src count tokens)
       stored-turned src = rw x at (turned src)
 
       -- 18, a colour too many
       pub loop-full : limit ≤ k → (q : Refusal) → q ≡ refusal ColourRoom → (src : List ℕ)
-          → ReadColours (colours (tableLimit colourWords (length room₀)) (shownAll src count tokens)) room₀ (Refused q) room
+          → ReadColours (colours (tableLimit colourWords (length room₀)) (tokensAll src count tokens)) room₀ (Refused q) room
       loop-full g q y src =
           let t : ltb (length (take k room)) limit ≡ false = le-ltb (length (take k room)) limit (rw filled g) in
-          rw y (stopped src (refusal ColourRoom) (shownAll src (n - 1) (rest ws tokenWords)) (rw t at (stored-turned src)))
+          rw y (stopped src (refusal ColourRoom) (tokensAll src (n - 1) (rest ws tokenWords)) (rw t at (stored-turned src)))
 
       -- one colour more
       pub loop-store : k < limit → (w : ℕ) → w ≡ colourWord d → Loop tokens count room₀ limit (set room k w) (rest ws tokenWords) (n - 1) d (k + 1)
@@ -245,7 +245,7 @@ module _ {tokens : List ℕ} {count : ℕ} {room₀ : List ℕ} {limit : ℕ} {r
             long = simp length-set (l .long);
             limited = l .limited;
             held = simp length-set u;
-            behind = drop-set-lt (k + 1) room k w (omega arith) ∙ sym (drop-drop 1 k room) ∙ ap (drop 1) (l .behind) ∙ drop-drop 1 k room₀;
+            behind = drop-set-lt (k + 1) room k w (omega arith) ∙ sym (drop-drop colourWords k room) ∙ ap (drop colourWords) (l .behind) ∙ drop-drop colourWords k room₀;
             within = omega arith;
             small = stored-small;
             left = λ src. rw s (rw t at (stored-turned src));

@@ -16,18 +16,18 @@ use lib.ListN.{length, length-append}
 use lib.Dec.{eqb, ltb}
 use Rattle.answers.specs.declared.Why.the-variants.{NumberField, ColourRoom}
 use Rattle.answers.specs.declared.Refusal.{Refusal}
-use Rattle.answers.specs.Answers.{refusal, Found, found, refused}
+use Rattle.answers.specs.Answers.{Found, found, refused, Fate, becomes, fails, foundAt}
 use Rattle.rooms.specs.Rooms.{tableLimit}
 use Rattle.rooms.proofs.Rooms.{limit-256}
 use Rattle.tokens.specs.declared.Property.{Property}
-use Rattle.tokens.specs.Tokens.{Shown, valueOf}
+use Rattle.tokens.specs.Tokens.{Shown, Token, sliceOf, shownIn, valueOf}
 use Rattle.tokens.specs.Tokens
 use Rattle.colours.specs.declared.Colour.{Colour}
 use Rattle.colours.specs.Colours.{Colours, black, noColours, colourWord, fitting, blued, kept, colourWords}
 use Rattle.colours.specs.Colours.{colourWordOf, colourToken, nextColour, coloursFrom, tableOf, colours}
 use Rattle.colours.specs.Effects.{Small}
 
-pub colours-refused : (limit : ℕ) (r : Refusal) (ts : List Shown) → coloursFrom limit (refused r) ts ≡ refused r
+pub colours-refused : (limit : ℕ) (r : Refusal) (ts : List Token) → coloursFrom limit (refused r) ts ≡ refused r
 unfolding coloursFrom
 colours-refused limit r [] = refl
 colours-refused limit r (t ∷ ts) = colours-refused limit r ts
@@ -58,27 +58,36 @@ abbrev pub SoundIf : ℕ → Found Colours → Type 0
 SoundIf limit (found s) = Sound limit s
 SoundIf limit (refused r) = Unit {0}
 
+-- the same of what becomes of them at one token
+abbrev SoundFate : ℕ → Fate Colours → Type 0
+SoundFate limit (becomes s) = Sound limit s
+SoundFate limit (fails why) = Unit {0}
+
+sound-at : (limit p : ℕ) (x : Fate Colours) → SoundFate limit x → SoundIf limit (foundAt p x)
+sound-at limit p (becomes s) h = h
+sound-at limit p (fails why) h = tt
+
 pub sound-start : (limit : ℕ) → Sound limit noColours
 sound-start limit =
     let z : Small black = record { red = omega arith; green = omega arith; blue = omega arith } in
     record { few = omega arith; words = tt; small = z }
 
-sound-either : (limit : ℕ) (t : Bool) (x y : Found Colours) → SoundIf limit x → SoundIf limit y → SoundIf limit (cond t x y)
+sound-either : (limit : ℕ) (t : Bool) (x y : Fate Colours) → SoundFate limit x → SoundFate limit y → SoundFate limit (cond t x y)
 sound-either limit true x y p q = p
 sound-either limit false x y p q = q
 
-sound-fitting : (limit : ℕ) (num : Property) (x : Found Colours) → (valueOf num ≤ 255 → SoundIf limit x) → SoundIf limit (fitting num x)
+sound-fitting : (limit : ℕ) (num : Property) (x : Fate Colours) → (valueOf num ≤ 255 → SoundFate limit x) → SoundFate limit (fitting num x)
 sound-fitting limit num x f = go (ltb (valueOf num) 256) refl
   where
-    go : (t : Bool) → ltb (valueOf num) 256 ≡ t → SoundIf limit (cond t x (refused (refusal NumberField)))
+    go : (t : Bool) → ltb (valueOf num) 256 ≡ t → SoundFate limit (cond t x (fails NumberField))
     go true q = f (let l : valueOf num < 256 = ltb-true (valueOf num) 256 q in omega arith)
     go false q = tt
 
-sound-kept : (limit : ℕ) (s : Colours) → Words (s .table) → Small (s .colour) → SoundIf limit (kept limit s)
+sound-kept : (limit : ℕ) (s : Colours) → Words (s .table) → Small (s .colour) → SoundFate limit (kept limit s)
 sound-kept limit s w m = go (ltb (length (s .table)) limit) refl
   where
     go : (t : Bool) → ltb (length (s .table)) limit ≡ t
-        → SoundIf limit (cond t (found (record { table = s .table ++ (colourWord (s .colour) ∷ []); colour = s .colour })) (refused (refusal ColourRoom)))
+        → SoundFate limit (cond t (becomes (record { table = s .table ++ (colourWord (s .colour) ∷ []); colour = s .colour })) (fails ColourRoom))
     go true q =
         let l : length (s .table) < limit = ltb-true (length (s .table)) limit q in
         record {
@@ -88,7 +97,7 @@ sound-kept limit s w m = go (ltb (length (s .table)) limit) refl
         }
     go false q = tt
 
-sound-word : (limit w : ℕ) (num : Property) (s : Colours) → Sound limit s → SoundIf limit (colourWordOf limit w num s)
+sound-word : (limit w : ℕ) (num : Property) (s : Colours) → Sound limit s → SoundFate limit (colourWordOf limit w num s)
 unfolding colourWordOf
 sound-word limit w num s h =
     sound-either limit (eqb w 37) _ _
@@ -99,7 +108,7 @@ sound-word limit w num s h =
     (sound-fitting limit num _ (λ f. sound-kept limit (blued (valueOf num) s) (h .words) (record { red = h .small .red; green = h .small .green; blue = f })))
     h))
 
-sound-token : (limit : ℕ) (t : Shown) (s : Colours) → Sound limit s → SoundIf limit (colourToken limit t s)
+sound-token : (limit : ℕ) (t : Shown) (s : Colours) → Sound limit s → SoundFate limit (colourToken limit t s)
 unfolding colourToken
 sound-token limit (Shown.word w num) s h = sound-word limit w num s h
 sound-token limit (Shown.text p bs) s h = h
@@ -109,16 +118,16 @@ sound-token limit Shown.lineBreak s h = h
 sound-token limit Shown.ignorable s h = h
 sound-token limit (Shown.unknown p bs num) s h = h
 
-pub sound-from : (limit : ℕ) (x : Found Colours) (ts : List Shown) → SoundIf limit x → SoundIf limit (coloursFrom limit x ts)
+pub sound-from : (limit : ℕ) (x : Found Colours) (ts : List Token) → SoundIf limit x → SoundIf limit (coloursFrom limit x ts)
 unfolding coloursFrom
 sound-from limit x [] h = h
 sound-from limit x (t ∷ ts) h = sound-from limit (nextColour limit x t) ts (next x h)
   where
     next : (x : Found Colours) → SoundIf limit x → SoundIf limit (nextColour limit x t)
-    next (found s) h = sound-token limit t s h
+    next (found s) h = sound-at limit (sliceOf t) (colourToken limit (shownIn t) s) (sound-token limit (shownIn t) s h)
     next (refused r) h = tt
 
-module _ (limit : ℕ) (ts : List Shown) (cs : List ℕ) where
+module _ (limit : ℕ) (ts : List Token) (cs : List ℕ) where
   sound-table : (x : Found Colours) → SoundIf limit x → tableOf x ≡ found cs → (length cs ≤ limit) × Words cs
   sound-table (found s) h e =
       let q : s .table ≡ cs = cc in
@@ -136,5 +145,5 @@ module _ (limit : ℕ) (ts : List Shown) (cs : List ℕ) where
   pub colours-words : colours limit ts ≡ found cs → Words cs
   colours-words e = sound-colours e .1
 
-pub colours-few-256 : (total : ℕ) (ts : List Shown) (cs : List ℕ) → colours (tableLimit colourWords total) ts ≡ found cs → length cs ≤ 256
+pub colours-few-256 : (total : ℕ) (ts : List Token) (cs : List ℕ) → colours (tableLimit colourWords total) ts ≡ found cs → length cs ≤ 256
 colours-few-256 total ts cs e = let h : length cs ≤ tableLimit colourWords total = colours-few (tableLimit colourWords total) ts cs e in omega (arith, limit-256 colourWords total)

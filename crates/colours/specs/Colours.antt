@@ -1,4 +1,4 @@
--- 01, Header walk, "Colours": the colour table that a group's tokens give, or a refusal. Assumes nothing: these are definitions.
+-- 01, Header walk, "Colours", and 02, A4: the colour table that a group's tokens give, or a refusal. Assumes nothing: these are definitions.
 use Prim.Native.Nat.{ℕ, _+_, _*_}
 use mathlib.Core.Path.{_≡_}
 use mathlib.Core.List.{List, [], _∷_, _++_}
@@ -8,10 +8,10 @@ use lib.Dec.{eqb, ltb}
 use Rattle.answers.specs.declared.Why.the-variants.{NumberField, ColourRoom}
 use Rattle.answers.specs.declared.Outcome.{Outcome}
 use Rattle.answers.specs.declared.Outcome.the-variants.{Done, Refused}
-use Rattle.answers.specs.Answers.{refusal, Found, found, refused}
+use Rattle.answers.specs.Answers.{Found, found, refused, Fate, becomes, fails, foundAt}
 use Rattle.rooms.specs.Rooms.{overlaid}
 use Rattle.tokens.specs.declared.Property.{Property}
-use Rattle.tokens.specs.Tokens.{Shown, valueOf}
+use Rattle.tokens.specs.Tokens.{Shown, Token, sliceOf, shownIn, valueOf}
 use Rattle.tokens.specs.Tokens
 use Rattle.colours.specs.declared.Colour.{Colour}
 use Rattle.tokens.specs.WordNumbers as words
@@ -36,8 +36,8 @@ abbrev pub noColours : Colours
 noColours = record { table = []; colour = black }
 
 -- "0 to 255, no number means 0"; 12: "a number does not fit its field"
-abbrev pub fitting : Property → Found Colours → Found Colours
-fitting num c = cond (ltb (valueOf num) 256) c (refused (refusal NumberField))
+abbrev pub fitting : Property → Fate Colours → Fate Colours
+fitting num c = cond (ltb (valueOf num) 256) c (fails NumberField)
 
 abbrev pub reddened : ℕ → Colours → Colours
 reddened v s = record { table = s .table; colour = record { red = v; green = s .colour .green; blue = s .colour .blue } }
@@ -49,36 +49,37 @@ abbrev pub blued : ℕ → Colours → Colours
 blued v s = record { table = s .table; colour = record { red = s .colour .red; green = s .colour .green; blue = v } }
 
 -- "`\blue` stores and counts on"; 18: "a new colour, beyond 256 or the lent room"
-abbrev pub kept : ℕ → Colours → Found Colours
+abbrev pub kept : ℕ → Colours → Fate Colours
 kept limit s =
-    cond (ltb (length (s .table)) limit) (found (record { table = s .table ++ (colourWord (s .colour) ∷ []); colour = s .colour }))
-    (refused (refusal ColourRoom))
+    cond (ltb (length (s .table)) limit) (becomes (record { table = s .table ++ (colourWord (s .colour) ∷ []); colour = s .colour }))
+    (fails ColourRoom)
 
 -- a word: `red`, `green` and `blue` are numbers 37 to 39. A blue value that does not fit is refused before the room is asked,
 -- as in the crate
-unfoldable pub colourWordOf : ℕ → ℕ → Property → Colours → Found Colours
+unfoldable pub colourWordOf : ℕ → ℕ → Property → Colours → Fate Colours
 colourWordOf limit w num s =
-    cond (eqb w words.colourRed) (fitting num (found (reddened (valueOf num) s)))
-    (cond (eqb w words.colourGreen) (fitting num (found (greened (valueOf num) s)))
+    cond (eqb w words.colourRed) (fitting num (becomes (reddened (valueOf num) s)))
+    (cond (eqb w words.colourGreen) (fitting num (becomes (greened (valueOf num) s)))
     (cond (eqb w words.colourBlue) (fitting num (kept limit (blued (valueOf num) s)))
-    (found s)))
+    (becomes s)))
 
--- a token of the group
-unfoldable pub colourToken : ℕ → Shown → Colours → Found Colours
+-- what a token of the group shows
+unfoldable pub colourToken : ℕ → Shown → Colours → Fate Colours
 colourToken limit (Shown.word w num) s = colourWordOf limit w num s
-colourToken limit (Shown.text p bs) s = found s
-colourToken limit Shown.opening s = found s
-colourToken limit Shown.closing s = found s
-colourToken limit Shown.lineBreak s = found s
-colourToken limit Shown.ignorable s = found s
-colourToken limit (Shown.unknown p bs num) s = found s
+colourToken limit (Shown.text p bs) s = becomes s
+colourToken limit Shown.opening s = becomes s
+colourToken limit Shown.closing s = becomes s
+colourToken limit Shown.lineBreak s = becomes s
+colourToken limit Shown.ignorable s = becomes s
+colourToken limit (Shown.unknown p bs num) s = becomes s
 
-abbrev pub nextColour : ℕ → Found Colours → Shown → Found Colours
+-- a token; a refusal has the place of its slice
+abbrev pub nextColour : ℕ → Found Colours → Token → Found Colours
 nextColour limit (refused r) t = refused r
-nextColour limit (found s) t = colourToken limit t s
+nextColour limit (found s) t = foundAt (sliceOf t) (colourToken limit (shownIn t) s)
 
 -- token by token
-unfoldable pub coloursFrom : ℕ → Found Colours → List Shown → Found Colours
+unfoldable pub coloursFrom : ℕ → Found Colours → List Token → Found Colours
 coloursFrom limit acc [] = acc
 coloursFrom limit acc (t ∷ ts) = coloursFrom limit (nextColour limit acc t) ts
 
@@ -87,7 +88,7 @@ tableOf (found s) = found (s .table)
 tableOf (refused r) = refused r
 
 -- the table of a group's tokens
-unfoldable pub colours : ℕ → List Shown → Found (List ℕ)
+unfoldable pub colours : ℕ → List Token → Found (List ℕ)
 colours limit ts = tableOf (coloursFrom limit (found noColours) ts)
 
 -- what a function that reads a colour table into a room answers, and the room that it leaves: the records, a word each, over what stood

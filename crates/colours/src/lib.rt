@@ -13,12 +13,13 @@ use tokens::Property;
 use tokens::TOKEN_WORDS;
 use tokens::item::Item;
 use tokens::item::item_at;
+use tokens::item::slice_at;
 use tokens::words;
 ghost use mathlib.Core.Path.{_≡_};
 ghost use mathlib.Core.List.{List};
 ghost use Prim.Native.Nat.{ℕ, _*_, _≤_};
 ghost use lib.ListN.{length};
-ghost use Rattle.tokens.specs.Items.{shownAll};
+ghost use Rattle.tokens.specs.Items.{tokensAll};
 ghost use Rattle.rooms.specs.Rooms.{tableLimit};
 ghost use Rattle.colours.specs.Colours.{colours as coloursOf, colourWord, ReadColours, colourWords};
 ghost use Rattle.colours.specs.Effects.{fitted as fittedOf, wordEffect, effectOf, Small};
@@ -123,7 +124,7 @@ fn colour_word(c: Colour) -> u32
 // Reads the table of a group's tokens, which starts anew.
 pub fn read_colours(tokens: &[u32], count: usize, room: &mut [u32]) -> Outcome
     requires { ⌜ (count * tokenWords ≤ length (now tokens)) × (count ≤ 65536) ⌝ }
-    ensures { λ r. ⌜ ((src : List ℕ) → ReadColours (coloursOf (tableLimit colourWords (length (now (room .entry)))) (shownAll src count (now (tokens .entry)))) (now (room .entry)) r (now (room .exit))) ⌝ }
+    ensures { λ r. ⌜ ((src : List ℕ) → ReadColours (coloursOf (tableLimit colourWords (length (now (room .entry)))) (tokensAll src count (now (tokens .entry)))) (now (room .entry)) r (now (room .exit))) ⌝ }
 {
     let limit = limit_of(room.len());
     let mut t = tokens;
@@ -135,9 +136,10 @@ pub fn read_colours(tokens: &[u32], count: usize, room: &mut [u32]) -> Outcome
     };
     let mut stored: usize = 0;
     while 0 < n {
-        let i = item_at(t);
+        let here = t;
+        let i = item_at(here);
         let e = step(i, colour);
-        t = &t[TOKEN_WORDS..];
+        t = &here[TOKEN_WORDS..];
         n -= 1;
         match e {
             Effect::Set(c) => {
@@ -153,7 +155,8 @@ pub fn read_colours(tokens: &[u32], count: usize, room: &mut [u32]) -> Outcome
                 colour = next;
             }
             Effect::Unfit => {
-                return Outcome::Refused(Refusal::of(Why::NumberField));
+                let place = slice_at(here);
+                return Outcome::Refused(Refusal::at(Why::NumberField, place));
             }
         }
     }

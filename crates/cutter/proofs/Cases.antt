@@ -1,11 +1,11 @@
 -- Telling letters, as theorems on the definitions: each is computed through the whole of cutting. Assumes nothing.
 use mathlib.Core.Path.{_≡_, refl}
-use mathlib.Core.List.{List, [], _∷_}
+use mathlib.Core.List.{List, [], _∷_, _++_}
 use mathlib.Core.Bool.{Bool, true, false, _&&_}
 use Prim.Native.Nat.{ℕ}
 use Prim.Native.String.{String}
 use lib.Dec.{eqb}
-use Rattle.answers.specs.Answers.{outcomeNumber, outcomeCount}
+use Rattle.answers.specs.Answers.{outcomeNumber, outcomeCount, outcomePlace}
 use Rattle.bytes.specs.Bytes.{lead, body, any}
 use Rattle.bytes.specs.Texts.{bytesOf}
 use Rattle.names.specs.Names.{sameBytes, placeIn, wordNumber}
@@ -17,40 +17,49 @@ use Rattle.tokens.specs.Tokens.{recordOf}
 use Rattle.tokenize.specs.Tokenize.{mark, plain, hexValue, hexEscape, lineBreakAnd, shownWord, numbered, named, bareLength, wordTail, word, other, escaped, tokens}
 use Rattle.cutter.specs.Cutting.{located, last, allSlices, trimmed, tokenStream, cutAnswer, cutRoom}
 
--- a letter, a room's words, the answer's number and count, and the room's first words, of which the rest are zero
+-- a letter, a room's words, the answer's number, place and count, and the room's first words, of which the rest are zero
 record Case : Type 0 where
   letter : String
   room : ℕ
   number : ℕ
+  place : ℕ
   count : ℕ
   holds : List ℕ
 
 cases : List Case
 cases =
     -- 01's sample letters, as far as cutting goes
-    record { letter = "{}"; room = 12; number = 0; count = 2; holds = 1 ∷ 0 ∷ 0 ∷ 0 ∷ 0 ∷ 0 ∷ 2 ∷ 0 ∷ 0 ∷ 0 ∷ 0 ∷ 0 ∷ [] }
-    ∷ record { letter = ""; room = 7; number = 0; count = 0; holds = 0 ∷ 0 ∷ 0 ∷ 0 ∷ 0 ∷ 0 ∷ 0 ∷ [] }
-    ∷ record { letter = "{\\\\{a}}"; room = 24; number = 0; count = 4; holds = 1 ∷ 0 ∷ 0 ∷ 0 ∷ 0 ∷ 0 ∷ 0 ∷ 0 ∷ 0 ∷ 0 ∷ 2 ∷ 3 ∷ 2 ∷ 0 ∷ 0 ∷ 0 ∷ 0 ∷ 0 ∷ 2 ∷ [] }
-    ∷ record { letter = "{\\u-3913 }"; room = 18; number = 0; count = 3; holds = 1 ∷ 0 ∷ 0 ∷ 0 ∷ 0 ∷ 0 ∷ 5 ∷ 2 ∷ 1 ∷ 4294963383 ∷ 0 ∷ 0 ∷ 2 ∷ [] }
-    ∷ record { letter = "{\\'e9\\'e8}"; room = 24; number = 0; count = 4; holds = 1 ∷ 0 ∷ 0 ∷ 0 ∷ 0 ∷ 0 ∷ 5 ∷ 2 ∷ 1 ∷ 233 ∷ 0 ∷ 0 ∷ 5 ∷ 2 ∷ 1 ∷ 232 ∷ 0 ∷ 0 ∷ 2 ∷ [] }
+    record { letter = "{}"; room = 16; number = 0; place = 0; count = 2; holds = (1 ∷ 0 ∷ 0 ∷ 0 ∷ 0 ∷ 0 ∷ 0 ∷ 1 ∷ []) ++ (2 ∷ 0 ∷ 0 ∷ 0 ∷ 0 ∷ 0 ∷ 1 ∷ 1 ∷ []) }
+    ∷ record { letter = ""; room = 9; number = 0; place = 0; count = 0; holds = [] }
+    ∷ record { letter = "{\\\\{a}}"; room = 32; number = 0; place = 0; count = 4; holds = (1 ∷ 0 ∷ 0 ∷ 0 ∷ 0 ∷ 0 ∷ 0 ∷ 1 ∷ []) ++ (0 ∷ 0 ∷ 0 ∷ 0 ∷ 2 ∷ 3 ∷ 1 ∷ 4 ∷ []) ++ (2 ∷ 0 ∷ 0 ∷ 0 ∷ 0 ∷ 0 ∷ 5 ∷ 1 ∷ []) ++ (2 ∷ 0 ∷ 0 ∷ 0 ∷ 0 ∷ 0 ∷ 6 ∷ 1 ∷ []) }
+    ∷ record { letter = "{\\u-3913 }"; room = 24; number = 0; place = 0; count = 3; holds = (1 ∷ 0 ∷ 0 ∷ 0 ∷ 0 ∷ 0 ∷ 0 ∷ 1 ∷ []) ++ (5 ∷ 2 ∷ 1 ∷ 4294963383 ∷ 0 ∷ 0 ∷ 1 ∷ 8 ∷ []) ++ (2 ∷ 0 ∷ 0 ∷ 0 ∷ 0 ∷ 0 ∷ 9 ∷ 1 ∷ []) }
+    ∷ record { letter = "{\\'e9\\'e8}"; room = 32; number = 0; place = 0; count = 4; holds = (1 ∷ 0 ∷ 0 ∷ 0 ∷ 0 ∷ 0 ∷ 0 ∷ 1 ∷ []) ++ (5 ∷ 2 ∷ 1 ∷ 233 ∷ 0 ∷ 0 ∷ 1 ∷ 4 ∷ []) ++ (5 ∷ 2 ∷ 1 ∷ 232 ∷ 0 ∷ 0 ∷ 5 ∷ 4 ∷ []) ++ (2 ∷ 0 ∷ 0 ∷ 0 ∷ 0 ∷ 0 ∷ 9 ∷ 1 ∷ []) }
     -- `?` belongs to the word, which is then unknown: DIFFERENCES, 5
-    ∷ record { letter = "{\\u8217?}"; room = 18; number = 0; count = 3; holds = 1 ∷ 0 ∷ 0 ∷ 0 ∷ 0 ∷ 0 ∷ 5 ∷ 49 ∷ 0 ∷ 0 ∷ 1 ∷ 7 ∷ 2 ∷ [] }
-    ∷ record { letter = "{a\\~b}"; room = 18; number = 0; count = 3; holds = 1 ∷ 0 ∷ 0 ∷ 0 ∷ 0 ∷ 0 ∷ 0 ∷ 0 ∷ 0 ∷ 0 ∷ 1 ∷ 1 ∷ 2 ∷ [] }
+    ∷ record { letter = "{\\u8217?}"; room = 24; number = 0; place = 0; count = 3; holds = (1 ∷ 0 ∷ 0 ∷ 0 ∷ 0 ∷ 0 ∷ 0 ∷ 1 ∷ []) ++ (5 ∷ 49 ∷ 0 ∷ 0 ∷ 1 ∷ 7 ∷ 1 ∷ 7 ∷ []) ++ (2 ∷ 0 ∷ 0 ∷ 0 ∷ 0 ∷ 0 ∷ 8 ∷ 1 ∷ []) }
+    ∷ record { letter = "{a\\~b}"; room = 24; number = 0; place = 0; count = 3; holds = (1 ∷ 0 ∷ 0 ∷ 0 ∷ 0 ∷ 0 ∷ 0 ∷ 2 ∷ []) ++ (0 ∷ 0 ∷ 0 ∷ 0 ∷ 1 ∷ 1 ∷ 0 ∷ 2 ∷ []) ++ (2 ∷ 0 ∷ 0 ∷ 0 ∷ 0 ∷ 0 ∷ 5 ∷ 1 ∷ []) }
+    -- a bracket and the text behind it have one slice; places count before trimming
+    ∷ record { letter = " {}b}"; room = 32; number = 0; place = 0; count = 4; holds = (1 ∷ 0 ∷ 0 ∷ 0 ∷ 0 ∷ 0 ∷ 1 ∷ 1 ∷ []) ++ (2 ∷ 0 ∷ 0 ∷ 0 ∷ 0 ∷ 0 ∷ 2 ∷ 2 ∷ []) ++ (0 ∷ 0 ∷ 0 ∷ 0 ∷ 3 ∷ 1 ∷ 2 ∷ 2 ∷ []) ++ (2 ∷ 0 ∷ 0 ∷ 0 ∷ 0 ∷ 0 ∷ 4 ∷ 1 ∷ []) }
     -- byte 11 ends no word, and a white tail with it is lost: DIFFERENCES, 1 and 2
-    ∷ record { letter = "\\a\u{b}}"; room = 12; number = 0; count = 2; holds = 5 ∷ 49 ∷ 0 ∷ 0 ∷ 0 ∷ 3 ∷ 2 ∷ [] }
-    ∷ record { letter = "\\a \u{b}}"; room = 12; number = 0; count = 2; holds = 5 ∷ 49 ∷ 0 ∷ 0 ∷ 0 ∷ 2 ∷ 2 ∷ [] }
-    ∷ record { letter = "\\a  }"; room = 18; number = 0; count = 3; holds = 5 ∷ 49 ∷ 0 ∷ 0 ∷ 0 ∷ 2 ∷ 0 ∷ 0 ∷ 0 ∷ 0 ∷ 3 ∷ 1 ∷ 2 ∷ [] }
-    -- the smallest letter of each refusal from 3 on
-    ∷ record { letter = "\\'}"; room = 12; number = 3; count = 0; holds = [] }
-    ∷ record { letter = "\\'zz}"; room = 12; number = 4; count = 0; holds = [] }
-    ∷ record { letter = "\\a-}"; room = 12; number = 5; count = 0; holds = [] }
-    ∷ record { letter = "a"; room = 12; number = 6; count = 0; holds = [] }
-    ∷ record { letter = "}"; room = 5; number = 7; count = 0; holds = [] }
+    ∷ record { letter = "\\a\u{b}}"; room = 16; number = 0; place = 0; count = 2; holds = (5 ∷ 49 ∷ 0 ∷ 0 ∷ 0 ∷ 3 ∷ 0 ∷ 3 ∷ []) ++ (2 ∷ 0 ∷ 0 ∷ 0 ∷ 0 ∷ 0 ∷ 3 ∷ 1 ∷ []) }
+    ∷ record { letter = "\\a \u{b}}"; room = 16; number = 0; place = 0; count = 2; holds = (5 ∷ 49 ∷ 0 ∷ 0 ∷ 0 ∷ 2 ∷ 0 ∷ 4 ∷ []) ++ (2 ∷ 0 ∷ 0 ∷ 0 ∷ 0 ∷ 0 ∷ 4 ∷ 1 ∷ []) }
+    ∷ record { letter = "\\a  }"; room = 24; number = 0; place = 0; count = 3; holds = (5 ∷ 49 ∷ 0 ∷ 0 ∷ 0 ∷ 2 ∷ 0 ∷ 4 ∷ []) ++ (0 ∷ 0 ∷ 0 ∷ 0 ∷ 3 ∷ 1 ∷ 0 ∷ 4 ∷ []) ++ (2 ∷ 0 ∷ 0 ∷ 0 ∷ 0 ∷ 0 ∷ 4 ∷ 1 ∷ []) }
+    -- the smallest letter of each refusal from 3 on, and the same behind white space and a group
+    ∷ record { letter = "\\'}"; room = 16; number = 3; place = 0; count = 0; holds = [] }
+    ∷ record { letter = "\\'zz}"; room = 16; number = 4; place = 0; count = 0; holds = [] }
+    ∷ record { letter = "\\a-}"; room = 16; number = 5; place = 0; count = 0; holds = [] }
+    ∷ record { letter = "a"; room = 16; number = 6; place = 0; count = 0; holds = [] }
+    ∷ record { letter = " {}\\'}"; room = 16; number = 3; place = 3; count = 0; holds = [] }
+    ∷ record { letter = " {}\\'zz}"; room = 16; number = 4; place = 3; count = 0; holds = [] }
+    ∷ record { letter = " {}\\a-}"; room = 16; number = 5; place = 3; count = 0; holds = [] }
+    ∷ record { letter = " {} a "; room = 16; number = 6; place = 2; count = 0; holds = [] }
+    ∷ record { letter = "}"; room = 7; number = 7; place = 0; count = 0; holds = [] }
+    ∷ record { letter = " {}"; room = 8; number = 7; place = 0; count = 0; holds = [] }
     -- both sides of the 32-bit limits; 5 comes before 7
-    ∷ record { letter = "\\b2147483647}"; room = 12; number = 0; count = 2; holds = 5 ∷ 13 ∷ 1 ∷ 2147483647 ∷ 0 ∷ 0 ∷ 2 ∷ [] }
-    ∷ record { letter = "\\b2147483648}"; room = 12; number = 5; count = 0; holds = [] }
-    ∷ record { letter = "\\b-2147483648}"; room = 12; number = 0; count = 2; holds = 5 ∷ 13 ∷ 1 ∷ 2147483648 ∷ 0 ∷ 0 ∷ 2 ∷ [] }
-    ∷ record { letter = "{}\\b-2147483649}"; room = 0; number = 5; count = 0; holds = [] } ∷ []
+    ∷ record { letter = "\\b2147483647}"; room = 16; number = 0; place = 0; count = 2; holds = (5 ∷ 13 ∷ 1 ∷ 2147483647 ∷ 0 ∷ 0 ∷ 0 ∷ 12 ∷ []) ++ (2 ∷ 0 ∷ 0 ∷ 0 ∷ 0 ∷ 0 ∷ 12 ∷ 1 ∷ []) }
+    ∷ record { letter = "\\b2147483648}"; room = 16; number = 5; place = 0; count = 0; holds = [] }
+    ∷ record { letter = "\\b-2147483648}"; room = 16; number = 0; place = 0; count = 2; holds = (5 ∷ 13 ∷ 1 ∷ 2147483648 ∷ 0 ∷ 0 ∷ 0 ∷ 13 ∷ []) ++ (2 ∷ 0 ∷ 0 ∷ 0 ∷ 0 ∷ 0 ∷ 13 ∷ 1 ∷ []) }
+    ∷ record { letter = "{}\\b-2147483649}"; room = 0; number = 5; place = 2; count = 0; holds = [] }
+    ∷ []
 
 -- the room's words are those that a case lists, and zeros behind them
 sameRoom : List ℕ → List ℕ → Bool
@@ -63,7 +72,7 @@ right : Case → Bool
 right c =
     let src = bytesOf (c .letter) in
     let o = cutAnswer src (c .room) in
-    (eqb (outcomeNumber o) (c .number) && eqb (outcomeCount o) (c .count)) && sameRoom (cutRoom src (c .room)) (c .holds)
+    ((eqb (outcomeNumber o) (c .number) && eqb (outcomePlace o) (c .place)) && eqb (outcomeCount o) (c .count)) && sameRoom (cutRoom src (c .room)) (c .holds)
 
 every : List Case → Bool
 every [] = true

@@ -7,31 +7,33 @@ use native.Mathlib.Omega.{arith}
 use borrow.Author.Tests.{ltb-false}
 use lib.ListN.{length, length-append, length-take, length-drop}
 use lib.Dec.{ltb, leb, eqb}
+use Rattle.answers.specs.declared.Why.{Why}
 use Rattle.answers.specs.declared.Why.the-variants.{SourceTooLong, NotAscii, LastSlice, TokenRoom}
 use Rattle.answers.specs.declared.Outcome.{Outcome}
 use Rattle.answers.specs.declared.Outcome.the-variants.{Done, Refused}
-use Rattle.answers.specs.Answers.{refusal, outcomeCount}
+use Rattle.answers.specs.Answers.{refusal, refusalAt, outcomeCount}
 use Rattle.bytes.specs.Bytes.{isHigh, any}
 use Rattle.rooms.specs.Streams.{end, stop, _▸_, count, answer}
 use Rattle.rooms.specs.Rooms.{capacity, settled}
 use Rattle.rooms.proofs.Streams.{count-then, count-each, answer-count}
 use Rattle.slices.specs.Slices.{slices}
 use Rattle.slices.proofs.Slices.{joined, joined-slices}
-use Rattle.tokens.specs.Tokens.{tokenLayout, tokenWords}
+use Rattle.tokens.specs.Tokens.{Shown, token, tokenLayout, tokenWords}
+use Rattle.tokens.specs.Tokens
 use Rattle.tokenize.specs.Tokenize.{tokens}
 use Rattle.tokenize.proofs.Sizes.{count-tokens}
-use Rattle.cutter.specs.Cutting.{locate, located, last, allSlices, trimStart, trimmed, tokenStream, cutAnswer}
+use Rattle.cutter.specs.Cutting.{located, last, allSlices, trimStart, trimmed, tokenStream, cutAnswer}
 
 count-located : (p : ℕ) (s : List ℕ) → count (located p s) ≤ length s
 unfolding located
-count-located p s = rw (count-each refusal (locate p (length s)) (tokens p s)) (count-tokens p s)
+count-located p s = rw (count-each (λ (w : Why). refusalAt w p) (token p (length s)) (tokens p s)) (count-tokens p s)
 
 count-last : (p : ℕ) (s : List ℕ) → count (last p s) ≤ length s
 unfolding last count
 count-last p [] = omega arith
 count-last p (b ∷ []) = go (eqb b 125)
   where
-    go : (t : Bool) → count (cond t (locate p 1 Rattle.tokens.specs.Tokens.Shown.closing ▸ end) (stop (refusal LastSlice))) ≤ 1
+    go : (t : Bool) → count (cond t (token p 1 Shown.closing ▸ end) (stop (refusalAt LastSlice p))) ≤ 1
     go true = omega arith
     go false = omega arith
 count-last p (b ∷ c ∷ s) = omega arith

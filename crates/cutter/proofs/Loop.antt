@@ -12,17 +12,18 @@ use Rattle.answers.specs.declared.Outcome.the-variants.{Done, Refused}
 use Rattle.answers.specs.declared.Why.{Why}
 use Rattle.answers.specs.declared.Written.{Written}
 use Rattle.answers.specs.declared.Written.the-variants.{Done as Up, Refused as Stopped}
-use Rattle.answers.specs.Answers.{refusal}
-use Rattle.rooms.proofs.Streams.{refusal-apart}
-use Rattle.rooms.specs.Streams.{end, andThen, byRefusal, byName}
-use Rattle.rooms.specs.Rooms.{Wrote}
-use Rattle.rooms.proofs.Rooms.{Left, left-start, left-end, left-stop, left-more, length-putAll, wrote-each}
+use Rattle.answers.specs.Answers.{refusalAt}
+use Rattle.rooms.proofs.Streams.{refusal-apart, name-apart, ended-count, ended-each}
+use Rattle.rooms.specs.Streams.{end, andThen, byRefusal, byName, answer}
+use Rattle.rooms.specs.Rooms.{Wrote, putAll}
+use Rattle.rooms.proofs.Rooms.{Left, left-start, left-end, left-stop, left-more, length-putAll}
 use Rattle.slices.specs.Slices.{slices, sliceLength, split, onto}
 use Rattle.slices.proofs.Slices.{slices-first}
-use Rattle.tokens.specs.Tokens.{shownLayout, tokenLayout}
+use Rattle.tokens.specs.Tokens.{token, shownLayout, tokenLayout, sealedAll}
+use Rattle.tokens.proofs.Sealing.{sealed-wrote}
 use Rattle.tokenize.specs.Tokenize.{tokens}
 use Rattle.tokenize.proofs.Sizes.{tokens-next}
-use Rattle.cutter.specs.Cutting.{locate, located, last, allSlices}
+use Rattle.cutter.specs.Cutting.{located, last, allSlices}
 
 -- the bytes behind the first slice, as the code has them
 abbrev pub part : List ℕ → ℕ → List ℕ
@@ -58,10 +59,10 @@ module _ (p e : ℕ) (s : List ℕ) (h : 0 < length s) (q : e ≡ sliceLength s)
       let f : slices s ≡ s ∷ [] = slices-first s h ∙ rw (z, take-length, drop-length) in
       ap (allSlices p) f
 
--- the answer of a slice, as the loop gives it
-abbrev pub refusing : Written → Outcome
-refusing (Up n) = Done n
-refusing (Stopped why) = Refused (refusal why)
+-- the answer of a slice at p, as the loop gives it
+abbrev refusing : ℕ → Written → Outcome
+refusing p (Up n) = Done n
+refusing p (Stopped why) = Refused (refusalAt why p)
 
 -- t stands at p and is left, and n tokens are written
 pub record Loop (place : ℕ) (s room₀ room t : List ℕ) (p n : ℕ) : Type 0 where
@@ -87,22 +88,45 @@ module _ {place : ℕ} {s room₀ room t : List ℕ} {p n e : ℕ} (l : Loop pla
   loop-last h w = left-end tokenLayout byRefusal (l .left) (all-last p e t (l .some) (f .0) (omega (arith, f .1 .0))) w
 
   module _ (h : e < length t) {r : Written} {room′ : List ℕ} (w : Wrote shownLayout byName n room (tokens p (take e t)) r room′) where
-    slice-wrote : Wrote tokenLayout byRefusal n room (located p (take e t)) (refusing r) room′
+    says-slice : refusing p r ≡ answer n (located p (take e t))
     unfolding located
-    slice-wrote = wrote-each byName byRefusal refusal (locate p (length (take e t))) refusing (λ n. refl) (λ q. refl) shownLayout tokenLayout refl (λ x. refl) w
+    says-slice =
+        ap (refusing p) (w .says)
+        ∙ sym (ended-each (λ (w : Why). refusalAt w p) (token p (length (take e t))) byName byRefusal (refusing p) (λ n. refl) (λ q. refl) (tokens p (take e t)) n)
 
-    pub loop-stop : {why : Why} {k : Refusal} → r ≡ Stopped why → k ≡ refusal why → Wrote tokenLayout byRefusal 0 room₀ (allSlices place (slices s)) (Refused k) room′
-    loop-stop d q = left-stop tokenLayout byRefusal (l .left) refusal-apart (allSlices (p + e) (slices (part t e))) (all-first p e t (l .some) (f .0) h) slice-wrote (ap refusing d ∙ ap Refused (sym q))
+    pub loop-stop : {why : Why} {q : ℕ} {k : Refusal} → r ≡ Stopped why → q ≡ p → k ≡ refusalAt why q → Wrote tokenLayout byRefusal 0 room₀ (allSlices place (slices s)) (Refused k) room′
+    loop-stop {why} {q} {k} d i j =
+        let m : Refused k ≡ refusing p r = ap Refused (j ∙ ap (refusalAt why) i) ∙ ap (refusing p) (sym d) in
+        let v : Wrote tokenLayout byRefusal n room (located p (take e t)) (refusing p r) room′ =
+        record { says = says-slice; holds = λ x y. absurd (refusal-apart .apart (sym (m ∙ y))); long = w .long } in
+        left-stop tokenLayout byRefusal (l .left) refusal-apart (allSlices (p + e) (slices (part t e))) (all-first p e t (l .some) (f .0) h) v (sym m)
 
-    pub loop-next : {m : ℕ} → r ≡ Up m → Loop place s room₀ room′ (part t e) (p + e) m
-    loop-next {m} d =
-        let q : length (part t e) ≡ length t - e = simp (length-take, length-drop) (omega arith) in
-        let b : m ≤ n + length (take e t) = tokens-next p (take e t) w d in
-        let c : length (take e t) ≡ e = simp length-take (omega arith) in
-        record {
-          some = omega arith;
-          fits = omega (arith, l .fits);
-          below = omega (arith, l .below);
-          long = ap length (slice-wrote .holds) ∙ length-putAll tokenLayout (located p (take e t)) room n ∙ l .long;
-          left = left-more tokenLayout byRefusal (l .left) refusal-apart (allSlices (p + e) (slices (part t e))) (all-first p e t (l .some) (f .0) h) slice-wrote (ap refusing d);
-        }
+    -- the tokens of a slice: what it shows was written, and then the slice behind it
+    module _ {m : ℕ} (d : r ≡ Up m) where
+      pub next-above : n ≤ m
+      next-above = omega (arith, ended-count name-apart (tokens p (take e t)) n m (sym (w .says) ∙ d))
+
+      pub next-below : m ≤ n + e
+      next-below =
+          let c : length (take e t) ≡ e = simp length-take (omega arith) in
+          omega (arith, tokens-next p (take e t) w d)
+
+      module _ {q k : ℕ} {room″ : List ℕ} (x : q ≡ p) (y : k ≡ e) (z : room″ ≡ sealedAll q k room′ n (m - n)) where
+        slice-wrote : Wrote tokenLayout byRefusal n room (located p (take e t)) (Done m) room″
+        unfolding located
+        slice-wrote =
+            let c : k ≡ length (take e t) = y ∙ simp length-take (omega arith) in
+            let g : room″ ≡ putAll tokenLayout room n (located p (take e t)) =
+            sealed-wrote p (length (take e t)) (λ (w : Why). refusalAt w p) w d (rw (x, c) at z) in
+            record { says = ap (refusing p) (sym d) ∙ says-slice; holds = λ _ _. g; long = ap length g ∙ length-putAll tokenLayout (located p (take e t)) room n }
+
+        pub loop-next : Loop place s room₀ room″ (part t e) (p + e) m
+        loop-next =
+            let i : length (part t e) ≡ length t - e = simp (length-take, length-drop) (omega arith) in
+            record {
+              some = omega arith;
+              fits = omega (arith, l .fits);
+              below = omega (arith, l .below, next-below);
+              long = slice-wrote .long ∙ l .long;
+              left = left-more tokenLayout byRefusal (l .left) refusal-apart (allSlices (p + e) (slices (part t e))) (all-first p e t (l .some) (f .0) h) slice-wrote refl;
+            }

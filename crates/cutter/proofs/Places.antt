@@ -10,47 +10,48 @@ use Prim.Native.Nat.{ℕ, _+_, _≤_}
 use native.Mathlib.Omega.{arith}
 use lib.ListN.{length, take, drop, length-append, length-take, take-append-drop}
 use lib.Dec.{ltb, eqb}
+use Rattle.answers.specs.declared.Why.{Why}
 use Rattle.answers.specs.declared.Why.the-variants.{SourceTooLong, NotAscii, LastSlice}
-use Rattle.answers.specs.Answers.{refusal}
+use Rattle.answers.specs.Answers.{refusal, refusalAt}
 use Rattle.bytes.specs.declared.Class.the-variants.{White}
 use Rattle.bytes.specs.Bytes.{inClass, body, isHigh, any}
 use Rattle.bytes.proofs.Runs.{lead-length}
 use Rattle.rooms.specs.Streams.{end, stop, _▸_}
 use Rattle.slices.specs.Slices.{slices}
 use Rattle.slices.proofs.Slices.{joined, joined-slices}
-use Rattle.tokens.specs.Tokens.{Shown, Token}
+use Rattle.tokens.specs.Tokens.{Shown, Token, token, sliceOf, sliceLengthOf, shownIn}
 use Rattle.tokens.specs.Tokens
 use Rattle.tokenize.specs.Tokenize.{tokens}
 use Rattle.rooms.proofs.Streams.{Each, Each-then, Each-each, Each-weaken}
 use Rattle.tokenize.proofs.Places.{Stands, stands-after, stands-before, tokens-stand}
-use Rattle.cutter.specs.Cutting.{locate, located, last, allSlices, trimStart, trimmed, tokenStream}
+use Rattle.cutter.specs.Cutting.{located, last, allSlices, trimStart, trimmed, tokenStream}
 
 -- a token of bytes s that stand at p: what it shows stands in them, and its slice ends in them
 abbrev pub PlacedIn : List ℕ → ℕ → Token → Type 0
-PlacedIn s p t = Stands s p (t .shows) × (t .place + t .length ≤ p + length s)
+PlacedIn s p t = Stands s p (shownIn t) × (sliceOf t + sliceLengthOf t ≤ p + length s)
 
 -- a token of a source: what it shows stands in the source, and so does the slice that it was cut from
 abbrev pub Placed : List ℕ → Token → Type 0
-Placed src t = Stands src 0 (t .shows) × (t .place + t .length ≤ length src)
+Placed src t = Stands src 0 (shownIn t) × (sliceOf t + sliceLengthOf t ≤ length src)
 
 placed-after : (x s : List ℕ) (p : ℕ) (t : Token) → PlacedIn s (p + length x) t → PlacedIn (x ++ s) p t
-placed-after x s p t h = (stands-after x s p (t .shows) (h .0), rw length-append (omega arith))
+placed-after x s p t h = (stands-after x s p (shownIn t) (h .0), rw length-append (omega arith))
 
 placed-before : (y s : List ℕ) (p : ℕ) (t : Token) → PlacedIn s p t → PlacedIn (s ++ y) p t
-placed-before y s p t h = (stands-before y s p (t .shows) (h .0), rw length-append (omega arith))
+placed-before y s p t h = (stands-before y s p (shownIn t) (h .0), rw length-append (omega arith))
 
 pub located-places : (p : ℕ) (s : List ℕ) → Each (PlacedIn s p) (located p s)
 unfolding located
 located-places p s =
-    Each-each (PlacedIn s p) refusal (locate p (length s)) (tokens p s)
-    (Each-weaken (Stands s p) (λ (t : Shown). PlacedIn s p (locate p (length s) t)) (λ t h. (h, omega arith)) (tokens p s) (tokens-stand p s))
+    Each-each (PlacedIn s p) (λ (w : Why). refusalAt w p) (token p (length s)) (tokens p s)
+    (Each-weaken (Stands s p) (λ (t : Shown). PlacedIn s p (token p (length s) t)) (λ t h. (h, omega arith)) (tokens p s) (tokens-stand p s))
 
 pub last-places : (p : ℕ) (s : List ℕ) → Each (PlacedIn s p) (last p s)
 unfolding last
 last-places p [] = tt
 last-places p (b ∷ []) = go (eqb b 125)
   where
-    go : (t : Bool) → Each (PlacedIn (b ∷ []) p) (cond t (locate p 1 Shown.closing ▸ end) (stop (refusal LastSlice)))
+    go : (t : Bool) → Each (PlacedIn (b ∷ []) p) (cond t (token p 1 Shown.closing ▸ end) (stop (refusalAt LastSlice p)))
     go true = ((tt, omega arith), tt)
     go false = tt
 last-places p (b ∷ c ∷ s) = tt

@@ -9,45 +9,51 @@ use lib.ListN.{length, getD, take, drop, replicate, length-drop}
 use lib.Seq.{take-all}
 use Rattle.answers.specs.declared.Refusal.{Refusal}
 use Rattle.answers.specs.declared.Why.the-variants.{SourceTooLong, NotAscii, LastSlice, TokenRoom}
+use Rattle.answers.specs.declared.Why.{Why}
+use Rattle.answers.specs.declared.Written.the-variants.{Done as Up}
 use Rattle.answers.specs.declared.Outcome.{Outcome}
 use Rattle.answers.specs.declared.Outcome.the-variants.{Done, Refused}
-use Rattle.answers.specs.Answers.{refusal}
+use Rattle.answers.specs.Answers.{refusal, refusalAt}
 use Rattle.bytes.specs.declared.Class.the-variants.{White}
 use Rattle.bytes.specs.Bytes.{isHigh, inClass, lead, body, any}
-use Rattle.rooms.specs.Streams.{Stream, end, stop, _▸_, count, byRefusal}
-use Rattle.rooms.specs.Rooms.{capacity, put, Wrote, encode, settled, content}
+use Rattle.rooms.specs.Streams.{Stream, end, stop, _▸_, count, each, byRefusal, byName}
+use Rattle.rooms.specs.Rooms.{capacity, put, putAll, Wrote, encode, settled, content}
 use Rattle.rooms.proofs.Streams.{answer-count}
-use Rattle.rooms.proofs.Rooms.{wrote-one, length-putAll, length-encode, putAll-front, settled-fits, settled-over}
+use Rattle.rooms.proofs.Rooms.{wrote-one, length-encode, putAll-front, settled-fits, settled-over}
 use Rattle.slices.specs.Slices.{slices}
 use Rattle.tokens.specs.declared.Record.{Record}
-use Rattle.tokens.specs.Tokens.{Shown, Token, tokenWords, recordWords, bareRecord, tokenLayout}
+use Rattle.tokens.specs.Tokens.{Shown, Token, token, tokenWords, recordWords, bareRecord, shownLayout, tokenLayout, sealedAll}
 use Rattle.tokens.specs.Tokens
-use Rattle.tokens.proofs.Records.{token-sized, closing-record}
-use Rattle.cutter.specs.Cutting.{locate, last, allSlices, trimmed, tokenStream, cutAnswer, cutRoom}
+use Rattle.tokens.proofs.Records.{token-sized, closing-record, wrote-token}
+use Rattle.tokens.proofs.Sealing.{sealed-wrote}
+use Rattle.cutter.specs.Cutting.{last, allSlices, trimmed, tokenStream, cutAnswer, cutRoom}
 
 module _ (p : ℕ) where
-  pub last-long : (s : List ℕ) → (length s ≡ 1 → ⊥) → last p s ≡ stop (refusal LastSlice)
+  pub last-long : (s : List ℕ) → (length s ≡ 1 → ⊥) → last p s ≡ stop (refusalAt LastSlice p)
   unfolding last
   last-long [] h = refl
   last-long (b ∷ []) h = absurd (h refl)
   last-long (b ∷ c ∷ s) h = refl
 
-  pub last-other : (s : List ℕ) → length s ≡ 1 → (getD s 0 0 ≡ 125 → ⊥) → last p s ≡ stop (refusal LastSlice)
+  pub last-other : (s : List ℕ) → length s ≡ 1 → (getD s 0 0 ≡ 125 → ⊥) → last p s ≡ stop (refusalAt LastSlice p)
   unfolding last
   last-other [] h f = refl
   last-other (b ∷ []) h f = rw (ne-eqb b 125 f)
   last-other (b ∷ c ∷ s) h f = refl
 
-  pub last-close : (s : List ℕ) → length s ≡ 1 → getD s 0 0 ≡ 125 → last p s ≡ locate p 1 Shown.closing ▸ end
+  pub last-close : (s : List ℕ) → length s ≡ 1 → getD s 0 0 ≡ 125 → last p s ≡ token p 1 Shown.closing ▸ end
   unfolding last
   last-close [] h e = absurd (omega arith)
   last-close (b ∷ []) h e = rw e
   last-close (b ∷ c ∷ s) h e = absurd (omega arith)
 
-pub last-wrote : {x : Stream Refusal Token} {p n : ℕ} {room room′ : List ℕ} {r : Record} → x ≡ locate p 1 Shown.closing ▸ end → r ≡ bareRecord 2
-    → room′ ≡ put tokenWords room n (recordWords r) → Wrote tokenLayout byRefusal n room x (Done (n + 1)) room′
-last-wrote {n = n} {room = room} e q h =
-    wrote-one tokenLayout e (h ∙ ap (λ (z : Record). put tokenWords room n (recordWords z)) (closing-record q))
+-- the bracket's record, and then its slice
+pub last-wrote : {x : Stream Refusal Token} {p n : ℕ} {room room′ room″ : List ℕ} {r : Record} → x ≡ token p 1 Shown.closing ▸ end → r ≡ bareRecord 2
+    → room′ ≡ put tokenWords room n (recordWords r) → room″ ≡ sealedAll p 1 room′ n (n + 1 - n) → Wrote tokenLayout byRefusal n room x (Done (n + 1)) room″
+unfolding each putAll
+last-wrote {p = p} {n = n} {room = room} e q h k =
+    let w : Wrote shownLayout byName n room (Shown.closing ▸ end) (Up (n + 1)) _ = wrote-token refl (closing-record q) h in
+    wrote-one tokenLayout e (sealed-wrote p 1 (λ (w : Why). refusalAt w p) w refl k)
 
 module _ (src : List ℕ) where
   pub stream-long : 65536 < length src → tokenStream src ≡ stop (refusal SourceTooLong)
@@ -70,7 +76,7 @@ module _ (src : List ℕ) where
 -- what `whole` wrote, settled
 module _ (src : List ℕ) {room room′ : List ℕ} {r : Outcome} (w : Wrote tokenLayout byRefusal 0 room (tokenStream src) r room′) where
   length-wrote : length room′ ≡ length room
-  length-wrote = ap length (w .holds) ∙ length-putAll tokenLayout (tokenStream src) room 0
+  length-wrote = w .long
 
   pub settle-refused : {q : Refusal} → r ≡ Refused q → Refused q ≡ cutAnswer src (length room)
   unfolding cutAnswer settled
@@ -100,6 +106,6 @@ module _ (src : List ℕ) {room room′ : List ℕ} {r : Outcome} (w : Wrote tok
   room-fits {n} e h z =
       let c : n ≡ count (tokenStream src) = answer-count (tokenStream src) 0 n (sym (w .says) ∙ e) ∙ omega arith in
       let f : take (n * tokenWords) room′ ≡ encode tokenLayout (tokenStream src) =
-      rw (w .holds, c) (putAll-front tokenLayout token-sized (tokenStream src) room (rw (c, length-wrote) at h)) in
+      rw (w .holds n e, c) (putAll-front tokenLayout token-sized (tokenStream src) room (rw (c, length-wrote) at h)) in
       let l : length (encode tokenLayout (tokenStream src)) ≡ n * tokenWords = length-encode tokenLayout token-sized (tokenStream src) ∙ rw c in
       z ∙ rw (← settle-fits e h, f, length-wrote, l)

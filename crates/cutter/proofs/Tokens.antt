@@ -1,8 +1,8 @@
--- A token room that the cutter filled, read back: it shows what the source's tokens show.
+-- A token room that the cutter filled, read back: its tokens are the source's.
 --     record-shown      a record
---     shown-stream      the records of a stream
+--     tokens-stream     the records of a stream
 --     cut-counts        how many there are, and that they fit
---     cut-shown         those of a source
+--     cut-tokens        those of a source
 --     cuts              so an answer and a content are all of what `cut` promises
 -- Assumes nothing.
 use mathlib.Core.Path.{_≡_, refl, sym, ap, _∙_}
@@ -23,15 +23,16 @@ use Rattle.rooms.specs.Rooms.{encode, capacity, filled, settled, content}
 use Rattle.rooms.proofs.Streams.{Each, answer-count, done-refused}
 use Rattle.tokens.specs.declared.Property.{Property}
 use Rattle.tokens.specs.declared.Property.the-variants.{None, Value}
-use Rattle.tokens.specs.Tokens.{Shown, Token, hasOf, valueOf, recordOf, recordWords, tokenLayout, tokenWords, shownBy}
+use Rattle.tokens.specs.Tokens.{Shown, Token, token, hasOf, valueOf, recordOf, recordWords, sliceWords, tokenLayout, tokenWords}
 use Rattle.tokens.specs.Tokens
 use Rattle.tokenize.proofs.Places.{At, Stands}
 use Rattle.cutter.specs.Cutting.{tokenStream, cutAnswer, cutRoom, Cuts}
 use Rattle.cutter.proofs.Places.{Placed, stream-places}
+use Rattle.cutter.proofs.Starts.{stream-slices}
 use Rattle.cutter.proofs.Counts.{count-stream}
 use Rattle.tokens.specs.declared.item.Item.{Item}
 use Rattle.tokens.specs.declared.item.Item.the-variants.{Unknown, Word}
-use Rattle.tokens.specs.Items.{propertyOf, itemOf, itemAt, part, shownOf, shownAll}
+use Rattle.tokens.specs.Items.{propertyOf, itemOf, itemAt, part, shownOf, tokenAt, tokensAll}
 use Rattle.answers.specs.declared.Refusal.{Refusal}
 
 number-back : (num : Property) → propertyOf (hasOf num) (valueOf num) ≡ num
@@ -56,13 +57,17 @@ record-shown src (Shown.word w num) z h =
 record-shown src (Shown.unknown p bs num) z h =
     ap (λ (cs : List ℕ). Shown.unknown p cs (propertyOf (hasOf num) (valueOf num))) (bytes-back src p bs (h .0)) ∙ ap (Shown.unknown p bs) (number-back num)
 
-shown-stream : (src : List ℕ) (s : Stream Refusal Token) (z : List ℕ) → Each (Placed src) s → shownAll src (count s) (encode tokenLayout s ++ z) ≡ shownBy (items s)
-unfolding shownAll count encode items shownBy
-shown-stream src end z h = refl
-shown-stream src (stop r) z h = refl
-shown-stream src (t ▸ s) z h =
-    ap (λ (x : Shown). x ∷ shownAll src (count s) (encode tokenLayout s ++ z)) (record-shown src (t .shows) (encode tokenLayout s ++ z) (h .0 .0))
-    ∙ ap (λ (xs : List Shown). t .shows ∷ xs) (shown-stream src s z (h .1))
+-- a record's words, with those of its slice
+token-back : (src : List ℕ) (t : Token) (z : List ℕ) → Placed src t → tokenAt src (tokenLayout .words t ++ z) ≡ t
+token-back src (token p n x) z h = ap (token p n) (record-shown src x (sliceWords p n ++ z) (h .0))
+
+tokens-stream : (src : List ℕ) (s : Stream Refusal Token) (z : List ℕ) → Each (Placed src) s → tokensAll src (count s) (encode tokenLayout s ++ z) ≡ items s
+unfolding tokensAll count encode items
+tokens-stream src end z h = refl
+tokens-stream src (stop r) z h = refl
+tokens-stream src (t ▸ s) z h =
+    ap (λ (x : Token). x ∷ tokensAll src (count s) (encode tokenLayout s ++ z)) (token-back src t (encode tokenLayout s ++ z) (h .0))
+    ∙ ap (λ (xs : List Token). t ∷ xs) (tokens-stream src s z (h .1))
 
 length-items : {E A : Type 0} (s : Stream E A) → length (items s) ≡ count s
 unfolding items count
@@ -96,11 +101,11 @@ module _ (src : List ℕ) (total : ℕ) {o : Outcome} {n : ℕ} (e : o ≡ cutAn
   unfolding cutRoom content
   cut-room = ap (λ (a : Outcome). content tokenLayout total a (tokenStream src)) (sym e ∙ d)
 
-  cut-shown : {room : List ℕ} → room ≡ cutRoom src total → shownAll src n room ≡ shownBy (items (tokenStream src))
-  cut-shown {room} q =
-      ap (λ (ws : List ℕ). shownAll src n ws) (q ∙ cut-room)
-      ∙ ap (λ (m : ℕ). shownAll src m (filled total (encode tokenLayout (tokenStream src)))) (cut-counts .0)
-      ∙ shown-stream src (tokenStream src) (replicate (total - length (encode tokenLayout (tokenStream src))) 0) (stream-places src)
+  cut-tokens : {room : List ℕ} → room ≡ cutRoom src total → tokensAll src n room ≡ items (tokenStream src)
+  cut-tokens {room} q =
+      ap (λ (ws : List ℕ). tokensAll src n ws) (q ∙ cut-room)
+      ∙ ap (λ (m : ℕ). tokensAll src m (filled total (encode tokenLayout (tokenStream src)))) (cut-counts .0)
+      ∙ tokens-stream src (tokenStream src) (replicate (total - length (encode tokenLayout (tokenStream src))) 0) (stream-places src)
 
 -- an answer that is no count counts nothing
 few-counted : (src : List ℕ) (total : ℕ) (o : Outcome) → o ≡ cutAnswer src total → (outcomeCount o ≤ 65536) × (outcomeCount o * tokenWords ≤ total)
@@ -116,5 +121,6 @@ cuts src room {r} {room′} e q =
       few = f .0;
       fits = f .1;
       counts = λ n d. cut-counts src (length room) e d .0 ∙ sym (length-items (tokenStream src));
-      shows = λ n d. cut-shown src (length room) e d q;
+      reads = λ n d. cut-tokens src (length room) e d q;
+      slices = stream-slices src;
     }

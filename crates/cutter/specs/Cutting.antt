@@ -1,38 +1,35 @@
--- 01, Cutting and Answer numbers: a source's tokens, the one answer and the one content of the token room.
+-- 01, Cutting and Answer numbers, and 02, A4: a source's tokens, the one answer and the one content of the token room.
 -- Assumes nothing: these are definitions.
-use Prim.Native.Nat.{ℕ, _+_, _*_, _≤_}
+use Prim.Native.Nat.{ℕ, _+_, _*_, _≤_, _<_}
 use mathlib.Core.Path.{_≡_}
 use mathlib.Core.List.{List, [], _∷_}
-use mathlib.Core.Bool.{cond}
+use mathlib.Core.Bool.{Bool, true, false, cond, _||_}
 use lib.ListN.{length, take, drop}
 use lib.Dec.{ltb, eqb}
+use Rattle.answers.specs.declared.Why.{Why}
 use Rattle.answers.specs.declared.Why.the-variants.{SourceTooLong, NotAscii, LastSlice, TokenRoom}
 use Rattle.answers.specs.declared.Outcome.{Outcome}
 use Rattle.answers.specs.declared.Outcome.the-variants.{Done}
-use Rattle.answers.specs.Answers.{refusal, outcomeCount}
+use Rattle.answers.specs.Answers.{refusal, refusalAt, outcomeCount}
 use Rattle.bytes.specs.declared.Class.the-variants.{White}
 use Rattle.bytes.specs.Bytes.{isHigh, inClass, lead, body, any}
 use Rattle.rooms.specs.Streams.{Stream, end, stop, _▸_, andThen, items, answer, each}
 use Rattle.rooms.specs.Rooms.{settled, content}
 use Rattle.slices.specs.Slices.{slices}
-use Rattle.tokens.specs.Tokens.{Shown, Token, tokenWords, tokenLayout, shownBy}
-use Rattle.tokens.specs.Items.{shownAll}
+use Rattle.tokens.specs.Tokens.{Shown, Token, token, sliceOf, sliceLengthOf, tokenWords, tokenLayout}
+use Rattle.tokens.specs.Items.{tokensAll}
 use Rattle.tokenize.specs.Tokenize.{tokens}
 use Rattle.answers.specs.declared.Refusal.{Refusal}
 
--- what a slice of a length at place p shows, as a token
-abbrev pub locate : ℕ → ℕ → Shown → Token
-locate p n shown = record { place = p; length = n; shows = shown }
-
--- the tokens of a slice at place p; which refusal it is becomes a refusal here
+-- the tokens of a slice at place p, each with the slice's place and length; its refusals have that place too (02, A4)
 unfoldable pub located : ℕ → List ℕ → Stream Refusal Token
-located p s = each refusal (locate p (length s)) (tokens p s)
+located p s = each (λ (w : Why). refusalAt w p) (token p (length s)) (tokens p s)
 
 -- "the last slice is not `}` alone": 6
 unfoldable pub last : ℕ → List ℕ → Stream Refusal Token
-last p [] = stop (refusal LastSlice)
-last p (b ∷ []) = cond (eqb b 125) (locate p 1 Shown.closing ▸ end) (stop (refusal LastSlice))
-last p (b ∷ c ∷ s) = stop (refusal LastSlice)
+last p [] = stop (refusalAt LastSlice p)
+last p (b ∷ []) = cond (eqb b 125) (token p 1 Shown.closing ▸ end) (stop (refusalAt LastSlice p))
+last p (b ∷ c ∷ s) = stop (refusalAt LastSlice p)
 
 -- "cutting left to right, all slices but the last, gives the first of 3 to 5; then 6"
 unfoldable pub allSlices : ℕ → List (List ℕ) → Stream Refusal Token
@@ -64,13 +61,35 @@ cutAnswer src total = settled tokenLayout (refusal TokenRoom) total (answer 0 (t
 unfoldable pub cutRoom : List ℕ → ℕ → List ℕ
 cutRoom src total = content tokenLayout total (cutAnswer src total) (tokenStream src)
 
+-- whether a slice starts at q, where the first of them starts at p
+unfoldable pub startsFrom : ℕ → ℕ → List (List ℕ) → Bool
+startsFrom q p [] = false
+startsFrom q p (s ∷ ss) =
+    let later = startsFrom q (p + length s) ss in
+    eqb p q || later
+
+-- "the source byte place of the slice": a place of the source, at which a slice starts
+pub record SliceAt (src : List ℕ) (q : ℕ) : Type 0 where
+  pub inside : q < length src
+  pub starts : startsFrom q (trimStart src) (slices (trimmed src)) ≡ true
+
+-- a token's slice: it starts at the token's place, and its length ends in the source
+pub record SliceIn (src : List ℕ) (t : Token) : Type 0 where
+  pub at : SliceAt src (sliceOf t)
+  pub ends : sliceOf t + sliceLengthOf t ≤ length src
+
+abbrev pub SlicesIn : List ℕ → List Token → Type 0
+SlicesIn src [] = Unit {0}
+SlicesIn src (t ∷ ts) = SliceIn src t × SlicesIn src ts
+
 -- What `cut` promises: the one answer, and the one content of the room. What who reads the tokens needs follows from these two, and
--- is said with them: there are at most 65,536 tokens, their records are in the room, there is one for each token, and read back they show
--- what the source's tokens show.
+-- is said with them: there are at most 65,536 tokens, their records are in the room, there is one for each token, read back they are
+-- the source's tokens, and the slice of each stands in the source.
 pub record Cuts (src room : List ℕ) (r : Outcome) (room′ : List ℕ) : Type 0 where
   pub answer : r ≡ cutAnswer src (length room)
   pub content : room′ ≡ cutRoom src (length room)
   pub few : outcomeCount r ≤ 65536
   pub fits : outcomeCount r * tokenWords ≤ length room
   pub counts : (n : ℕ) → r ≡ Done n → n ≡ length (items (tokenStream src))
-  pub shows : (n : ℕ) → r ≡ Done n → shownAll src n room′ ≡ shownBy (items (tokenStream src))
+  pub reads : (n : ℕ) → r ≡ Done n → tokensAll src n room′ ≡ items (tokenStream src)
+  pub slices : SlicesIn src (items (tokenStream src))

@@ -2,7 +2,8 @@
 //
 //   cut         the whole: answers 1 to 7 in 01's order; the room holds the records and zeros, or zeros alone
 //   whole       the source's length, its bytes, trimming
-//   all_slices  slice by slice; the last must be `}` alone
+//   all_slices  slice by slice; the last must be `}` alone. It holds the slice, so it writes the slice's place and length behind each
+//               token, and says the place with a refusal
 //
 // `cut` is total. Cutting goes on past a full room, so that 3 to 6 come before 7.
 use answers::Outcome;
@@ -20,6 +21,7 @@ use tokenize::quick::slice_tokens;
 use tokens::Record;
 use tokens::TOKEN_WORDS;
 use tokens::put;
+use tokens::seal;
 ghost use mathlib.Core.Path.{_≡_};
 ghost use Prim.Native.Nat.{_+_, _≤_, _<_};
 ghost use lib.ListN.{length, replicate};
@@ -32,16 +34,18 @@ ghost use Rattle.rooms.specs.Streams.{byRefusal};
 
 // The last slice: a closing bracket alone.
 fn last(s: &[u8], place: usize, room: &mut [u32], n: usize) -> Outcome
-    requires { ⌜ n < 65536 ⌝ }
+    requires { ⌜ (n < 65536) × (place ≤ 65536) ⌝ }
     ensures { λ r. ⌜ Wrote tokenLayout byRefusal n (now (room .entry)) (lastOf place (now (s .entry))) r (now (room .exit)) ⌝ }
 {
+    let p = place as u32;
     if s.len() != 1 {
-        return Outcome::Refused(Refusal::of(Why::LastSlice));
+        return Outcome::Refused(Refusal::at(Why::LastSlice, p));
     }
     if s[0] != b'}' {
-        return Outcome::Refused(Refusal::of(Why::LastSlice));
+        return Outcome::Refused(Refusal::at(Why::LastSlice, p));
     }
     put(room, n, Record::bare(2));
+    seal(room, n, n + 1, p, 1);
     Outcome::Done(n + 1)
 }
 
@@ -64,9 +68,10 @@ fn all_slices(s: &[u8], place: usize, names: &Table, room: &mut [u32]) -> Outcom
         let one = slice_tokens(&t[..e], p, names, room, n);
         match one {
             Written::Refused(why) => {
-                return Outcome::Refused(Refusal::of(why));
+                return Outcome::Refused(Refusal::at(why, p as u32));
             }
             Written::Done(m) => {
+                seal(room, n, m, p as u32, e as u32);
                 n = m;
             }
         }

@@ -11,11 +11,11 @@ use native.Mathlib.Omega.{arith}
 use lib.ListN.{length, getD, set, length-set}
 use Rattle.answers.specs.declared.Why.{Why}
 use Rattle.answers.specs.declared.Why.the-variants.{NoState, TooDeep}
-use Rattle.answers.specs.Answers.{refusal, found, refused}
+use Rattle.answers.specs.Answers.{Fate, becomes, fails}
 use Rattle.settings.specs.Fields.{freshRow, Setting}
 use Rattle.settings.specs.Effects.{Effect, sets, says, refuses}
 use Rattle.settings.specs.Rows.{settled, settleAt}
-use Rattle.machine.specs.Stack.{Fate, becomes, fails, Move, opens, closes, within, moved, held}
+use Rattle.machine.specs.Stack.{Move, opens, closes, within, moved, held}
 use Rattle.machine.specs.Machine.{settle, moveOf}
 use Rattle.machine.proofs.Stack.{held-settle, held-top, open-none, open-full, open-more, close-top, close-none, within-top, within-none}
 use Rattle.deeds.specs.declared.stack.Moved.the-variants.{Holds, Refuses}
@@ -36,7 +36,7 @@ module _ (states : List (List ℕ)) (d : ℕ) (all : length states ≡ 64) where
 
   pub took-open-none : {row : List ℕ} → row ≡ freshRow → d ≡ 0 → Took (Holds 1) (set states 0 row) (moved freshRow (held [] states d) opens)
   took-open-none {row} e z = record {
-    does = let h : 0 < length states = omega arith in ap (λ (r : List ℕ). found (held [] (set states 0 r) 1)) e ∙ open-none [] freshRow states d z h;
+    does = let h : 0 < length states = omega arith in ap (λ (r : List ℕ). becomes (held [] (set states 0 r) 1)) e ∙ open-none [] freshRow states d z h;
     deep = omega arith;
     all = length-set states 0 row ∙ all;
   }
@@ -69,7 +69,7 @@ module _ (states : List (List ℕ)) (d : ℕ) (all : length states ≡ 64) where
 
     pub took-keep : d ≤ 64 → Took (Holds d) states (moved freshRow (held [] states d) (within (λ (s : List ℕ). becomes s)))
     took-keep l = record {
-      does = ap found (held-top [] states d z) ∙ within-top [] freshRow states d z (λ (s : List ℕ). becomes s);
+      does = ap becomes (held-top [] states d z) ∙ within-top [] freshRow states d z (λ (s : List ℕ). becomes s);
       deep = l;
       all = all;
     }
@@ -81,9 +81,9 @@ module _ (states : List (List ℕ)) (d : ℕ) (all : length states ≡ 64) where
       took-sets ss q {states′} s = record {
         does = let h : d ≤ length states = omega arith in
             let row : List ℕ = getD states (d - 1) [] in
-            ap (λ (x : List (List ℕ)). found (held [] x d)) s
-            ∙ ap found (held-settle [] states d (settled ss row) z h)
-            ∙ ap (λ (x : List ℕ). found (x ∷ held [] states (d - 1))) (settled-rows ss row)
+            ap (λ (x : List (List ℕ)). becomes (held [] x d)) s
+            ∙ ap becomes (held-settle [] states d (settled ss row) z h)
+            ∙ ap (λ (x : List ℕ). becomes (x ∷ held [] states (d - 1))) (settled-rows ss row)
             ∙ within-top [] freshRow states d z (λ (r : List ℕ). becomes (settle rows ss r))
             ∙ ap (λ (x : Effect). moved freshRow (held [] states d) (moveOf rows (doing x))) (sym q);
         deep = l;
@@ -109,10 +109,10 @@ pub took-parts : (states : List (List ℕ)) (d : ℕ) → length states ≡ 64 �
 unfolding moved held
 took-parts states d all l = record { does = go d; deep = l; all = all }
   where
-    go : (n : ℕ) → found (held [] states n) ≡ moved freshRow (held [] states n) Move.stays
+    go : (n : ℕ) → becomes (held [] states n) ≡ moved freshRow (held [] states n) Move.stays
     go n = at (held [] states n)
       where
-        at : (st : List (List ℕ)) → found st ≡ moved freshRow st Move.stays
+        at : (st : List (List ℕ)) → becomes st ≡ moved freshRow st Move.stays
         at [] = refl
         at (top ∷ rest) = refl
 
@@ -120,6 +120,6 @@ pub took-stops : (states : List (List ℕ)) (d : ℕ) → length states ≡ 64 �
 unfolding moved
 took-stops states d all why = record { does = at (held [] states d); deep = omega arith; all = all }
   where
-    at : (st : List (List ℕ)) → refused (refusal why) ≡ moved freshRow st (Move.stops why)
+    at : (st : List (List ℕ)) → fails why ≡ moved freshRow st (Move.stops why)
     at [] = refl
     at (top ∷ rest) = refl

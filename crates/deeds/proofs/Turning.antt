@@ -14,7 +14,7 @@ use lib.ListN.{length, getD}
 use lib.Dec.{eqb}
 use Rattle.answers.specs.declared.Why.{Why}
 use Rattle.answers.specs.declared.Why.the-variants.{NoState}
-use Rattle.answers.specs.Answers.{refusal, found}
+use Rattle.answers.specs.Answers.{refusal, becomes}
 use Rattle.readings.specs.declared.Reading.{Reading}
 use Rattle.tokens.specs.declared.Property.{Property}
 use Rattle.tokens.specs.Items.{numberAt}
@@ -86,7 +86,7 @@ turns-stopped states depth all z h skip run num = record {
 
 -- what a room answers, and what it was asked
 room-turns : (room : Room) (st : List (List ℕ)) (states : List (List ℕ)) (depth : ℕ) (p : Page) (b t : List ℕ) (run : Run) {l : Laying} → roomed room p b t ≡ l
-    → st ≡ held [] states depth → turned (on p b t) (movedBy (staysBy room depth) states) run ≡ turned l (found st) run
+    → st ≡ held [] states depth → turned (on p b t) (movedBy (staysBy room depth) states) run ≡ turned l (becomes st) run
 room-turns Fits st states depth p b t run e q = rw (← e, q) refl
 room-turns NoBlock st states depth p b t run e q = rw (← e) refl
 room-turns NoText st states depth p b t run e q = rw (← e) refl

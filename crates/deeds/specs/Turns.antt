@@ -6,9 +6,9 @@ use mathlib.Core.List.{List, []}
 use mathlib.Core.Bool.{cond}
 use lib.ListN.{length}
 use lib.Dec.{ltb}
-use Rattle.answers.specs.declared.Refusal.{Refusal}
+use Rattle.answers.specs.declared.Why.{Why}
 use Rattle.answers.specs.declared.Why.the-variants.{BlockRoom, TextRoom}
-use Rattle.answers.specs.Answers.{refusal, Found, found, refused}
+use Rattle.answers.specs.Answers.{Fate, becomes, fails}
 use Rattle.readings.specs.declared.Reading.{Reading}
 use Rattle.tokens.specs.Items.{itemAt, shownOf}
 use Rattle.settings.specs.Fields.{Setting, freshRow}
@@ -30,9 +30,9 @@ unfoldable pub deedAt : Reading → List ℕ → List ℕ → ℕ → Deed Setti
 deedAt rd src ws h = cond (ltb 0 h) parts (tokenDeed rd (shownOf src (itemAt ws)))
 
 -- what an answer says of the states that it leaves
-abbrev pub movedBy : Moved → List (List ℕ) → Found (List (List ℕ))
-movedBy (Holds d) states = found (held [] states d)
-movedBy (Refuses why) states = refused (refusal why)
+abbrev pub movedBy : Moved → List (List ℕ) → Fate (List (List ℕ))
+movedBy (Holds d) states = becomes (held [] states d)
+movedBy (Refuses why) states = fails why
 
 -- where text was laid the stack stays as it is
 abbrev pub staysBy : Room → ℕ → Moved
@@ -45,21 +45,21 @@ abbrev pub Deep : Moved → Type 0
 Deep (Holds d) = d ≤ stackLimit
 Deep (Refuses why) = 0 < stackLimit
 
-pub record Took (r : Moved) (states : List (List ℕ)) (m : Found (List (List ℕ))) : Type 0 where
+pub record Took (r : Moved) (states : List (List ℕ)) (m : Fate (List (List ℕ))) : Type 0 where
   pub does : movedBy r states ≡ m
   pub deep : Deep r
   pub all : length states ≡ stackLimit
 
--- where a token leads: on, with a stack, a run, and a page with its rooms; or to a refusal
+-- where a token leads: on, with a stack, a run, and a page with its rooms; or to a refusal, whose place the loop adds
 pub data Turned : Type 0 where
   goes : List (List ℕ) → Run → Page → List ℕ → List ℕ → Turned
-  ends : Refusal → Turned
+  ends : Why → Turned
 
 -- what is said at a token is laid first, then the stack moves: a refusal of the first is met first
-abbrev pub turned : Laying → Found (List (List ℕ)) → Run → Turned
-turned (on p b t) (found st) run = goes st run p b t
-turned (on p b t) (refused r) run = ends r
-turned (off r) m run = ends r
+abbrev pub turned : Laying → Fate (List (List ℕ)) → Run → Turned
+turned (on p b t) (becomes st) run = goes st run p b t
+turned (on p b t) (fails why) run = ends why
+turned (off r) m run = ends (r .why)
 
 -- a token, where its run gives g
 unfoldable pub turnOf : List (List ℕ) → Page → List ℕ → List ℕ → Gave → Deed Setting → Turned

@@ -14,7 +14,7 @@ use Rattle.answers.specs.declared.Why.the-variants.{SourceTooLong}
 use Rattle.answers.specs.declared.Refusal.{Refusal}
 use Rattle.answers.specs.Answers.{refusal}
 use Rattle.readings.specs.declared.Reading.the-variants.{Plain}
-use Rattle.parser.specs.Parsing.{sizes, answerNumber, answerCounts}
+use Rattle.parser.specs.Parsing.{sizes, answerNumber, answerPlace, answerCounts}
 use Rattle.parser.specs.declared.Counts.{Counts}
 use Rattle.parser.specs.declared.Answer.{Answer}
 use Rattle.parser.specs.declared.Answer.the-variants.{Refuses}
@@ -57,15 +57,15 @@ module _ (letter : List ℕ) where
 
 -- no listing of the extractor's rooms has more bytes
 abbrev pub listingMost : ℕ
-listingMost = 127 + 12 * (extractorRooms .fonts + extractorRooms .colours + extractorRooms .blocks) + extractorRooms .text
+listingMost = 148 + 12 * (extractorRooms .fonts + extractorRooms .colours + extractorRooms .blocks) + extractorRooms .text
 
-pub list-fits : (k : ℕ) (n : Counts) (fs cs bs tx : List ℕ) → length fs ≡ extractorRooms .fonts → length cs ≡ extractorRooms .colours
+pub list-fits : (k place : ℕ) (n : Counts) (fs cs bs tx : List ℕ) → length fs ≡ extractorRooms .fonts → length cs ≡ extractorRooms .colours
     → length bs ≡ extractorRooms .blocks → length tx ≡ extractorRooms .text → {page page′ : List ℕ} {r : ℕ} → listingMost ≤ length page → length page′ ≡ length page
-    → Put page 0 (listing k n fs cs bs tx) page′ r → PutWhole page (listing k n fs cs bs tx) page′ r
-list-fits k n fs cs bs tx f c b x h s p = put-whole p s (let l = length-listing n fs cs bs tx k in omega arith)
+    → Put page 0 (listing k place n fs cs bs tx) page′ r → PutWhole page (listing k place n fs cs bs tx) page′ r
+list-fits k place n fs cs bs tx f c b x h s p = put-whole p s (let l = length-listing n fs cs bs tx k place in omega arith)
 
 pub extract-listed : {letter : List ℕ} {a : Answer} {fs cs bs tx page page′ : List ℕ} {r : Listed} → ReadInRooms letter a fs cs bs tx
-    → r .number ≡ answerNumber a → PutWhole page (listing (answerNumber a) (answerCounts a) fs cs bs tx) page′ (r .bytes) → Extracts letter page r page′
+    → r .number ≡ answerNumber a → PutWhole page (listing (answerNumber a) (answerPlace a) (answerCounts a) fs cs bs tx) page′ (r .bytes) → Extracts letter page r page′
 extract-listed g n w = record {
   number = n ∙ ap answerNumber (g .text-of .answer);
   bytes = rw (g .listed) at (w .count);

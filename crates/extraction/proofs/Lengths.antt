@@ -1,4 +1,4 @@
--- How many bytes a listing has, at most: six numbers, twelve for each word of the rooms, the text and a line feed. Assumes
+-- How many bytes a listing has, at most: seven numbers, twelve for each word of the rooms, the text and a line feed. Assumes
 -- nothing.
 use Prim.Native.Nat.{ℕ, _+_, _*_, _≤_}
 use mathlib.Core.List.{List, []}
@@ -8,14 +8,16 @@ use lib.Dec.{eqb}
 use lib.ListN.{length, length-append, length-take}
 use Rattle.fonts.specs.Rows.{fontWords}
 use Rattle.blocks.specs.Pages.{blockWords}
-use Rattle.lines.proofs.Lengths.{length-decimal, length-lines}
+use Rattle.colours.specs.Colours.{colourWords}
+use Rattle.lines.proofs.Lengths.{length-decimal, length-place, length-lines}
 use Rattle.parser.specs.declared.Counts.{Counts}
 use Rattle.extraction.specs.Listings.{headLine, textLine, roomLines, listing}
 
-length-headLine : (number : ℕ) (n : Counts) → length (headLine number n) ≤ 126
+length-headLine : (number place : ℕ) (n : Counts) → length (headLine number place n) ≤ 147
 unfolding headLine
-length-headLine number n =
+length-headLine number place n =
     let a = length-decimal number in
+    let p = length-place number place in
     let b = length-decimal (n .tokens) in
     let c = length-decimal (n .fonts) in
     let d = length-decimal (n .colours) in
@@ -32,17 +34,17 @@ module _ (n : Counts) (fonts colours blocks text : List ℕ) where
   unfolding roomLines
   length-roomLines =
       let a = length-lines fontWords (n .fonts) fonts in
-      let b = length-lines 1 (n .colours) colours in
+      let b = length-lines colourWords (n .colours) colours in
       let c = length-lines blockWords (n .blocks) blocks in
       let d = length-textLine (n .text) text in
       simp length-append (omega arith)
 
-  pub length-listing : (number : ℕ) → length (listing number n fonts colours blocks text) ≤ 127 + 12 * (length fonts + length colours + length blocks) + length text
+  pub length-listing : (number place : ℕ) → length (listing number place n fonts colours blocks text) ≤ 148 + 12 * (length fonts + length colours + length blocks) + length text
   unfolding listing
-  length-listing number =
-      let h = length-headLine number n in
+  length-listing number place =
+      let h = length-headLine number place n in
       let g = length-roomLines in
-      let a = length-append (headLine number n) (cond (eqb number 0) (roomLines n fonts colours blocks text) []) in
+      let a = length-append (headLine number place n) (cond (eqb number 0) (roomLines n fonts colours blocks text) []) in
       let c = go (eqb number 0) in
       omega arith
     where

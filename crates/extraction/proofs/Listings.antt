@@ -10,6 +10,7 @@ use lib.ListN.{length, take}
 use lib.Seq.{take-all}
 use Rattle.fonts.specs.Rows.{fontWords}
 use Rattle.blocks.specs.Pages.{blockWords}
+use Rattle.colours.specs.Colours.{colourWords}
 use Rattle.lines.specs.Lines.{lines}
 use Rattle.parser.specs.declared.Counts.{Counts}
 use Rattle.extraction.specs.Listings.{headLine, textLine, roomLines, listing}
@@ -22,13 +23,13 @@ pub text-all : (n : ℕ) (text : List ℕ) → length text ≤ n → text ++ (10
 unfolding textLine
 text-all n text h = rw (take-all n text h)
 
-module _ (number : ℕ) (n : Counts) (fonts colours blocks text : List ℕ) where
-  pub listing-refused : (number ≡ 0 → ⊥) → headLine number n ≡ listing number n fonts colours blocks text
+module _ (number place : ℕ) (n : Counts) (fonts colours blocks text : List ℕ) where
+  pub listing-refused : (number ≡ 0 → ⊥) → headLine number place n ≡ listing number place n fonts colours blocks text
   unfolding listing
   listing-refused h = rw (ne-eqb number 0 h, append-nil)
 
   pub listing-read : number ≡ 0
-      → headLine number n ++ (lines fontWords (n .fonts) fonts ++ (lines 1 (n .colours) colours ++ (lines blockWords (n .blocks) blocks ++ textLine (n .text) text)))
-      ≡ listing number n fonts colours blocks text
+      → headLine number place n ++ (lines fontWords (n .fonts) fonts ++ (lines colourWords (n .colours) colours ++ (lines blockWords (n .blocks) blocks ++ textLine (n .text) text)))
+      ≡ listing number place n fonts colours blocks text
   unfolding listing roomLines
   listing-read h = rw (eq-eqb number 0 h)

@@ -10,18 +10,19 @@ use Rattle.answers.specs.declared.Why.the-variants.{SourceTooLong}
 use Rattle.answers.specs.Answers.{refusal, Found, found, refused}
 use Rattle.tokens.specs.Tokens.{tokenWords}
 use Rattle.fonts.specs.Rows.{fontWords}
+use Rattle.colours.specs.Colours.{colourWords}
 use Rattle.readings.specs.declared.Reading.the-variants.{Plain}
 use Rattle.blocks.specs.Pages.{blockWords, textOf}
-use Rattle.parser.specs.Parsing.{Sizes, Letter, answerNumber, answerCounts}
+use Rattle.parser.specs.Parsing.{Sizes, Letter, answerNumber, answerPlace, answerCounts}
 use Rattle.parser.specs.declared.Answer.{Answer}
 use Rattle.parser.specs.declared.Answer.the-variants.{Refuses}
 use Rattle.reader.specs.Reading.{letterOf, readAnswer, fontRoom, colourRoom, blockRoom, textRoom}
 use Rattle.extraction.specs.declared.listing.Listed.{Listed}
 use Rattle.extraction.specs.Listings.{listing}
 
--- "1,024 tokens, 128 blocks, 256 fonts and colours, 8,192 text bytes": the rooms' words; a colour is one
+-- "1,024 tokens, 128 blocks, 256 fonts and colours, 8,192 text bytes": the rooms' words
 abbrev pub extractorRooms : Sizes
-extractorRooms = record { tokens = 1024 * tokenWords; fonts = 256 * fontWords; colours = 256; blocks = 128 * blockWords; text = 8192 }
+extractorRooms = record { tokens = 1024 * tokenWords; fonts = 256 * fontWords; colours = 256 * colourWords; blocks = 128 * blockWords; text = 8192 }
 
 -- "8,192 bytes .. longer input gets 1"
 abbrev pub letterMost : ℕ
@@ -56,7 +57,7 @@ unfoldable pub extracted : List ℕ → List ℕ
 extracted letter =
     let a = extractedAnswer letter in
     let z = extractorRooms in
-    listing (answerNumber a) (answerCounts a) (fontRoom Plain letter z) (colourRoom Plain letter z) (blockRoom Plain letter z) (textRoom Plain letter z)
+    listing (answerNumber a) (answerPlace a) (answerCounts a) (fontRoom Plain letter z) (colourRoom Plain letter z) (blockRoom Plain letter z) (textRoom Plain letter z)
 
 -- what `extract` answers, and the page that it leaves: the listing, whole, and behind it what stood there before
 pub record Extracts (letter page : List ℕ) (r : Listed) (page′ : List ℕ) : Type 0 where
@@ -67,4 +68,4 @@ pub record Extracts (letter page : List ℕ) (r : Listed) (page′ : List ℕ) :
 -- a letter read in the extractor's rooms: the answer, the text room, and what is listed of all rooms
 pub record ReadInRooms (letter : List ℕ) (r : Answer) (fonts colours blocks room : List ℕ) : Type 0 where
   pub text-of : TextOf letter r room
-  pub listed : listing (answerNumber r) (answerCounts r) fonts colours blocks room ≡ extracted letter
+  pub listed : listing (answerNumber r) (answerPlace r) (answerCounts r) fonts colours blocks room ≡ extracted letter

@@ -19,7 +19,7 @@ use rooms::clear_bytes_from;
 use tokens::TOKEN_WORDS;
 ghost use mathlib.Core.Path.{_≡_};
 ghost use Rattle.lines.specs.Pages.{PutWhole};
-ghost use Rattle.parser.specs.Parsing.{answerNumber, answerCounts};
+ghost use Rattle.parser.specs.Parsing.{answerNumber, answerPlace, answerCounts};
 ghost use Rattle.extraction.specs.Listings.{listing};
 ghost use Rattle.extraction.specs.Extractor.{TextOf, Extracts, ReadInRooms};
 
@@ -67,7 +67,7 @@ fn list_whole(
     page: &mut [u8; PAGE_BYTES],
 ) -> Listed
     ensures number { λ r. ⌜ r .number ≡ answerNumber answer ⌝ }
-    ensures content { λ r. ⌜ PutWhole (now (page .entry)) (listing (answerNumber answer) (answerCounts answer) (now (fonts .entry)) (now (colours .entry)) (now (blocks .entry)) (now (text .entry))) (now (page .exit)) (r .bytes) ⌝ }
+    ensures content { λ r. ⌜ PutWhole (now (page .entry)) (listing (answerNumber answer) (answerPlace answer) (answerCounts answer) (now (fonts .entry)) (now (colours .entry)) (now (blocks .entry)) (now (text .entry))) (now (page .exit)) (r .bytes) ⌝ }
 {
     list(answer, fonts, colours, blocks, text, page)
 }

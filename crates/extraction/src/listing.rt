@@ -1,10 +1,12 @@
-// A letter's listing, as bytes on a page (01, Sample letters): answer and five counts on a line; the fonts, the colours and the
-// blocks, a line each; the text and a line feed, which a refusal does not have. What does not fit on the page is left out.
+// A letter's listing, as bytes on a page (01, Sample letters, and 02, A4): answer and five counts on a line, of a refusal its place
+// between them; the fonts, the colours and the blocks, a line each; the text and a line feed, which a refusal does not have. What does
+// not fit on the page is left out.
 use blocks::BLOCK_WORDS;
 use colours::COLOUR_WORDS;
 use fonts::FONT_WORDS;
 use lines::append;
 use lines::number;
+use lines::place_item;
 use lines::push;
 use lines::records;
 use parser::Answer;
@@ -12,7 +14,7 @@ use parser::Counts;
 ghost use mathlib.Core.Path.{_≡_};
 ghost use Prim.Native.Nat.{_≤_};
 ghost use lib.ListN.{length};
-ghost use Rattle.parser.specs.Parsing.{answerNumber, answerCounts};
+ghost use Rattle.parser.specs.Parsing.{answerNumber, answerPlace, answerCounts};
 ghost use Rattle.lines.specs.Pages.{Put};
 ghost use Rattle.extraction.specs.Listings.{headLine, textLine, listing};
 
@@ -23,11 +25,12 @@ pub struct Listed {
 }
 
 // The first line.
-fn head(answer: u32, counts: Counts, page: &mut [u8]) -> usize
-    ensures { λ r. ⌜ Put (now (page .entry)) 0 (headLine answer counts) (now (page .exit)) r ⌝ }
+fn head(answer: u32, place: u32, counts: Counts, page: &mut [u8]) -> usize
+    ensures { λ r. ⌜ Put (now (page .entry)) 0 (headLine answer place counts) (now (page .exit)) r ⌝ }
 {
     let told = number(answer as u64, b' ', page, 0);
-    let tokens = number(counts.tokens as u64, b' ', page, told);
+    let placed = place_item(answer, place, page, told);
+    let tokens = number(counts.tokens as u64, b' ', page, placed);
     let fonts = number(counts.fonts as u64, b' ', page, tokens);
     let colours = number(counts.colours as u64, b' ', page, fonts);
     let blocks = number(counts.blocks as u64, b' ', page, colours);
@@ -57,11 +60,12 @@ pub fn list(
     page: &mut [u8],
 ) -> Listed
     ensures number { λ r. ⌜ r .number ≡ answerNumber answer ⌝ }
-    ensures content { λ r. ⌜ Put (now (page .entry)) 0 (listing (answerNumber answer) (answerCounts answer) (now (fonts .entry)) (now (colours .entry)) (now (blocks .entry)) (now (text .entry))) (now (page .exit)) (r .bytes) ⌝ }
+    ensures content { λ r. ⌜ Put (now (page .entry)) 0 (listing (answerNumber answer) (answerPlace answer) (answerCounts answer) (now (fonts .entry)) (now (colours .entry)) (now (blocks .entry)) (now (text .entry))) (now (page .exit)) (r .bytes) ⌝ }
 {
     let told = answer.number();
+    let place = answer.place();
     let counts = answer.counts();
-    let first = head(told, counts, page);
+    let first = head(told, place, counts, page);
     if told != 0 {
         return Listed {
             number: told,

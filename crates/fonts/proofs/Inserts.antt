@@ -15,12 +15,11 @@ use lib.ListN.{length, getD, take, drop, length-append, length-drop, take-append
 use lib.Seq.{sets, length-take-le, split-at, take-append-seam, drop-drop}
 use lib.Dec.{eqb, ltb}
 use Rattle.answers.specs.declared.Why.the-variants.{FontRoom}
-use Rattle.answers.specs.declared.Refusal.{Refusal}
-use Rattle.answers.specs.declared.Outcome.the-variants.{Done, Refused}
-use Rattle.answers.specs.Answers.{refusal, found, refused}
+use Rattle.answers.specs.declared.Written.the-variants.{Done as Up, Refused as Stopped}
+use Rattle.answers.specs.Answers.{becomes, fails}
 use Rattle.fonts.specs.declared.rows.Font.{Font as Row}
-use Rattle.fonts.specs.Rows.{Font, firstFont, fontRecord, tableWords, hasKey, inserted, stored, tableOf, InFront, ReadFonts, fontWords}
-use Rattle.fonts.specs.Rows.{row, rowWords, keyAt, Ascends, Rank, stands, shifted, StoredFont}
+use Rattle.fonts.specs.Rows.{Font, firstFont, fontRecord, tableWords, hasKey, inserted, stored, InFront, fontWords}
+use Rattle.fonts.specs.Rows.{row, rowWords, keyAt, Ascends, Rank, stands, shifted, WroteFonts, StoredFont}
 use Rattle.fonts.proofs.Searches.{stands-here, stands-apart}
 use Rattle.fonts.proofs.Shifts.{over, between}
 use Rattle.fonts.proofs.RowTables.{table-append, length-table, Ascending, keyOf, up-at}
@@ -138,7 +137,7 @@ new-table fs room f r n q h l k =
     let e : room ≡ tableWords a ++ (tableWords b ++ tail) =
     front-whole fs room h ∙ ap (λ (ws : List ℕ). ws ++ tail) s ∙ append-assoc (tableWords a) (tableWords b) tail in
     let i : length (tableWords a) ≡ r * fontWords = front-length fs r (omega arith) in
-    let t : length (tableWords fs) ≡ 3 * length fs = length-table fs in
+    let t : length (tableWords fs) ≡ fontWords * length fs = length-table fs in
     let u : length (tableWords a) + length (tableWords b) ≡ length (tableWords fs) = sym (length-append (tableWords a) (tableWords b)) ∙ ap length (sym s) in
     let j : length (tableWords a) + length (tableWords b) ≡ n * fontWords = u ∙ t ∙ rw q (omega arith) in
     let m : fontWords ≤ length tail = simp length-drop (omega arith) in
@@ -155,16 +154,16 @@ new-table fs room f r n q h l k =
 -- the definition's answer, by its two tests
 module _ (limit : ℕ) (fs : List Font) (g : Font) where
   kept-found : hasKey (g .key) fs || ltb (length fs) limit ≡ true
-      → stored limit (record { table = fs; font = g }) ≡ found (record { table = inserted g fs; font = g })
+      → stored limit (record { table = fs; font = g }) ≡ becomes (record { table = inserted g fs; font = g })
   unfolding stored
   kept-found e = rw e
 
-  kept-refused : hasKey (g .key) fs || ltb (length fs) limit ≡ false → stored limit (record { table = fs; font = g }) ≡ refused (refusal FontRoom)
+  kept-refused : hasKey (g .key) fs || ltb (length fs) limit ≡ false → stored limit (record { table = fs; font = g }) ≡ fails FontRoom
   unfolding stored
   kept-refused e = rw e
 
   read-found : (ts : List Font) (tail room room′ : List ℕ) (m : ℕ) → hasKey (g .key) fs || ltb (length fs) limit ≡ true → inserted g fs ≡ ts → length ts ≡ m
-      → tail ≡ drop (length (tableWords ts)) room → room′ ≡ tableWords ts ++ tail → ReadFonts (tableOf (stored limit (record { table = fs; font = g }))) room (Done m) room′
+      → tail ≡ drop (length (tableWords ts)) room → room′ ≡ tableWords ts ++ tail → WroteFonts (stored limit (record { table = fs; font = g })) room (Up m) room′
   read-found ts tail room room′ m e i l b q = rw (kept-found e, i, ← l) (refl, q ∙ ap (λ (z : List ℕ). tableWords ts ++ z) b)
 
 length-over : (fs : List Font) (f : Font) (r : ℕ) → r < length fs → length (take r fs ++ (f ∷ drop (suc r) fs)) ≡ length fs
@@ -177,7 +176,7 @@ length-new fs f r h = length-append (take r fs) (f ∷ drop r fs) ∙ rw (length
 module _ {limit n : ℕ} {f : Row} {room : List ℕ} (pre : (n ≤ limit) × (limit ≤ 256) × (limit * fontWords ≤ length room) × Ascends n room)
     {r : ℕ} (k : Rank n room (f .key) r) {t : Bool} (s : t ≡ stands n room r (f .key)) where
   pub store-over : t ≡ true → (room′ : List ℕ) → room′ ≡ sets room (r * fontWords) (rowWords f)
-      → (fs : List Font) (g : Font) → StoredFont limit n f fs g room (Done n) room′
+      → (fs : List Font) (g : Font) → StoredFont limit n f fs g room (Up n) room′
   store-over b room′ w fs g e h q =
       let y : (r < n) × (keyAt room r ≡ f .key) = stands-here n room r (f .key) (sym s ∙ b) in
       let v : f .key ≡ g .key = ap (λ (x : Row). x .key) q in
@@ -197,11 +196,11 @@ module _ {limit n : ℕ} {f : Row} {room : List ℕ} (pre : (n ≤ limit) × (li
         insert-new g fs r (omega arith) (λ i m. rw (← (key-in fs room h i (omega arith)), ← v) (k .below i m))
         (λ i m o. rw (← (key-in fs room h i o), ← v) (stands-apart n room r (f .key) (sym s ∙ b) (pre .3) k i m (omega arith)))
 
-    full : limit ≤ n → (z : Refusal) → z ≡ refusal FontRoom → ReadFonts (tableOf (stored limit (record { table = fs; font = g }))) room (Refused z) room
-    full l z y = rw (kept-refused limit fs g (rw (apart .1, e) (le-ltb n limit l)), y) refl
+    full : limit ≤ n → WroteFonts (stored limit (record { table = fs; font = g })) room (Stopped FontRoom) room
+    full l = rw (kept-refused limit fs g (rw (apart .1, e) (le-ltb n limit l))) refl
 
     new : n < limit → (room₁ room₂ : List ℕ) → room₁ ≡ shifted (r * fontWords) (n * fontWords) room → room₂ ≡ sets room₁ (r * fontWords) (rowWords f)
-        → ReadFonts (tableOf (stored limit (record { table = fs; font = g }))) room (Done (n + 1)) room₂
+        → WroteFonts (stored limit (record { table = fs; font = g })) room (Up (n + 1)) room₂
     new l room₁ room₂ w₁ w₂ =
         let m : r ≤ n = k .within in
         let p : limit * fontWords ≤ length room = pre .2 in
@@ -213,11 +212,11 @@ module _ {limit n : ℕ} {f : Row} {room : List ℕ} (pre : (n ≤ limit) × (li
         (w₂ ∙ ap (λ (l : List ℕ). sets l (r * fontWords) (rowWords f)) w₁ ∙ ap (sets (shifted (r * fontWords) (n * fontWords) room) (r * fontWords)) (row-words f g q)
         ∙ new-table fs room g r n e h m (omega arith))
 
-  pub store-full : t ≡ false → limit ≤ n → (z : Refusal) → z ≡ refusal FontRoom → (fs : List Font) (g : Font) → StoredFont limit n f fs g room (Refused z) room
-  store-full b l z y fs g e h q = full b fs g e h q l z y
+  pub store-full : t ≡ false → limit ≤ n → (fs : List Font) (g : Font) → StoredFont limit n f fs g room (Stopped FontRoom) room
+  store-full b l fs g e h q = full b fs g e h q l
 
   pub store-new : t ≡ false → n < limit → (room₁ room₂ : List ℕ) → room₁ ≡ shifted (r * fontWords) (n * fontWords) room → room₂ ≡ sets room₁ (r * fontWords) (rowWords f)
-      → (fs : List Font) (g : Font) → StoredFont limit n f fs g room (Done (n + 1)) room₂
+      → (fs : List Font) (g : Font) → StoredFont limit n f fs g room (Up (n + 1)) room₂
   store-new b l room₁ room₂ w₁ w₂ fs g e h q = new b fs g e h q l room₁ room₂ w₁ w₂
 
 -- the record at the rank lies in the room

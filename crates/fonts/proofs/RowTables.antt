@@ -13,7 +13,7 @@ use borrow.Author.Tests.{ltb-true, ltb-false, eqb-true, eqb-false, ne-eqb}
 use lib.ListN.{length, getD}
 use lib.Dec.{eqb, ltb}
 use Rattle.answers.specs.declared.Why.the-variants.{FontRoom}
-use Rattle.answers.specs.Answers.{refusal, found, refused}
+use Rattle.answers.specs.Answers.{becomes, fails}
 use Rattle.fonts.specs.Rows.{Font, Fonts, firstFont, fontWords, fontRecord, tableWords, hasKey, inserted, stored}
 
 pub table-append : (fs gs : List Font) → tableWords (fs ++ gs) ≡ tableWords fs ++ tableWords gs
@@ -148,11 +148,11 @@ module _ (f : Font) where
           absurd (false≢true (sym (above-none (f .key) gs (above-weaken (f .key) (g .key) a gs (h .0))) ∙ x))
 
 -- a table that a font was stored in is no shorter
-pub stored-longer : (limit : ℕ) (s r : Fonts) → stored limit s ≡ found r → length (s .table) ≤ length (r .table)
+pub stored-longer : (limit : ℕ) (s r : Fonts) → stored limit s ≡ becomes r → length (s .table) ≤ length (r .table)
 unfolding stored
 stored-longer limit s r e = go (hasKey (s .font .key) (s .table) || ltb (length (s .table)) limit) e
   where
-    go : (t : Bool) → cond t (found (record { table = inserted (s .font) (s .table); font = s .font })) (refused (refusal FontRoom)) ≡ found r
+    go : (t : Bool) → cond t (becomes (record { table = inserted (s .font) (s .table); font = s .font })) (fails FontRoom) ≡ becomes r
         → length (s .table) ≤ length (r .table)
     go true d = let q : record { table = inserted (s .font) (s .table); font = s .font } ≡ r = cc in rw (← q) (length-insert-le (s .font) (s .table))
     go false d = absurd (let z : _≡_ {A = ℕ} 0 1 = cc in omega arith)

@@ -10,48 +10,48 @@ use native.Mathlib.Omega.{arith}
 use lib.ListN.{length, getD, take, drop, set, take-append-drop, length-append, length-set, List·getD-append}
 use lib.Seq.{sets, sets-eq, length-take-le, take-suc, drop-cons, set-at, getD-take, drop-at}
 use lib.Seq.{take-append-seam, drop-append-seam, take-append-add, drop-append-add}
-use Rattle.fonts.specs.Rows.{shifted}
+use Rattle.fonts.specs.Rows.{shifted, fontWords}
 
 shift-none : (to : ℕ) (l : List ℕ) → shifted to to l ≡ l
 unfolding shifted
 shift-none to l =
     let z : to - to ≡ 0 = omega arith in
-    rw z (take-append-drop (to + 3) l)
+    rw z (take-append-drop (to + fontWords) l)
 
 -- one word more
-shift-one : (j to : ℕ) (l : List ℕ) → j < to → to + 3 ≤ length l → set (shifted (suc j) to l) (j + 3) (getD (shifted (suc j) to l) j 0) ≡ shifted j to l
+shift-one : (j to : ℕ) (l : List ℕ) → j < to → to + fontWords ≤ length l → set (shifted (suc j) to l) (j + fontWords) (getD (shifted (suc j) to l) j 0) ≡ shifted j to l
 unfolding shifted
 shift-one j to l h k =
-    let p : List ℕ = take (j + 3) l in
-    let v : ℕ = getD l (j + 3) 0 in
+    let p : List ℕ = take (j + fontWords) l in
+    let v : ℕ = getD l (j + fontWords) 0 in
     let w : ℕ = getD l j 0 in
-    let x : List ℕ = take (to - suc j) (drop (suc j) l) ++ drop (to + 3) l in
-    let lp : length p ≡ j + 3 = length-take-le (j + 3) l (omega arith) in
-    let q : suc j + 3 ≡ suc (j + 3) = omega arith in
-    let a : take (suc j + 3) l ++ x ≡ p ++ (v ∷ x) =
-    rw (q, take-suc l (j + 3) 0 (omega arith)) (append-assoc p (v ∷ []) x) in
-    let b : getD (p ++ (v ∷ x)) j 0 ≡ w = List·getD-append p (v ∷ x) 0 j (rw lp (omega arith)) ∙ getD-take (j + 3) l j 0 (omega arith) in
-    let d : set (p ++ (v ∷ x)) (j + 3) w ≡ p ++ (w ∷ x) = set-at p v x w (j + 3) lp in
+    let x : List ℕ = take (to - suc j) (drop (suc j) l) ++ drop (to + fontWords) l in
+    let lp : length p ≡ j + fontWords = length-take-le (j + fontWords) l (omega arith) in
+    let q : suc j + fontWords ≡ suc (j + fontWords) = omega arith in
+    let a : take (suc j + fontWords) l ++ x ≡ p ++ (v ∷ x) =
+    rw (q, take-suc l (j + fontWords) 0 (omega arith)) (append-assoc p (v ∷ []) x) in
+    let b : getD (p ++ (v ∷ x)) j 0 ≡ w = List·getD-append p (v ∷ x) 0 j (rw lp (omega arith)) ∙ getD-take (j + fontWords) l j 0 (omega arith) in
+    let d : set (p ++ (v ∷ x)) (j + fontWords) w ≡ p ++ (w ∷ x) = set-at p v x w (j + fontWords) lp in
     let m : to - j ≡ suc (to - suc j) = omega arith in
     let e : take (to - j) (drop j l) ≡ w ∷ take (to - suc j) (drop (suc j) l) = rw (m, drop-cons l j 0 (omega arith)) in
-    ap (λ (s : List ℕ). set s (j + 3) (getD s j 0)) a ∙ ap (λ (n : ℕ). set (p ++ (v ∷ x)) (j + 3) n) b ∙ d ∙ rw e
+    ap (λ (s : List ℕ). set s (j + fontWords) (getD s j 0)) a ∙ ap (λ (n : ℕ). set (p ++ (v ∷ x)) (j + fontWords) n) b ∙ d ∙ rw e
 
 -- the words from i on have moved
 pub record Shifting (room₀ : List ℕ) (from to : ℕ) (room : List ℕ) (i : ℕ) : Type 0 where
   pub after : from ≤ i
   pub before : i ≤ to
-  pub fits : to + 3 ≤ length room
+  pub fits : to + fontWords ≤ length room
   pub long : length room ≡ length room₀
   pub moved : room ≡ shifted i to room₀
 
-pub shift-start : (room : List ℕ) (from to : ℕ) → (from ≤ to) × (to + 3 ≤ length room) → Shifting room from to room to
+pub shift-start : (room : List ℕ) (from to : ℕ) → (from ≤ to) × (to + fontWords ≤ length room) → Shifting room from to room to
 shift-start room from to h = record { after = h .0; before = omega arith; fits = h .1; long = refl; moved = sym (shift-none to room) }
 
 module _ {room₀ : List ℕ} {from to : ℕ} {room : List ℕ} {i : ℕ} (s : Shifting room₀ from to room i) where
-  pub shift-more : from < i → Shifting room₀ from to (set room (i - 1 + 3) (getD room (i - 1) 0)) (i - 1)
+  pub shift-more : from < i → Shifting room₀ from to (set room (i - 1 + fontWords) (getD room (i - 1) 0)) (i - 1)
   shift-more h =
       let b : i ≤ to = s .before in
-      let f : to + 3 ≤ length room = s .fits in
+      let f : to + fontWords ≤ length room = s .fits in
       let l : length room ≡ length room₀ = s .long in
       let q : i ≡ suc (i - 1) = omega arith in
       let m : room ≡ shifted (suc (i - 1)) to room₀ = s .moved ∙ ap (λ (n : ℕ). shifted n to room₀) q in
@@ -60,7 +60,7 @@ module _ {room₀ : List ℕ} {from to : ℕ} {room : List ℕ} {i : ℕ} (s : S
         before = omega arith;
         fits = simp length-set f;
         long = simp length-set l;
-        moved = ap (λ (z : List ℕ). set z (i - 1 + 3) (getD z (i - 1) 0)) m ∙ shift-one (i - 1) to room₀ (omega arith) (omega arith);
+        moved = ap (λ (z : List ℕ). set z (i - 1 + fontWords) (getD z (i - 1) 0)) m ∙ shift-one (i - 1) to room₀ (omega arith) (omega arith);
       }
 
   pub shift-end : i ≤ from → room ≡ shifted from to room₀
@@ -77,20 +77,20 @@ over p x q v e =
     let d : drop (length p + length v) (p ++ (x ++ q)) ≡ q = drop-append-add p (x ++ q) (length v) ∙ drop-at x q (length v) e in
     sets-eq v (p ++ (x ++ q)) (length p) (omega arith) ∙ rw (t, d) (append-assoc p v q)
 
-shift-between : (p q rest : List ℕ) → shifted (length p) (length p + length q) (p ++ (q ++ rest)) ≡ p ++ (take 3 (q ++ rest) ++ (q ++ drop 3 rest))
+shift-between : (p q rest : List ℕ) → shifted (length p) (length p + length q) (p ++ (q ++ rest)) ≡ p ++ (take fontWords (q ++ rest) ++ (q ++ drop fontWords rest))
 unfolding shifted
 shift-between p q rest =
-    let a : take (length p + 3) (p ++ (q ++ rest)) ≡ p ++ take 3 (q ++ rest) = take-append-add p (q ++ rest) 3 in
+    let a : take (length p + fontWords) (p ++ (q ++ rest)) ≡ p ++ take fontWords (q ++ rest) = take-append-add p (q ++ rest) fontWords in
     let m : length p + length q - length p ≡ length q = omega arith in
     let b : take (length q) (drop (length p) (p ++ (q ++ rest))) ≡ q = ap (take (length q)) (drop-append-seam p (q ++ rest)) ∙ take-append-seam q rest in
-    let k : length p + length q + 3 ≡ length p + (length q + 3) = omega arith in
-    let d : drop (length p + (length q + 3)) (p ++ (q ++ rest)) ≡ drop 3 rest = drop-append-add p (q ++ rest) (length q + 3) ∙ drop-append-add q rest 3 in
-    rw (a, m, b, k, d) (append-assoc p (take 3 (q ++ rest)) (q ++ drop 3 rest))
+    let k : length p + length q + fontWords ≡ length p + (length q + fontWords) = omega arith in
+    let d : drop (length p + (length q + fontWords)) (p ++ (q ++ rest)) ≡ drop fontWords rest = drop-append-add p (q ++ rest) (length q + fontWords) ∙ drop-append-add q rest fontWords in
+    rw (a, m, b, k, d) (append-assoc p (take fontWords (q ++ rest)) (q ++ drop fontWords rest))
 
-pub between : (p q rest v : List ℕ) → length v ≡ 3 → 3 ≤ length rest
-    → sets (shifted (length p) (length p + length q) (p ++ (q ++ rest))) (length p) v ≡ p ++ (v ++ (q ++ drop 3 rest))
+pub between : (p q rest v : List ℕ) → length v ≡ fontWords → fontWords ≤ length rest
+    → sets (shifted (length p) (length p + length q) (p ++ (q ++ rest))) (length p) v ≡ p ++ (v ++ (q ++ drop fontWords rest))
 between p q rest v e h =
     let n : length (q ++ rest) ≡ length q + length rest = length-append q rest in
-    let l : length (take 3 (q ++ rest)) ≡ 3 = length-take-le 3 (q ++ rest) (omega arith) in
+    let l : length (take fontWords (q ++ rest)) ≡ fontWords = length-take-le fontWords (q ++ rest) (omega arith) in
     ap (λ (s : List ℕ). sets s (length p) v) (shift-between p q rest)
-    ∙ over p (take 3 (q ++ rest)) (q ++ drop 3 rest) v (l ∙ sym e)
+    ∙ over p (take fontWords (q ++ rest)) (q ++ drop fontWords rest) v (l ∙ sym e)

@@ -14,23 +14,26 @@ use lib.ListN.{length, take, length-take}
 use lib.Dec.{eqb, ltb}
 use lib.Seq.{length-take-le}
 use Rattle.answers.specs.declared.Why.the-variants.{FontNumber, FontRoom}
+use Rattle.answers.specs.declared.Why.{Why}
 use Rattle.answers.specs.declared.Refusal.{Refusal}
 use Rattle.answers.specs.declared.Outcome.{Outcome}
 use Rattle.answers.specs.declared.Outcome.the-variants.{Done, Refused}
-use Rattle.answers.specs.Answers.{refusal, Found, found, refused}
+use Rattle.answers.specs.declared.Written.{Written}
+use Rattle.answers.specs.declared.Written.the-variants.{Done as Up, Refused as Stopped}
+use Rattle.answers.specs.Answers.{refusalAt, Found, found, refused, Fate, becomes, fails, foundAt}
 use Rattle.rooms.specs.Rooms.{tableLimit, overlaid}
-use Rattle.rooms.proofs.Streams.{done-refused}
+use Rattle.rooms.proofs.Streams.{name-apart}
 use Rattle.rooms.proofs.Rooms.{limit-256}
 use Rattle.rooms.proofs.Clearing.{overlaid-front, overlaid-again}
 use Rattle.bytes.specs.declared.Class.the-variants.{Semicolon}
 use Rattle.bytes.specs.Bytes.{inClass, body, grown}
 use Rattle.tokens.specs.declared.Property.{Property}
 use Rattle.tokens.specs.declared.Property.the-variants.{None, Value}
-use Rattle.tokens.specs.Tokens.{Shown, tokenWords}
+use Rattle.tokens.specs.Tokens.{Token, tokenWords}
 use Rattle.tokens.specs.declared.item.Item.{Item}
 use Rattle.tokens.specs.declared.item.Item.the-variants.{Text, Opening, Closing, LineBreak, Ignorable, Word, Unknown}
-use Rattle.tokens.specs.Items.{part, itemAt, shownOf, shownAll}
-use Rattle.tokens.proofs.Items.{rest, words-less, shown-none, shown-some}
+use Rattle.tokens.specs.Items.{part, itemAt, shownOf, sliceAt, tokensAll}
+use Rattle.tokens.proofs.Items.{rest, words-less, tokens-none, tokens-some}
 use Rattle.fonts.specs.declared.rows.Font.{Font as Row}
 use Rattle.fonts.specs.declared.Effect.{Effect}
 use Rattle.fonts.specs.declared.Effect.the-variants.{Set, Store, Unnumbered}
@@ -38,15 +41,12 @@ use Rattle.fonts.specs.Rows.{Font, tableWords, hasKey, inserted, InFront
 use Rattle.fonts.specs.Fonts.{named, keyed}
 use Rattle.fonts.specs.Rows.{Fonts, noFonts, stored, tableOf}
 use Rattle.fonts.specs.Fonts.{rekeyed, fontWord, fontToken, fontsFrom, fonts}
-use Rattle.fonts.specs.Rows.{row, Ascends, StoredFont}
+use Rattle.fonts.specs.Rows.{row, Ascends, WroteFonts, StoredFont}
 use Rattle.fonts.specs.Effects.{namedRow, numbered, wordEffect, effectOf, unnumbered}
 use Rattle.fonts.proofs.Limits.{limit-within}
 use Rattle.fonts.proofs.Inserts.{table-ascends}
 use Rattle.fonts.proofs.RowTables.{stored-longer, length-table}
-use Rattle.fonts.proofs.Tables.{fonts-refused, Sound, SoundIf, sound-start, sound-next}
-
-done-done : (n m : ℕ) → Done n ≡ Done m → n ≡ m
-done-done n m e = cc
+use Rattle.fonts.proofs.Tables.{fonts-refused, Sound, SoundFate, sound-start, sound-token}
 
 part-length : (l : List ℕ) (p n : ℕ) → length (part l p n) ≤ n
 unfolding part
@@ -94,17 +94,17 @@ fontAfter src Ignorable f = f
 fontAfter src (Unknown p n num) f = f
 
 -- what follows a store
-abbrev thenFont : Font → Found Fonts → Found Fonts
-thenFont f (found s) = found (record { table = s .table; font = f })
-thenFont f (refused r) = refused r
+abbrev thenFont : Font → Fate Fonts → Fate Fonts
+thenFont f (becomes s) = becomes (record { table = s .table; font = f })
+thenFont f (fails why) = fails why
 
-abbrev thenNone : Found Fonts → Found Fonts
-thenNone (found s) = refused (refusal FontNumber)
-thenNone (refused r) = refused r
+abbrev thenNone : Fate Fonts → Fate Fonts
+thenNone (becomes s) = fails FontNumber
+thenNone (fails why) = fails why
 
 -- an effect, and then the room
-abbrev applied : ℕ → Fonts → Font → Effect → Found Fonts
-applied limit s f (Set g) = found (record { table = s .table; font = f })
+abbrev applied : ℕ → Fonts → Font → Effect → Fate Fonts
+applied limit s f (Set g) = becomes (record { table = s .table; font = f })
 applied limit s f (Store g) = thenFont f (stored limit s)
 applied limit s f Unnumbered = thenNone (stored limit s)
 
@@ -113,18 +113,18 @@ same-font : (limit : ℕ) (s : Fonts) → stored limit s ≡ thenFont (s .font) 
 unfolding stored
 same-font limit s = go (hasKey (s .font .key) (s .table) || ltb (length (s .table)) limit)
   where
-    go : (t : Bool) → cond t (found (record { table = inserted (s .font) (s .table); font = s .font })) (refused (refusal FontRoom))
-        ≡ thenFont (s .font) (cond t (found (record { table = inserted (s .font) (s .table); font = s .font })) (refused (refusal FontRoom)))
+    go : (t : Bool) → cond t (becomes (record { table = inserted (s .font) (s .table); font = s .font })) (fails FontRoom)
+        ≡ thenFont (s .font) (cond t (becomes (record { table = inserted (s .font) (s .table); font = s .font })) (fails FontRoom))
     go true = refl
     go false = refl
 
-number-then : (v : ℕ) (f : Font) (x : Found Fonts) → rekeyed (Value v) (thenFont f x) ≡ thenFont (keyed f v) x
-number-then v f (found s) = refl
-number-then v f (refused r) = refl
+number-then : (v : ℕ) (f : Font) (x : Fate Fonts) → rekeyed (Value v) (thenFont f x) ≡ thenFont (keyed f v) x
+number-then v f (becomes s) = refl
+number-then v f (fails why) = refl
 
-none-then : (x : Found Fonts) → rekeyed None x ≡ thenNone x
-none-then (found s) = refl
-none-then (refused r) = refl
+none-then : (x : Fate Fonts) → rekeyed None x ≡ thenNone x
+none-then (becomes s) = refl
+none-then (fails why) = refl
 
 number-token : (limit : ℕ) (num : Property) (s : Fonts)
     → rekeyed num (stored limit s) ≡ applied limit s (numberedFont num (s .font)) (numbered num (row (s .font)))
@@ -136,7 +136,7 @@ word-token : (limit w : ℕ) (num : Property) (s : Fonts)
 unfolding fontWord
 word-token limit w num s = go (eqb w 9)
   where
-    go : (t : Bool) → cond t (rekeyed num (stored limit s)) (found s)
+    go : (t : Bool) → cond t (rekeyed num (stored limit s)) (becomes s)
         ≡ applied limit s (cond t (numberedFont num (s .font)) (s .font)) (cond t (numbered num (row (s .font))) (Set (row (s .font))))
     go true = number-token limit num s
     go false = refl
@@ -197,7 +197,7 @@ pub record Loop (src tokens : List ℕ) (count : ℕ) (room₀ : List ℕ) (limi
   pub same : font ≡ row (state .font)
   pub size : length (state .table) ≡ held
   pub laid : room ≡ overlaid (tableWords (state .table)) room₀
-  pub left : fontsFrom limit (found state) (shownAll src n ws) ≡ fontsFrom limit (found noFonts) (shownAll src count tokens)
+  pub left : fontsFrom limit (found state) (tokensAll src n ws) ≡ fontsFrom limit (found noFonts) (tokensAll src count tokens)
 
 pub loop-start : (src tokens : List ℕ) (count : ℕ) (room : List ℕ) (limit : ℕ) → (count * tokenWords ≤ length tokens) × (count ≤ 65536)
     → limit ≡ tableLimit fontWords (length room)
@@ -220,23 +220,23 @@ loop-start src tokens count room limit h e =
 
 module _ {src tokens : List ℕ} {count : ℕ} {room₀ : List ℕ} {limit : ℕ} {room ws : List ℕ} {n : ℕ} {font : Row} {held : ℕ}
     (l : Loop src tokens count room₀ limit room ws n font held) where
-  ended : (x : Found Fonts) → x ≡ fontsFrom limit (found noFonts) (shownAll src count tokens)
-      → tableOf x ≡ fonts (tableLimit fontWords (length room₀)) (shownAll src count tokens)
+  ended : (x : Found Fonts) → x ≡ fontsFrom limit (found noFonts) (tokensAll src count tokens)
+      → tableOf x ≡ fonts (tableLimit fontWords (length room₀)) (tokensAll src count tokens)
   unfolding fonts
   ended x e = rw (← (l .limited)) (ap tableOf e)
 
-  stopped : (q : Refusal) (ts : List Shown) (room′ : List ℕ) → fontsFrom limit (refused q) ts ≡ fontsFrom limit (found noFonts) (shownAll src count tokens)
-      → ReadFonts (fonts (tableLimit fontWords (length room₀)) (shownAll src count tokens)) room₀ (Refused q) room′
+  stopped : (q : Refusal) (ts : List Token) (room′ : List ℕ) → fontsFrom limit (refused q) ts ≡ fontsFrom limit (found noFonts) (tokensAll src count tokens)
+      → ReadFonts (fonts (tableLimit fontWords (length room₀)) (tokensAll src count tokens)) room₀ (Refused q) room′
   stopped q ts room′ e =
-      let z : refused q ≡ fonts (tableLimit fontWords (length room₀)) (shownAll src count tokens) = ended (refused q) (sym (fonts-refused limit q ts) ∙ e) in
+      let z : refused q ≡ fonts (tableLimit fontWords (length room₀)) (tokensAll src count tokens) = ended (refused q) (sym (fonts-refused limit q ts) ∙ e) in
       rw (← z) refl
 
   -- no token is left
-  pub loop-end : n ≤ 0 → ReadFonts (fonts (tableLimit fontWords (length room₀)) (shownAll src count tokens)) room₀ (Done held) room
+  pub loop-end : n ≤ 0 → ReadFonts (fonts (tableLimit fontWords (length room₀)) (tokensAll src count tokens)) room₀ (Done held) room
   unfolding fontsFrom
   loop-end h =
-      let e : found (l .state) ≡ fontsFrom limit (found noFonts) (shownAll src count tokens) = rw (shown-none src n ws h) at (l .left) in
-      let z : found (l .state .table) ≡ fonts (tableLimit fontWords (length room₀)) (shownAll src count tokens) = ended (found (l .state)) e in
+      let e : found (l .state) ≡ fontsFrom limit (found noFonts) (tokensAll src count tokens) = rw (tokens-none src n ws h) at (l .left) in
+      let z : found (l .state .table) ≡ fonts (tableLimit fontWords (length room₀)) (tokensAll src count tokens) = ended (found (l .state)) e in
       rw (← z) (ap Done (sym (l .size)), l .laid)
 
   front : InFront (tableWords (l .state .table)) room
@@ -255,24 +255,24 @@ module _ {src tokens : List ℕ} {count : ℕ} {room₀ : List ℕ} {limit : ℕ
     effect-here : e ≡ effectOf src i (row (l .state .font))
     effect-here = b ∙ ap (effectOf src i) (l .same)
 
-    turned : fontsFrom limit (applied limit (l .state) (fontAfter src i (l .state .font)) e) (shownAll src (n - 1) (rest ws tokenWords))
-        ≡ fontsFrom limit (found noFonts) (shownAll src count tokens)
+    turned : fontsFrom limit (foundAt (sliceAt ws) (applied limit (l .state) (fontAfter src i (l .state .font)) e)) (tokensAll src (n - 1) (rest ws tokenWords))
+        ≡ fontsFrom limit (found noFonts) (tokensAll src count tokens)
     unfolding fontsFrom
     turned =
-        let x : fontsFrom limit (fontToken limit (shownOf src (itemAt ws)) (l .state)) (shownAll src (n - 1) (rest ws tokenWords))
-        ≡ fontsFrom limit (found noFonts) (shownAll src count tokens) =
-        rw (shown-some src n ws h) at (l .left) in
+        let x : fontsFrom limit (foundAt (sliceAt ws) (fontToken limit (shownOf src (itemAt ws)) (l .state))) (tokensAll src (n - 1) (rest ws tokenWords))
+        ≡ fontsFrom limit (found noFonts) (tokensAll src count tokens) =
+        rw (tokens-some src n ws h) at (l .left) in
         let y : fontToken limit (shownOf src (itemAt ws)) (l .state) ≡ applied limit (l .state) (fontAfter src i (l .state .font)) e =
         ap (λ (j : Item). fontToken limit (shownOf src j) (l .state)) (sym a)
         ∙ effect-token limit src i (l .state)
         ∙ ap (applied limit (l .state) (fontAfter src i (l .state .font))) (sym effect-here) in
-        ap (λ (z : Found Fonts). fontsFrom limit z (shownAll src (n - 1) (rest ws tokenWords))) (sym y) ∙ x
+        ap (λ (z : Fate Fonts). fontsFrom limit (foundAt (sliceAt ws) z) (tokensAll src (n - 1) (rest ws tokenWords))) (sym y) ∙ x
 
     leaves : Leaves (fontAfter src i (l .state .font)) e
     leaves = rw effect-here (effect-row src i (l .state .font))
 
-    sound-after : SoundIf limit (applied limit (l .state) (fontAfter src i (l .state .font)) e)
-    sound-after = rw (effect-here, ← (effect-token limit src i (l .state))) (sound-next limit (found (l .state)) (shownOf src i) (l .sound))
+    sound-after : SoundFate limit (applied limit (l .state) (fontAfter src i (l .state .font)) e)
+    sound-after = rw (effect-here, ← (effect-token limit src i (l .state))) (sound-token limit (shownOf src i) (l .state) (l .sound))
 
     -- a new current font
     pub loop-set : (g : Row) → e ≡ Set g → Loop src tokens count room₀ limit room (rest ws tokenWords) (n - 1) g held
@@ -292,43 +292,52 @@ module _ {src tokens : List ℕ} {count : ℕ} {room₀ : List ℕ} {limit : ℕ
         }
 
     -- a store was asked, of the font before the token
-    module _ (o : Outcome) (room′ : List ℕ) (told : (fs : List Font) (g : Font) → StoredFont limit held font fs g room o room′)
+    module _ (o : Written) (room′ : List ℕ) (told : (fs : List Font) (g : Font) → StoredFont limit held font fs g room o room′)
         (kept : length room′ ≡ length room) where
-      answered : ReadFonts (tableOf (stored limit (l .state))) room o room′
+      answered : WroteFonts (stored limit (l .state)) room o room′
       answered = told (l .state .table) (l .state .font) (l .size) front (l .same)
 
-      pub loop-full : (g : Row) → e ≡ Store g → (q : Refusal) → o ≡ Refused q
-          → ReadFonts (fonts (tableLimit fontWords (length room₀)) (shownAll src count tokens)) room₀ (Refused q) room′
-      loop-full g x q y = stopped q (shownAll src (n - 1) (rest ws tokenWords)) room′ (go (stored limit (l .state)) (rw y at answered) (rw x at turned))
-        where
-          go : (z : Found Fonts) → ReadFonts (tableOf z) room (Refused q) room′
-              → fontsFrom limit (thenFont (fontAfter src i (l .state .font)) z) (shownAll src (n - 1) (rest ws tokenWords))
-              ≡ fontsFrom limit (found noFonts) (shownAll src count tokens)
-              → fontsFrom limit (refused q) (shownAll src (n - 1) (rest ws tokenWords)) ≡ fontsFrom limit (found noFonts) (shownAll src count tokens)
-          go (found s) r t = absurd (done-refused (sym (r .0)))
-          go (refused p) r t = let d : q ≡ p = cc in rw d t
+      -- a refusal at the token's slice
+      module _ (why : Why) {r : Outcome} (y : r ≡ Refused (refusalAt why (sliceAt ws))) where
+        refused-here : fontsFrom limit (refused (refusalAt why (sliceAt ws))) (tokensAll src (n - 1) (rest ws tokenWords))
+            ≡ fontsFrom limit (found noFonts) (tokensAll src count tokens)
+            → ReadFonts (fonts (tableLimit fontWords (length room₀)) (tokensAll src count tokens)) room₀ r room′
+        refused-here t = rw y (stopped (refusalAt why (sliceAt ws)) (tokensAll src (n - 1) (rest ws tokenWords)) room′ t)
 
-      pub loop-unnumbered : e ≡ Unnumbered → (q : Refusal) → q ≡ unnumbered o
-          → ReadFonts (fonts (tableLimit fontWords (length room₀)) (shownAll src count tokens)) room₀ (Refused q) room′
-      loop-unnumbered x q y = stopped q (shownAll src (n - 1) (rest ws tokenWords)) room′ (go (stored limit (l .state)) answered (rw x at turned))
-        where
-          go : (z : Found Fonts) → ReadFonts (tableOf z) room o room′
-              → fontsFrom limit (thenNone z) (shownAll src (n - 1) (rest ws tokenWords))
-              ≡ fontsFrom limit (found noFonts) (shownAll src count tokens)
-              → fontsFrom limit (refused q) (shownAll src (n - 1) (rest ws tokenWords)) ≡ fontsFrom limit (found noFonts) (shownAll src count tokens)
-          go (found s) r t = let d : q ≡ refusal FontNumber = y ∙ ap unnumbered (r .0) in rw d t
-          go (refused p) r t = let d : q ≡ p = y ∙ ap unnumbered r in rw d t
+        pub loop-full : (g : Row) → e ≡ Store g → o ≡ Stopped why
+            → ReadFonts (fonts (tableLimit fontWords (length room₀)) (tokensAll src count tokens)) room₀ r room′
+        loop-full g x u = refused-here (go (stored limit (l .state)) (rw u at answered) (rw x at turned))
+          where
+            go : (z : Fate Fonts) → WroteFonts z room (Stopped why) room′
+                → fontsFrom limit (foundAt (sliceAt ws) (thenFont (fontAfter src i (l .state .font)) z)) (tokensAll src (n - 1) (rest ws tokenWords))
+                ≡ fontsFrom limit (found noFonts) (tokensAll src count tokens)
+                → fontsFrom limit (refused (refusalAt why (sliceAt ws))) (tokensAll src (n - 1) (rest ws tokenWords))
+                ≡ fontsFrom limit (found noFonts) (tokensAll src count tokens)
+            go (becomes s) v t = absurd (name-apart .apart (sym (v .0)))
+            go (fails w) v t = let d : why ≡ w = cc in rw d t
 
-      pub loop-store : (g : Row) → e ≡ Store g → (m : ℕ) → o ≡ Done m → Loop src tokens count room₀ limit room′ (rest ws tokenWords) (n - 1) g m
+        pub loop-unnumbered : e ≡ Unnumbered → why ≡ unnumbered o
+            → ReadFonts (fonts (tableLimit fontWords (length room₀)) (tokensAll src count tokens)) room₀ r room′
+        loop-unnumbered x u = refused-here (go (stored limit (l .state)) answered (rw x at turned))
+          where
+            go : (z : Fate Fonts) → WroteFonts z room o room′
+                → fontsFrom limit (foundAt (sliceAt ws) (thenNone z)) (tokensAll src (n - 1) (rest ws tokenWords))
+                ≡ fontsFrom limit (found noFonts) (tokensAll src count tokens)
+                → fontsFrom limit (refused (refusalAt why (sliceAt ws))) (tokensAll src (n - 1) (rest ws tokenWords))
+                ≡ fontsFrom limit (found noFonts) (tokensAll src count tokens)
+            go (becomes s) v t = let d : why ≡ FontNumber = u ∙ ap unnumbered (v .0) in rw d t
+            go (fails w) v t = let d : why ≡ w = u ∙ ap unnumbered v in rw d t
+
+      pub loop-store : (g : Row) → e ≡ Store g → (m : ℕ) → o ≡ Up m → Loop src tokens count room₀ limit room′ (rest ws tokenWords) (n - 1) g m
       loop-store g x m y = go (stored limit (l .state)) refl (rw y at answered) (rw x at turned) (rw x at sound-after)
         where
-          go : (z : Found Fonts) → stored limit (l .state) ≡ z → ReadFonts (tableOf z) room (Done m) room′
-              → fontsFrom limit (thenFont (fontAfter src i (l .state .font)) z) (shownAll src (n - 1) (rest ws tokenWords))
-              ≡ fontsFrom limit (found noFonts) (shownAll src count tokens)
-              → SoundIf limit (thenFont (fontAfter src i (l .state .font)) z)
+          go : (z : Fate Fonts) → stored limit (l .state) ≡ z → WroteFonts z room (Up m) room′
+              → fontsFrom limit (foundAt (sliceAt ws) (thenFont (fontAfter src i (l .state .font)) z)) (tokensAll src (n - 1) (rest ws tokenWords))
+              ≡ fontsFrom limit (found noFonts) (tokensAll src count tokens)
+              → SoundFate limit (thenFont (fontAfter src i (l .state .font)) z)
               → Loop src tokens count room₀ limit room′ (rest ws tokenWords) (n - 1) g m
-          go (found s) v r t u =
-              let d : m ≡ length (s .table) = done-done m (length (s .table)) (r .0) in
+          go (becomes s) v r t u =
+              let d : m ≡ length (s .table) = name-apart .same m (length (s .table)) (r .0) in
               let w : length (tableWords (l .state .table)) ≤ length (tableWords (s .table)) =
               (let y = stored-longer limit (l .state) s v in let i = length-table (l .state .table) in let j = length-table (s .table) in omega arith) in
               record {
@@ -344,4 +353,4 @@ module _ {src tokens : List ℕ} {count : ℕ} {room₀ : List ℕ} {limit : ℕ
                 laid = r .1 ∙ ap (overlaid (tableWords (s .table))) (l .laid) ∙ overlaid-again (tableWords (s .table)) (tableWords (l .state .table)) room₀ w;
                 left = t;
               }
-          go (refused p) v r t u = absurd (done-refused r)
+          go (fails w) v r t u = absurd (name-apart .apart r)

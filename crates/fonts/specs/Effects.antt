@@ -5,10 +5,9 @@ use mathlib.Core.List.{List}
 use mathlib.Core.Bool.{cond}
 use lib.Dec.{eqb}
 use Rattle.answers.specs.declared.Why.the-variants.{FontNumber}
-use Rattle.answers.specs.declared.Refusal.{Refusal}
-use Rattle.answers.specs.declared.Outcome.{Outcome}
-use Rattle.answers.specs.declared.Outcome.the-variants.{Done, Refused}
-use Rattle.answers.specs.Answers.{refusal}
+use Rattle.answers.specs.declared.Why.{Why}
+use Rattle.answers.specs.declared.Written.{Written}
+use Rattle.answers.specs.declared.Written.the-variants.{Done, Refused}
 use Rattle.bytes.specs.declared.Class.the-variants.{Semicolon}
 use Rattle.bytes.specs.Bytes.{inClass, body}
 use Rattle.tokens.specs.declared.Property.{Property}
@@ -47,6 +46,6 @@ effectOf src Ignorable f = Set f
 effectOf src (Unknown p n num) f = Set f
 
 -- 11, unless the store was refused
-abbrev pub unnumbered : Outcome → Refusal
-unnumbered (Done n) = refusal FontNumber
-unnumbered (Refused r) = r
+abbrev pub unnumbered : Written → Why
+unnumbered (Done n) = FontNumber
+unnumbered (Refused why) = why

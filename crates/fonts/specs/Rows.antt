@@ -9,7 +9,9 @@ use lib.Dec.{eqb, ltb}
 use Rattle.answers.specs.declared.Why.the-variants.{FontRoom}
 use Rattle.answers.specs.declared.Outcome.{Outcome}
 use Rattle.answers.specs.declared.Outcome.the-variants.{Done, Refused}
-use Rattle.answers.specs.Answers.{refusal, Found, found, refused}
+use Rattle.answers.specs.declared.Written.{Written}
+use Rattle.answers.specs.declared.Written.the-variants.{Done as Up, Refused as Stopped}
+use Rattle.answers.specs.Answers.{Found, found, refused, Fate, becomes, fails}
 use Rattle.rooms.specs.Rooms.{overlaid}
 use Rattle.fonts.specs.declared.rows.Font.{Font as Row}
 
@@ -56,11 +58,11 @@ abbrev pub noFonts : Fonts
 noFonts = record { table = []; font = firstFont }
 
 -- "store the current font under its key"; 17: "a new font key .. beyond 256 or the lent room"
-unfoldable pub stored : ℕ → Fonts → Found Fonts
+unfoldable pub stored : ℕ → Fonts → Fate Fonts
 stored limit s =
     cond (hasKey (s .font .key) (s .table) || ltb (length (s .table)) limit)
-    (found (record { table = inserted (s .font) (s .table); font = s .font }))
-    (refused (refusal FontRoom))
+    (becomes (record { table = inserted (s .font) (s .table); font = s .font }))
+    (fails FontRoom)
 
 abbrev pub tableOf : Found Fonts → Found (List Font)
 tableOf (found s) = found (s .table)
@@ -105,7 +107,12 @@ stands n room r key = cond (ltb r n) (eqb (keyAt room r) key) false
 unfoldable pub shifted : ℕ → ℕ → List ℕ → List ℕ
 shifted from to room = take (from + fontWords) room ++ (take (to - from) (drop from room) ++ drop (to + fontWords) room)
 
--- what a function that stores a font answers, and what it leaves in the room, if the room has a table of n fonts in front
-abbrev pub StoredFont : ℕ → ℕ → Row → List Font → Font → List ℕ → Outcome → List ℕ → Type 0
+-- what a function that stores a font answers, and the room that it leaves
+abbrev pub WroteFonts : Fate Fonts → List ℕ → Written → List ℕ → Type 0
+WroteFonts (becomes s) room r room′ = (r ≡ Up (length (s .table))) × (room′ ≡ overlaid (tableWords (s .table)) room)
+WroteFonts (fails why) room r room′ = r ≡ Stopped why
+
+-- the same, if the room has a table of n fonts in front
+abbrev pub StoredFont : ℕ → ℕ → Row → List Font → Font → List ℕ → Written → List ℕ → Type 0
 StoredFont limit n f fs g room r room′ =
-    length fs ≡ n → InFront (tableWords fs) room → f ≡ row g → ReadFonts (tableOf (stored limit (record { table = fs; font = g }))) room r room′
+    length fs ≡ n → InFront (tableWords fs) room → f ≡ row g → WroteFonts (stored limit (record { table = fs; font = g })) room r room′

@@ -4,6 +4,7 @@
 //   Effect      what a token does: a new current font; the current one stored first; stored, and then no number
 //   key_of      a number as a key
 //   step        a token's effect
+//   refuse      a refusal at a token
 //   read_fonts  the whole table
 mod rows;
 
@@ -12,6 +13,7 @@ use crate::rows::store;
 use answers::Outcome;
 use answers::Refusal;
 use answers::Why;
+use answers::Written;
 use bytes::Class;
 use bytes::body_of;
 use tokens::Property;
@@ -19,13 +21,16 @@ use tokens::TOKEN_WORDS;
 use tokens::item::Item;
 use tokens::item::item_at;
 use tokens::item::part;
+use tokens::item::slice_at;
 use tokens::words;
 ghost use mathlib.Core.Path.{_≡_};
 ghost use Prim.Native.Nat.{_*_, _%_, _≤_};
 ghost use lib.ListN.{length};
+ghost use Rattle.answers.specs.declared.Outcome.the-variants.{Refused};
+ghost use Rattle.answers.specs.Answers.{refusalAt};
 ghost use Rattle.bytes.specs.declared.Class.the-variants.{Semicolon};
 ghost use Rattle.bytes.specs.Bytes.{inClass, body};
-ghost use Rattle.tokens.specs.Items.{part as partOf, shownAll};
+ghost use Rattle.tokens.specs.Items.{part as partOf, sliceAt, tokensAll};
 ghost use Rattle.rooms.specs.Rooms.{tableLimit};
 ghost use Rattle.fonts.specs.Rows.{ReadFonts, fontWords};
 ghost use Rattle.fonts.specs.Fonts.{fonts as fontsOf};
@@ -136,20 +141,29 @@ fn step(source: &[u8], i: Item, f: Font) -> Effect
     }
 }
 
-// What `\f` without a number answers, after the store: the store's refusal comes first.
-fn unnumbered(o: Outcome) -> Refusal
+// Why `\f` without a number is refused, after the store: the store's refusal comes first.
+fn unnumbered(o: Written) -> Why
     ensures { λ r. ⌜ r ≡ unnumberedOf o ⌝ }
 {
     match o {
-        Outcome::Done(_) => Refusal::of(Why::FontNumber),
-        Outcome::Refused(refusal) => refusal,
+        Written::Done(_) => Why::FontNumber,
+        Written::Refused(why) => why,
     }
+}
+
+// A refusal at the first token of a slice of words: it has the place of that token's slice (02, A4).
+fn refuse(here: &[u32], why: Why) -> Outcome
+    requires { ⌜ tokenWords ≤ length (now here) ⌝ }
+    ensures { λ r. ⌜ r ≡ Refused (refusalAt why (sliceAt (now (here .entry)))) ⌝ }
+{
+    let place = slice_at(here);
+    Outcome::Refused(Refusal::at(why, place))
 }
 
 // Reads the table of a group's tokens, which starts anew.
 pub fn read_fonts(source: &[u8], tokens: &[u32], count: usize, room: &mut [u32]) -> Outcome
     requires { ⌜ (count * tokenWords ≤ length (now tokens)) × (count ≤ 65536) ⌝ }
-    ensures { λ r. ⌜ ReadFonts (fontsOf (tableLimit fontWords (length (now (room .entry)))) (shownAll (now (source .entry)) count (now (tokens .entry)))) (now (room .entry)) r (now (room .exit)) ⌝ }
+    ensures { λ r. ⌜ ReadFonts (fontsOf (tableLimit fontWords (length (now (room .entry)))) (tokensAll (now (source .entry)) count (now (tokens .entry)))) (now (room .entry)) r (now (room .exit)) ⌝ }
 {
     let limit = limit_of(room.len());
     let mut t = tokens;
@@ -161,9 +175,10 @@ pub fn read_fonts(source: &[u8], tokens: &[u32], count: usize, room: &mut [u32])
     };
     let mut held: usize = 0;
     while 0 < n {
-        let i = item_at(t);
+        let here = t;
+        let i = item_at(here);
         let e = step(source, i, font);
-        t = &t[TOKEN_WORDS..];
+        t = &here[TOKEN_WORDS..];
         n -= 1;
         match e {
             Effect::Set(g) => {
@@ -172,18 +187,18 @@ pub fn read_fonts(source: &[u8], tokens: &[u32], count: usize, room: &mut [u32])
             Effect::Store(g) => {
                 let o = store(room, held, font, limit);
                 match o {
-                    Outcome::Done(m) => {
+                    Written::Done(m) => {
                         held = m;
                         font = g;
                     }
-                    Outcome::Refused(refusal) => {
-                        return Outcome::Refused(refusal);
+                    Written::Refused(why) => {
+                        return refuse(here, why);
                     }
                 }
             }
             Effect::Unnumbered => {
                 let last = store(room, held, font, limit);
-                return Outcome::Refused(unnumbered(last));
+                return refuse(here, unnumbered(last));
             }
         }
     }

@@ -4,9 +4,8 @@
 //   rank    where a key stands, or would stand, among the records
 //   store   puts a font in its place
 use crate::FONT_WORDS;
-use answers::Outcome;
-use answers::Refusal;
 use answers::Why;
+use answers::Written;
 ghost use mathlib.Core.Path.{_≡_};
 ghost use mathlib.Core.List.{List};
 ghost use Prim.Native.Nat.{_+_, _*_, _≤_};
@@ -56,21 +55,21 @@ fn stands(room: &[u32], n: usize, r: usize, key: u32) -> bool
 
 // Moves the words between two places on by one record, the last one first.
 fn shift(room: &mut [u32], from: usize, to: usize)
-    requires { ⌜ (from ≤ to) × (to + 3 ≤ length (now room)) ⌝ }
+    requires { ⌜ (from ≤ to) × (to + fontWords ≤ length (now room)) ⌝ }
     ensures { λ _. ⌜ now (room .exit) ≡ shifted from to (now (room .entry)) ⌝ }
 {
     let mut i = to;
     while from < i {
         i -= 1;
         let w = room[i];
-        let next = i + 3;
+        let next = i + FONT_WORDS;
         room[next] = w;
     }
 }
 
 // Writes a font's record.
 fn put(room: &mut [u32], at: usize, f: Font)
-    requires { ⌜ at + 3 ≤ length (now room) ⌝ }
+    requires { ⌜ at + fontWords ≤ length (now room) ⌝ }
     ensures { λ _. ⌜ now (room .exit) ≡ sets (now (room .entry)) at (rowWords f) ⌝ }
 {
     room[at] = f.key;
@@ -80,7 +79,7 @@ fn put(room: &mut [u32], at: usize, f: Font)
 
 // Puts the current font among the n records of a table: over the record of the same key, or in its place, where the later ones
 // move on by one; 17 if that would be a record too many. The answer is how many records there are then.
-pub fn store(room: &mut [u32], n: usize, f: Font, limit: usize) -> Outcome
+pub fn store(room: &mut [u32], n: usize, f: Font, limit: usize) -> Written
     requires { ⌜ (n ≤ limit) × (limit ≤ 256) × (limit * fontWords ≤ length (now room)) × Ascends n (now room) ⌝ }
     ensures { λ r. ⌜ ((fs : List Named) (g : Named) → StoredFont limit n f fs g (now (room .entry)) r (now (room .exit))) ⌝ }
 {
@@ -89,13 +88,13 @@ pub fn store(room: &mut [u32], n: usize, f: Font, limit: usize) -> Outcome
     let at = r * FONT_WORDS;
     if stands(room, n, r, key) {
         put(room, at, f);
-        return Outcome::Done(n);
+        return Written::Done(n);
     }
     if limit <= n {
-        return Outcome::Refused(Refusal::of(Why::FontRoom));
+        return Written::Refused(Why::FontRoom);
     }
     let end = n * FONT_WORDS;
     shift(room, at, end);
     put(room, at, f);
-    Outcome::Done(n + 1)
+    Written::Done(n + 1)
 }

@@ -16,20 +16,21 @@ use Rattle.answers.specs.declared.Why.the-variants.{TableLineBreak}
 use Rattle.answers.specs.declared.Refusal.{Refusal}
 use Rattle.answers.specs.declared.Outcome.{Outcome}
 use Rattle.answers.specs.declared.Outcome.the-variants.{Done, Refused}
-use Rattle.answers.specs.Answers.{refusal, Found, found, refused}
+use Rattle.answers.specs.Answers.{refusalAt, Found, found, refused}
 use Rattle.rooms.proofs.Streams.{done-refused}
 use Rattle.tokens.specs.declared.Property.{Property}
-use Rattle.tokens.specs.Tokens.{Shown, tokenWords}
+use Rattle.tokens.specs.Tokens.{Token, tokenWords, shownBy}
 use Rattle.tokens.specs.declared.item.Item.the-variants.{Text, Closing, LineBreak, Ignorable, Word, Unknown}
-use Rattle.tokens.specs.Items.{propertyOf, itemOf, itemAt, shownAll}
-use Rattle.tokens.proofs.Items.{item-opening, shown-take}
+use Rattle.tokens.specs.Items.{propertyOf, itemOf, itemAt, shownAll, tokensAll}
+use Rattle.tokens.proofs.Items.{item-opening, tokens-take, tokens-shown}
 use Rattle.rooms.proofs.Clearing.{overlaid-front}
 use Rattle.fonts.specs.Rows.{Font, tableWords, ReadFonts}
 use Rattle.fonts.specs.Fonts.{fonts}
 use Rattle.colours.specs.Colours.{colours, ReadColours}
 use Rattle.walk.specs.declared.Aim.{Aim}
 use Rattle.walk.specs.declared.Aim.the-variants.{Nothing, Hide, Fonts, Colours}
-use Rattle.walk.specs.Walk.{aim, extent, group, fontTable, colourTable}
+use Rattle.walk.specs.Walk.{aim, extent, group, tableWord, fontTable, colourTable}
+use Rattle.walk.proofs.Walk.{group-word}
 use Rattle.header.specs.declared.group.Entered.{Entered}
 use Rattle.header.specs.declared.group.Entered.the-variants.{On, Bad}
 use Rattle.header.specs.Entering.{Tables, withFonts, withColours, readStep}
@@ -62,92 +63,102 @@ done-done n m e = cc
 refused-refused : (q r : Refusal) → Refused q ≡ Refused r → q ≡ r
 refused-refused q r e = cc
 
--- the words of a group show its tokens
-group-words : (src t : List ℕ) (n : ℕ) {h : ℕ} → h ≡ extent 1 (shownAll src n t) → h ≤ n → shownAll src h (take (h * tokenWords) t) ≡ group (shownAll src n t)
-group-words src t n {h} e l = sym (shown-take src h n t l) ∙ ap (λ (k : ℕ). take k (shownAll src n t)) e
+-- how long a group is, by what its tokens show
+group-length : (src t : List ℕ) (n : ℕ) {h : ℕ} → h ≡ extent 1 (shownAll src n t) → h ≡ extent 1 (shownBy (tokensAll src n t))
+group-length src t n e = e ∙ ap (extent 1) (sym (tokens-shown src n t))
+
+-- the words of a group are its tokens
+group-words : (src t : List ℕ) (n : ℕ) {h : ℕ} → h ≡ extent 1 (shownAll src n t) → h ≤ n → tokensAll src h (take (h * tokenWords) t) ≡ group (tokensAll src n t)
+group-words src t n {h} e l = sym (tokens-take src h n t l) ∙ ap (λ (k : ℕ). take k (tokensAll src n t)) (group-length src t n e)
 
 module _ (src t : List ℕ) (n : ℕ) {late : Bool} (limit held : ℕ) (room : List ℕ) where
-  pub late-fonts : late ≡ true → {q : Refusal} → q ≡ refusal TableLineBreak
-      → FontsMet late (fonts limit (group (shownAll src n t))) held (extent 1 (shownAll src n t)) (Bad q) room × (0 ≤ n)
-  late-fonts l e = (rw l (ap Bad e), omega arith)
+  pub late-fonts : late ≡ true → {p : ℕ} {q : Refusal} → p ≡ tableWord (tokensAll src n t) → q ≡ refusalAt TableLineBreak p
+      → FontsMet late (tableWord (tokensAll src n t)) (fonts limit (group (tokensAll src n t))) held (extent 1 (shownBy (tokensAll src n t))) (Bad q) room × (0 ≤ n)
+  late-fonts l d e = (rw (l, ← d) (ap Bad e), omega arith)
 
-  pub late-colours : late ≡ true → {q : Refusal} → q ≡ refusal TableLineBreak
-      → ColoursMet late (colours limit (group (shownAll src n t))) held (extent 1 (shownAll src n t)) (Bad q) room
-  late-colours l e = rw l (ap Bad e)
+  pub late-colours : late ≡ true → {p : ℕ} {q : Refusal} → p ≡ tableWord (tokensAll src n t) → q ≡ refusalAt TableLineBreak p
+      → ColoursMet late (tableWord (tokensAll src n t)) (colours limit (group (tokensAll src n t))) held (extent 1 (shownBy (tokensAll src n t))) (Bad q) room
+  late-colours l d e = rw (l, ← d) (ap Bad e)
 
   module _ (l : late ≡ false) {h : ℕ} (a : h ≡ extent 1 (shownAll src n t)) (b : h ≤ n) (o : Outcome) where
-    module _ (room₀ : List ℕ) (r : ReadFonts (fonts limit (shownAll src h (take (h * tokenWords) t))) room₀ o room) where
-      fonts-told : ReadFonts (fonts limit (group (shownAll src n t))) room₀ o room
+    module _ (room₀ : List ℕ) (r : ReadFonts (fonts limit (tokensAll src h (take (h * tokenWords) t))) room₀ o room) where
+      fonts-told : ReadFonts (fonts limit (group (tokensAll src n t))) room₀ o room
       fonts-told = rw (← (group-words src t n a b)) r
 
       pub fonts-read : {k : ℕ} → o ≡ Done k
-          → FontsMet late (fonts limit (group (shownAll src n t))) held (extent 1 (shownAll src n t)) (On k held h) room × (h ≤ n)
-      fonts-read {k} e = (rw l (go (fonts limit (group (shownAll src n t))) (rw e at fonts-told)), b)
+          → FontsMet late (tableWord (tokensAll src n t)) (fonts limit (group (tokensAll src n t))) held (extent 1 (shownBy (tokensAll src n t))) (On k held h) room × (h ≤ n)
+      fonts-read {k} e = (rw l (go (fonts limit (group (tokensAll src n t))) (rw e at fonts-told)), b)
         where
-          go : (x : Found (List Font)) → ReadFonts x room₀ (Done k) room → FontsMet false x held (extent 1 (shownAll src n t)) (On k held h) room
-          go (found fs) y = let d : k ≡ length fs = done-done k (length fs) (y .0) in (rw (d, ← a) refl, rw (y .1) (overlaid-front (tableWords fs) room₀))
+          go : (x : Found (List Font)) → ReadFonts x room₀ (Done k) room → FontsMet false (tableWord (tokensAll src n t)) x held (extent 1 (shownBy (tokensAll src n t))) (On k held h) room
+          go (found fs) y = let d : k ≡ length fs = done-done k (length fs) (y .0) in (rw (d, ← (group-length src t n a)) refl, rw (y .1) (overlaid-front (tableWords fs) room₀))
           go (refused q) y = absurd (done-refused y)
 
       pub fonts-bad : {q : Refusal} → o ≡ Refused q
-          → FontsMet late (fonts limit (group (shownAll src n t))) held (extent 1 (shownAll src n t)) (Bad q) room × (0 ≤ n)
-      fonts-bad {q} e = (rw l (go (fonts limit (group (shownAll src n t))) (rw e at fonts-told)), omega arith)
+          → FontsMet late (tableWord (tokensAll src n t)) (fonts limit (group (tokensAll src n t))) held (extent 1 (shownBy (tokensAll src n t))) (Bad q) room × (0 ≤ n)
+      fonts-bad {q} e = (rw l (go (fonts limit (group (tokensAll src n t))) (rw e at fonts-told)), omega arith)
         where
-          go : (x : Found (List Font)) → ReadFonts x room₀ (Refused q) room → FontsMet false x held (extent 1 (shownAll src n t)) (Bad q) room
+          go : (x : Found (List Font)) → ReadFonts x room₀ (Refused q) room → FontsMet false (tableWord (tokensAll src n t)) x held (extent 1 (shownBy (tokensAll src n t))) (Bad q) room
           go (found fs) y = absurd (done-refused (sym (y .0)))
           go (refused p) y = ap Bad (refused-refused q p y)
 
-    module _ (room₀ : List ℕ) (r : ReadColours (colours limit (shownAll src h (take (h * tokenWords) t))) room₀ o room) where
-      colours-told : ReadColours (colours limit (group (shownAll src n t))) room₀ o room
+    module _ (room₀ : List ℕ) (r : ReadColours (colours limit (tokensAll src h (take (h * tokenWords) t))) room₀ o room) where
+      colours-told : ReadColours (colours limit (group (tokensAll src n t))) room₀ o room
       colours-told = rw (← (group-words src t n a b)) r
 
-      pub colours-read : {k : ℕ} → o ≡ Done k → ColoursMet late (colours limit (group (shownAll src n t))) held (extent 1 (shownAll src n t)) (On held k h) room
-      colours-read {k} e = rw l (go (colours limit (group (shownAll src n t))) (rw e at colours-told))
+      pub colours-read : {k : ℕ} → o ≡ Done k → ColoursMet late (tableWord (tokensAll src n t)) (colours limit (group (tokensAll src n t))) held (extent 1 (shownBy (tokensAll src n t))) (On held k h) room
+      colours-read {k} e = rw l (go (colours limit (group (tokensAll src n t))) (rw e at colours-told))
         where
-          go : (x : Found (List ℕ)) → ReadColours x room₀ (Done k) room → ColoursMet false x held (extent 1 (shownAll src n t)) (On held k h) room
-          go (found cs) y = let d : k ≡ length cs = done-done k (length cs) (y .0) in (rw (d, ← a) refl, rw (y .1) (overlaid-front cs room₀))
+          go : (x : Found (List ℕ)) → ReadColours x room₀ (Done k) room → ColoursMet false (tableWord (tokensAll src n t)) x held (extent 1 (shownBy (tokensAll src n t))) (On held k h) room
+          go (found cs) y = let d : k ≡ length cs = done-done k (length cs) (y .0) in (rw (d, ← (group-length src t n a)) refl, rw (y .1) (overlaid-front cs room₀))
           go (refused q) y = absurd (done-refused y)
 
-      pub colours-bad : {q : Refusal} → o ≡ Refused q → ColoursMet late (colours limit (group (shownAll src n t))) held (extent 1 (shownAll src n t)) (Bad q) room
-      colours-bad {q} e = rw l (go (colours limit (group (shownAll src n t))) (rw e at colours-told))
+      pub colours-bad : {q : Refusal} → o ≡ Refused q → ColoursMet late (tableWord (tokensAll src n t)) (colours limit (group (tokensAll src n t))) held (extent 1 (shownBy (tokensAll src n t))) (Bad q) room
+      colours-bad {q} e = rw l (go (colours limit (group (tokensAll src n t))) (rw e at colours-told))
         where
-          go : (x : Found (List ℕ)) → ReadColours x room₀ (Refused q) room → ColoursMet false x held (extent 1 (shownAll src n t)) (Bad q) room
+          go : (x : Found (List ℕ)) → ReadColours x room₀ (Refused q) room → ColoursMet false (tableWord (tokensAll src n t)) x held (extent 1 (shownBy (tokensAll src n t))) (Bad q) room
           go (found cs) y = absurd (done-refused (sym (y .0)))
           go (refused p) y = ap Bad (refused-refused q p y)
 
 -- the tokens behind a bracket, and the rooms before and after
-module _ (f c : ℕ) (ts : List Shown) (n nf nc : ℕ) (fs cs : List ℕ) {a : Aim} (e : a ≡ aim ts) where
+module _ (f c : ℕ) (src ws : List ℕ) (n nf nc : ℕ) (fs cs : List ℕ) {a : Aim} (q : a ≡ aim (shownAll src n ws)) where
+  abbrev ts : List Token
+  ts = tokensAll src n ws
+
+  e : a ≡ aim (shownBy ts)
+  e = q ∙ ap aim (sym (tokens-shown src n ws))
+
   same-tables : (h : ℕ) (s : Tables) → Holds s nf nc fs cs → Met (found s) h (On nf nc h) fs cs
   same-tables h s k = (rw (k .fontCount, k .colourCount) refl, k .fontFront, k .colourFront)
 
   pub enter-nothing : a ≡ Nothing → Enters f c ts nf nc fs cs (On nf nc 0) fs cs × (0 ≤ n)
-  enter-nothing d = ((λ s k. rw (sym e ∙ d) (same-tables 0 s k)), omega arith)
+  enter-nothing d = ((λ t s k. rw (sym e ∙ d) (same-tables 0 s k)), omega arith)
 
-  pub enter-hide : a ≡ Hide → {h : ℕ} → h ≡ extent 1 ts → h ≤ n → Enters f c ts nf nc fs cs (On nf nc h) fs cs × (h ≤ n)
-  enter-hide d {h} x l = ((λ s k. rw (sym e ∙ d, ← x) (same-tables h s k)), l)
+  pub enter-hide : a ≡ Hide → {h : ℕ} → h ≡ extent 1 (shownAll src n ws) → h ≤ n → Enters f c ts nf nc fs cs (On nf nc h) fs cs × (h ≤ n)
+  enter-hide d {h} x l = ((λ t s k. rw (sym e ∙ d, ← (group-length src ws n x)) (same-tables h s k)), l)
 
   module _ {late : Bool} (r : Entered) where
-    pub enter-fonts : (fs′ : List ℕ) → a ≡ Fonts late → FontsMet late (fonts f (group ts)) nc (extent 1 ts) r fs′ × (passed r ≤ n)
+    pub enter-fonts : (fs′ : List ℕ) → a ≡ Fonts late → FontsMet late (tableWord ts) (fonts f (group ts)) nc (extent 1 (shownBy ts)) r fs′ × (passed r ≤ n)
         → Enters f c ts nf nc fs cs r fs′ cs × (passed r ≤ n)
-    enter-fonts fs′ d m = ((λ s k. rw (sym e ∙ d) (by-late late s k (m .0))), m .1)
+    enter-fonts fs′ d m = ((λ t s k. rw (sym e ∙ d) (by-late late s k (m .0))), m .1)
       where
-        go : (x : Found (List Font)) (s : Tables) → Holds s nf nc fs cs → FontsMet false x nc (extent 1 ts) r fs′ → Met (withFonts s x) (extent 1 ts) r fs′ cs
+        go : (x : Found (List Font)) (s : Tables) → Holds s nf nc fs cs → FontsMet false (tableWord ts) x nc (extent 1 (shownBy ts)) r fs′ → Met (withFonts s x) (extent 1 (shownBy ts)) r fs′ cs
         go (found gs) s k y = (rw (← (k .colourCount)) (y .0), y .1, k .colourFront)
         go (refused q) s k y = y
 
-        by-late : (t : Bool) (s : Tables) → Holds s nf nc fs cs → FontsMet t (fonts f (group ts)) nc (extent 1 ts) r fs′
-            → Met (readStep f c (fontTable t (group ts)) s) (extent 1 ts) r fs′ cs
-        by-late true s k y = y
+        by-late : (t : Bool) (s : Tables) → Holds s nf nc fs cs → FontsMet t (tableWord ts) (fonts f (group ts)) nc (extent 1 (shownBy ts)) r fs′
+            → Met (readStep f c (fontTable t (group ts)) s) (extent 1 (shownBy ts)) r fs′ cs
+        by-late true s k y = rw (group-word ts) y
         by-late false s k y = go (fonts f (group ts)) s k y
 
-    pub enter-colours : (cs′ : List ℕ) → a ≡ Colours late → ColoursMet late (colours c (group ts)) nf (extent 1 ts) r cs′ × (passed r ≤ n)
+    pub enter-colours : (cs′ : List ℕ) → a ≡ Colours late → ColoursMet late (tableWord ts) (colours c (group ts)) nf (extent 1 (shownBy ts)) r cs′ × (passed r ≤ n)
         → Enters f c ts nf nc fs cs r fs cs′ × (passed r ≤ n)
-    enter-colours cs′ d m = ((λ s k. rw (sym e ∙ d) (by-late late s k (m .0))), m .1)
+    enter-colours cs′ d m = ((λ t s k. rw (sym e ∙ d) (by-late late s k (m .0))), m .1)
       where
-        go : (x : Found (List ℕ)) (s : Tables) → Holds s nf nc fs cs → ColoursMet false x nf (extent 1 ts) r cs′ → Met (withColours s x) (extent 1 ts) r fs cs′
+        go : (x : Found (List ℕ)) (s : Tables) → Holds s nf nc fs cs → ColoursMet false (tableWord ts) x nf (extent 1 (shownBy ts)) r cs′ → Met (withColours s x) (extent 1 (shownBy ts)) r fs cs′
         go (found gs) s k y = (rw (← (k .fontCount)) (y .0), k .fontFront, y .1)
         go (refused q) s k y = y
 
-        by-late : (t : Bool) (s : Tables) → Holds s nf nc fs cs → ColoursMet t (colours c (group ts)) nf (extent 1 ts) r cs′
-            → Met (readStep f c (colourTable t (group ts)) s) (extent 1 ts) r fs cs′
-        by-late true s k y = y
+        by-late : (t : Bool) (s : Tables) → Holds s nf nc fs cs → ColoursMet t (tableWord ts) (colours c (group ts)) nf (extent 1 (shownBy ts)) r cs′
+            → Met (readStep f c (colourTable t (group ts)) s) (extent 1 (shownBy ts)) r fs cs′
+        by-late true s k y = rw (group-word ts) y
         by-late false s k y = go (colours c (group ts)) s k y

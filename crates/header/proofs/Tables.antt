@@ -14,7 +14,7 @@ use Rattle.answers.specs.declared.Refusal.{Refusal}
 use Rattle.answers.specs.Answers.{Found, found, refused}
 use Rattle.rooms.specs.Rooms.{tableLimit}
 use Rattle.rooms.proofs.Rooms.{limit-256}
-use Rattle.tokens.specs.Tokens.{Shown}
+use Rattle.tokens.specs.Tokens.{Token}
 use Rattle.fonts.specs.Rows.{Font, fontWords}
 use Rattle.fonts.specs.Fonts.{fonts}
 use Rattle.fonts.proofs.RowTables.{Ascending, Keys}
@@ -46,7 +46,7 @@ pub sound-start : (f c : ℕ) → Sound f c noTables
 sound-start f c = record { fewFonts = omega arith; fewColours = omega arith; up = tt; keys = tt; words = tt }
 
 module _ (f c : ℕ) where
-  sound-fonts : (ts : List Shown) (s : Tables) → Sound f c s → SoundIf f c (withFonts s (fonts f ts))
+  sound-fonts : (ts : List Token) (s : Tables) → Sound f c s → SoundIf f c (withFonts s (fonts f ts))
   sound-fonts ts s h = go (fonts f ts) refl
     where
       go : (x : Found (List Font)) → fonts f ts ≡ x → SoundIf f c (withFonts s x)
@@ -60,7 +60,7 @@ module _ (f c : ℕ) where
           }
       go (refused r) e = tt
 
-  sound-colours : (ts : List Shown) (s : Tables) → Sound f c s → SoundIf f c (withColours s (colours c ts))
+  sound-colours : (ts : List Token) (s : Tables) → Sound f c s → SoundIf f c (withColours s (colours c ts))
   sound-colours ts s h = go (colours c ts) refl
     where
       go : (x : Found (List ℕ)) → colours c ts ≡ x → SoundIf f c (withColours s x)

@@ -14,17 +14,18 @@ use tokens::TOKEN_WORDS;
 use walk::Aim;
 use walk::aim_of;
 use walk::extent;
+use walk::table_word;
 ghost use mathlib.Core.Path.{_≡_};
 ghost use mathlib.Core.List.{List};
 ghost use Prim.Native.Nat.{ℕ, _*_, _≤_};
 ghost use lib.ListN.{length};
 ghost use Rattle.rooms.specs.Rooms.{tableLimit};
-ghost use Rattle.tokens.specs.Items.{itemAt, shownAll};
+ghost use Rattle.tokens.specs.Items.{itemAt, tokensAll};
 ghost use Rattle.fonts.specs.Fonts.{fonts as fontsOf};
 ghost use Rattle.colours.specs.Colours.{colours as coloursOf, colourWords};
-ghost use Rattle.walk.specs.Walk.{group, extent as extentOf};
+ghost use Rattle.walk.specs.Walk.{group, extent as extentOf, tableWord};
 ghost use Rattle.header.specs.Entering.{opens, passed, FontsMet, ColoursMet, Enters};
-ghost use Rattle.tokens.specs.Tokens.{tokenWords};
+ghost use Rattle.tokens.specs.Tokens.{tokenWords, shownBy};
 ghost use Rattle.fonts.specs.Rows.{fontWords};
 
 pub enum Entered {
@@ -54,10 +55,11 @@ fn font_table(
     room: &mut [u32],
 ) -> Entered
     requires { ⌜ (n * tokenWords ≤ length (now t)) × (n ≤ 65536) ⌝ }
-    ensures { λ r. ⌜ FontsMet late (fontsOf (tableLimit fontWords (length (now (room .entry)))) (group (shownAll (now (source .entry)) n (now (t .entry))))) colours (extentOf 1 (shownAll (now (source .entry)) n (now (t .entry)))) r (now (room .exit)) × (passed r ≤ n) ⌝ }
+    ensures { λ r. ⌜ FontsMet late (tableWord (tokensAll (now (source .entry)) n (now (t .entry)))) (fontsOf (tableLimit fontWords (length (now (room .entry)))) (group (tokensAll (now (source .entry)) n (now (t .entry))))) colours (extentOf 1 (shownBy (tokensAll (now (source .entry)) n (now (t .entry))))) r (now (room .exit)) × (passed r ≤ n) ⌝ }
 {
     if late {
-        return Entered::Bad(Refusal::of(Why::TableLineBreak));
+        let place = table_word(t, n);
+        return Entered::Bad(Refusal::at(Why::TableLineBreak, place));
     }
     let h = extent(t, n);
     let words = h * TOKEN_WORDS;
@@ -71,10 +73,11 @@ fn font_table(
 // Reads the colour table that stands behind a bracket, n tokens before the end, where there are `fonts` fonts.
 fn colour_table(t: &[u32], n: usize, late: bool, fonts: usize, room: &mut [u32]) -> Entered
     requires { ⌜ (n * tokenWords ≤ length (now t)) × (n ≤ 65536) ⌝ }
-    ensures { λ r. ⌜ ((src : List ℕ) → ColoursMet late (coloursOf (tableLimit colourWords (length (now (room .entry)))) (group (shownAll src n (now (t .entry))))) fonts (extentOf 1 (shownAll src n (now (t .entry)))) r (now (room .exit))) × (passed r ≤ n) ⌝ }
+    ensures { λ r. ⌜ ((src : List ℕ) → ColoursMet late (tableWord (tokensAll src n (now (t .entry)))) (coloursOf (tableLimit colourWords (length (now (room .entry)))) (group (tokensAll src n (now (t .entry))))) fonts (extentOf 1 (shownBy (tokensAll src n (now (t .entry))))) r (now (room .exit))) × (passed r ≤ n) ⌝ }
 {
     if late {
-        return Entered::Bad(Refusal::of(Why::TableLineBreak));
+        let place = table_word(t, n);
+        return Entered::Bad(Refusal::at(Why::TableLineBreak, place));
     }
     let h = extent(t, n);
     let words = h * TOKEN_WORDS;
@@ -96,7 +99,7 @@ pub fn enter(
     colours: &mut [u32],
 ) -> Entered
     requires { ⌜ (n * tokenWords ≤ length (now t)) × (n ≤ 65536) ⌝ }
-    ensures { λ r. ⌜ Enters (tableLimit fontWords (length (now (fonts .entry)))) (tableLimit colourWords (length (now (colours .entry)))) (shownAll (now (source .entry)) n (now (t .entry))) f c (now (fonts .entry)) (now (colours .entry)) r (now (fonts .exit)) (now (colours .exit)) × (passed r ≤ n) ⌝ }
+    ensures { λ r. ⌜ Enters (tableLimit fontWords (length (now (fonts .entry)))) (tableLimit colourWords (length (now (colours .entry)))) (tokensAll (now (source .entry)) n (now (t .entry))) f c (now (fonts .entry)) (now (colours .entry)) r (now (fonts .exit)) (now (colours .exit)) × (passed r ≤ n) ⌝ }
 {
     let a = aim_of(t, n);
     match a {

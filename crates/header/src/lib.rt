@@ -1,6 +1,6 @@
 // The header (01, Header walk; `Parser::parse_header` in the crate): the tables among a letter's tokens become records in two
 // lent rooms, and zeros behind them. A later table replaces an earlier one. The walk is linear, as `enter` is.
-mod group;
+pub mod group;
 
 use crate::group::Entered;
 use crate::group::enter;
@@ -12,7 +12,7 @@ use tokens::TOKEN_WORDS;
 ghost use Prim.Native.Nat.{_*_, _≤_};
 ghost use lib.ListN.{length};
 ghost use Rattle.rooms.specs.Rooms.{tableLimit};
-ghost use Rattle.tokens.specs.Items.{shownAll};
+ghost use Rattle.tokens.specs.Items.{tokensAll};
 ghost use Rattle.walk.specs.Walk.{walk as walkOf};
 ghost use Rattle.header.specs.Header.{tables, InFronts, ReadHeader};
 ghost use Rattle.tokens.specs.Tokens.{tokenWords};
@@ -34,7 +34,7 @@ fn walk_tables(
     colours: &mut [u32],
 ) -> Header
     requires { ⌜ (count * tokenWords ≤ length (now tokens)) × (count ≤ 65536) ⌝ }
-    ensures { λ r. ⌜ InFronts (tables (tableLimit fontWords (length (now (fonts .entry)))) (tableLimit colourWords (length (now (colours .entry)))) (walkOf (shownAll (now (source .entry)) count (now (tokens .entry))))) r (now (fonts .exit)) (now (colours .exit)) ⌝ }
+    ensures { λ r. ⌜ InFronts (tables (tableLimit fontWords (length (now (fonts .entry)))) (tableLimit colourWords (length (now (colours .entry)))) (walkOf (tokensAll (now (source .entry)) count (now (tokens .entry))))) r (now (fonts .exit)) (now (colours .exit)) ⌝ }
 {
     let mut t = tokens;
     let mut n = count;
@@ -72,7 +72,7 @@ pub fn read_header(
     colours: &mut [u32],
 ) -> Header
     requires { ⌜ (count * tokenWords ≤ length (now tokens)) × (count ≤ 65536) ⌝ }
-    ensures { λ r. ⌜ ReadHeader (tables (tableLimit fontWords (length (now (fonts .entry)))) (tableLimit colourWords (length (now (colours .entry)))) (walkOf (shownAll (now (source .entry)) count (now (tokens .entry))))) (length (now (fonts .entry))) (length (now (colours .entry))) r (now (fonts .exit)) (now (colours .exit)) ⌝ }
+    ensures { λ r. ⌜ ReadHeader (tables (tableLimit fontWords (length (now (fonts .entry)))) (tableLimit colourWords (length (now (colours .entry)))) (walkOf (tokensAll (now (source .entry)) count (now (tokens .entry))))) (length (now (fonts .entry))) (length (now (colours .entry))) r (now (fonts .exit)) (now (colours .exit)) ⌝ }
 {
     let header = walk_tables(source, tokens, count, fonts, colours);
     match header {

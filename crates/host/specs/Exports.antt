@@ -5,11 +5,11 @@ use mathlib.Core.Path.{_≡_}
 use mathlib.Core.List.{List}
 use lib.ListN.{length}
 use Rattle.answers.specs.declared.Outcome.{Outcome}
-use Rattle.answers.specs.Answers.{outcomeNumber, outcomeCount}
+use Rattle.answers.specs.Answers.{outcomeNumber, outcomeCount, outcomePlace}
 use Rattle.readings.specs.declared.Reading.{Reading}
 use Rattle.cutter.specs.Cutting.{cutAnswer, cutRoom}
 use Rattle.parser.specs.declared.Answer.{Answer}
-use Rattle.parser.specs.Parsing.{Sizes, answerNumber, answerCounts}
+use Rattle.parser.specs.Parsing.{Sizes, answerNumber, answerPlace, answerCounts}
 use Rattle.reader.specs.Reading.{readAnswer, tokenRoom, fontRoom, colourRoom, blockRoom, textRoom}
 use Rattle.stored.specs.declared.Answer.{Answer as Restored}
 use Rattle.stored.specs.Stored.{storedAnswer, storedBlocks, storedText}
@@ -22,13 +22,14 @@ use Rattle.host.specs.declared.answer.StoredAnswer.{StoredAnswer}
 use Rattle.host.specs.declared.answer.WriteAnswer.{WriteAnswer}
 
 -- "0 is success."; "Success returns counts of tokens, fonts, colours, blocks and text bytes (a writer's, the bytes written)"; "Any refusal
--- returns zero counts"
+-- returns zero counts"; 02, A4: "Each refusal from 3 to 6 and 9 to 16 now carries the source byte place of the slice"
 abbrev pub cutOf : Outcome → CutAnswer
-cutOf o = record { refusal = outcomeNumber o; tokens = outcomeCount o }
+cutOf o = record { refusal = outcomeNumber o; place = outcomePlace o; tokens = outcomeCount o }
 
 abbrev pub readOf : Answer → ReadAnswer
 readOf a = record {
   refusal = answerNumber a;
+  place = answerPlace a;
   tokens = answerCounts a .tokens;
   fonts = answerCounts a .fonts;
   colours = answerCounts a .colours;

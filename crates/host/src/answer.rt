@@ -1,4 +1,4 @@
-// Answers as a host gets them: structs of numbers, 0 or a refusal's number first, and then the counts.
+// Answers as a host gets them: structs of numbers, 0 or a refusal's number first, for a letter its place (02, A4), and then the counts.
 use answers::Outcome;
 use parser::Answer;
 ghost use mathlib.Core.Path.{_≡_};
@@ -12,6 +12,7 @@ ghost use Rattle.host.specs.Exports.{cutOf, readOf, storedOf, writeOf};
 #[repr(C)]
 pub struct CutAnswer {
     pub refusal: u32,
+    pub place: u32,
     pub tokens: u32,
 }
 
@@ -19,6 +20,7 @@ pub struct CutAnswer {
 #[repr(C)]
 pub struct ReadAnswer {
     pub refusal: u32,
+    pub place: u32,
     pub tokens: u32,
     pub fonts: u32,
     pub colours: u32,
@@ -47,9 +49,11 @@ pub fn of_cut(outcome: Outcome) -> CutAnswer
     ensures { λ r. ⌜ r ≡ cutOf outcome ⌝ }
 {
     let refusal = outcome.number();
+    let place = outcome.place();
     let count = outcome.count();
     CutAnswer {
         refusal: refusal,
+        place: place,
         tokens: count as u32,
     }
 }
@@ -62,16 +66,18 @@ pub fn of_reading(answer: Answer) -> ReadAnswer
     match answer {
         Answer::Read(counts) => ReadAnswer {
             refusal: 0,
+            place: 0,
             tokens: counts.tokens as u32,
             fonts: counts.fonts as u32,
             colours: counts.colours as u32,
             blocks: counts.blocks as u32,
             text: counts.text as u32,
         },
-        Answer::Refuses(why) => {
-            let refusal = why.number();
+        Answer::Refuses(refused) => {
+            let refusal = refused.number();
             ReadAnswer {
                 refusal: refusal,
+                place: refused.place,
                 tokens: 0,
                 fonts: 0,
                 colours: 0,

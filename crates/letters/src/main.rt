@@ -1,9 +1,7 @@
-// Reads letters as the extractor does, and says whether their listings are the expected ones. Before that, a few letters in small
-// rooms, where the answers are those that no letter gets in the extractor's.
+// Reads letters as the extractor does, and says whether their listings are the expected ones.
 //
 //   list    how the file of letters is laid out, and where its next letter stands
 //   judge   one listing of ours against the expected one
-//   small   letters in small rooms
 //   say     the lines that are written
 //
 // The letters are in data/listings.bin; data/README.md says what it holds and how it was made.
@@ -11,7 +9,6 @@ mod judge;
 mod list;
 mod same;
 mod say;
-mod small;
 
 use extraction::PAGE_BYTES;
 use judge::read_and_judge;
@@ -73,7 +70,6 @@ fn run(bytes: &mut [u8], page: &mut [u8; PAGE_BYTES], answers: &mut [u32]) {
         say::text(b"listings.bin is longer than this program reads\n");
         return;
     }
-    small::all();
     let tally = replay(&bytes[..n], page, answers);
     say::answers(answers);
     say::last_line(tally);

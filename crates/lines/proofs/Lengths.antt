@@ -1,5 +1,6 @@
 -- How many bytes texts have, at most: so a page of known size holds them.
 --     length-decimal          a number: 20
+--     length-place            a refusal's place, with the space behind it: 21
 --     length-signed           a word with its sign: 11, whatever the word
 --     length-line, -lines     the lines of a room: 12 for each word of it
 -- Assumes nothing.
@@ -10,10 +11,10 @@ use mathlib.Core.Bool.{Bool, true, false, cond}
 use native.Mathlib.Nat.{pow-suc}
 use native.Mathlib.Omega.{arith}
 use borrow.Author.Tests.{ltb-true, ltb-false}
-use lib.Dec.{ltb}
+use lib.Dec.{eqb, ltb}
 use lib.ListN.{length, take, drop, length-append, length-take, length-drop}
 use Rattle.io.specs.Digits.{digits}
-use Rattle.lines.specs.Lines.{places, decimal, signed, mark, line, lines}
+use Rattle.lines.specs.Lines.{places, decimal, item, placeItem, signed, mark, line, lines}
 
 length-digits : (k n : ℕ) → length (digits 10 k n) ≡ k
 length-digits zero n = refl
@@ -54,6 +55,14 @@ decimal-word n h =
     let d = length-digits (places 19 n) n in
     let g = places-below 19 n 9 (omega arith) in
     omega arith
+
+pub length-place : (number place : ℕ) → length (placeItem number place) ≤ 21
+unfolding placeItem
+length-place number place = let a = length-decimal place in go (eqb number 0) (simp length-append (omega arith))
+  where
+    go : (t : Bool) → length (item place 32) ≤ 21 → length (cond t [] (item place 32)) ≤ 21
+    go true h = omega arith
+    go false h = h
 
 pub length-signed : (w : ℕ) → length (signed w) ≤ 11
 unfolding signed

@@ -4,17 +4,18 @@
 --     signed-up, -down                  a word that stands for a number from 0 on, and one below
 --     line-more, -end                   the words that are left of a record
 --     lines-start, -more, -short, -end  the records that are left of a room
+--     place-none, -some                 a refusal's place, by the answer's number
 -- Assumes nothing.
 use Prim.Native.Nat.{ℕ, zero, suc, _+_, _-_, _≤_, _<_}
 use mathlib.Core.Path.{_≡_, refl, sym, ap, _∙_}
 use mathlib.Core.List.{List, [], _∷_, _++_, append-assoc}
 use native.Mathlib.Omega.{arith}
 use mathlib.Core.Bool.{Bool, true, false, cond}
-use borrow.Author.Tests.{ltb-true, ltb-false, lt-ltb, le-ltb}
+use borrow.Author.Tests.{ltb-true, ltb-false, lt-ltb, le-ltb, eq-eqb, ne-eqb}
 use lib.Dec.{ltb}
 use lib.ListN.{length, take, drop, getD, length-drop, drop-of-length-le}
 use lib.Seq.{drop-cons, take-all}
-use Rattle.lines.specs.Lines.{item, signed, mark, line, lines}
+use Rattle.lines.specs.Lines.{item, placeItem, signed, mark, line, lines}
 
 add-one : (i : ℕ) → i + 1 ≡ suc i
 add-one i = omega arith
@@ -79,3 +80,12 @@ unfolding lines
 lines-end width count k room h =
     let e : count - k ≡ 0 = omega arith in
     rw e
+
+-- a refusal's place
+pub place-none : {answer : ℕ} (place : ℕ) → answer ≡ 0 → [] ≡ placeItem answer place
+unfolding placeItem
+place-none {answer} place e = rw (eq-eqb answer 0 e)
+
+pub place-some : {answer : ℕ} (place : ℕ) → (answer ≡ 0 → ⊥) → item place 32 ≡ placeItem answer place
+unfolding placeItem
+place-some {answer} place e = rw (ne-eqb answer 0 e)

@@ -1,9 +1,9 @@
--- Numbers in decimal with signs, and records of a room one a line, as text (01, Sample letters). Assumes nothing: these are
+-- Numbers in decimal with signs, and records of a room one a line, as text (01, Sample letters); a refusal's place (02, A4). Assumes nothing: these are
 -- definitions.
 use Prim.Native.Nat.{ℕ, zero, suc, _-_, _/_}
 use mathlib.Core.Bool.{cond}
 use mathlib.Core.List.{List, [], _∷_, _++_}
-use lib.Dec.{ltb}
+use lib.Dec.{eqb, ltb}
 use lib.ListN.{length, take, drop}
 use Rattle.io.specs.Digits.{digits}
 
@@ -19,6 +19,10 @@ decimal n = digits 10 (places 19 n) n
 -- a number and a byte behind it
 abbrev pub item : ℕ → ℕ → List ℕ
 item n b = decimal n ++ (b ∷ [])
+
+-- a refusal's place, behind its number; success, whose number is 0, has none
+unfoldable pub placeItem : ℕ → ℕ → List ℕ
+placeItem number place = cond (eqb number 0) [] (item place 32)
 
 -- "with signs": a word in two's complement
 unfoldable pub signed : ℕ → List ℕ

@@ -3,13 +3,14 @@
 //
 //   push, append   bytes as they are
 //   number         a number from 0 on
+//   place_item     a refusal's place, behind its number
 //   records        the records of a room, one a line, each word with its sign
 ghost use mathlib.Core.Path.{_≡_};
 ghost use Prim.Native.Nat.{_+_, _≤_};
 ghost use lib.ListN.{length};
 ghost use mathlib.Core.List.{[], _∷_, _++_};
 ghost use Rattle.lines.specs.Pages.{Put};
-ghost use Rattle.lines.specs.Lines.{signed as signedText, mark, line, lines, item};
+ghost use Rattle.lines.specs.Lines.{signed as signedText, mark, line, lines, item, placeItem};
 
 pub fn push(byte: u8, page: &mut [u8], at: usize) -> usize
     requires { ⌜ at ≤ length (now page) ⌝ }
@@ -45,6 +46,17 @@ pub fn number(value: u64, behind: u8, page: &mut [u8], at: usize) -> usize
     let k = io::decimal(value, &mut digits);
     let end = append(&digits[..k], page, at);
     push(behind, page, end)
+}
+
+// A refusal's place and a space; nothing where the answer's number is 0.
+pub fn place_item(answer: u32, place: u32, page: &mut [u8], at: usize) -> usize
+    requires { ⌜ at ≤ length (now page) ⌝ }
+    ensures { λ r. ⌜ Put (now (page .entry)) at (placeItem answer place) (now (page .exit)) r ⌝ }
+{
+    if answer == 0 {
+        return at;
+    }
+    number(place as u64, b' ', page, at)
 }
 
 // How far a word that stands for a negative number lies below 0.

@@ -1,5 +1,5 @@
 -- The parts of a list.
---     first-fits                        the first line fits on a page of 42 bytes
+--     first-fits                        the first line fits on a page of 63 bytes
 --     part-fits, part-all               a part fits on a page of 12 bytes for each of its words; a short room is one part
 --     Written, written-start, -more     the parts that are written and the lines that are left are all lines
 --     list-lines                        what is written for a letter's room is the letter's list
@@ -11,13 +11,13 @@ use native.Mathlib.Omega.{arith}
 use lib.ListN.{length, take, drop, length-append, length-take, length-drop}
 use lib.Seq.{take-all}
 use Rattle.answers.specs.declared.Outcome.{Outcome}
-use Rattle.answers.specs.Answers.{outcomeNumber, outcomeCount}
+use Rattle.answers.specs.Answers.{outcomeNumber, outcomePlace, outcomeCount}
 use Rattle.tokens.specs.Tokens.{tokenWords}
 use Rattle.cutter.specs.Cutting.{cutAnswer, cutRoom}
 use Rattle.lines.specs.Lines.{lines}
 use Rattle.lines.specs.Pages.{Put, PutWhole}
 use Rattle.lines.proofs.Pages.{put-whole}
-use Rattle.lines.proofs.Lengths.{length-decimal, length-lines}
+use Rattle.lines.proofs.Lengths.{length-decimal, length-place, length-lines}
 use Rattle.lines.proofs.Parts.{lines-split}
 use Rattle.listing.specs.Tokens.{firstLine, tokenLines, partTokens, tokenPart}
 
@@ -25,10 +25,11 @@ abbrev partWords : ℕ
 partWords = partTokens * tokenWords
 
 module _ {page page′ : List ℕ} {r : ℕ} (same : length page′ ≡ length page) where
-  pub first-fits : (o : Outcome) → 42 ≤ length page → Put page 0 (firstLine o) page′ r → PutWhole page (firstLine o) page′ r
+  pub first-fits : (o : Outcome) → 63 ≤ length page → Put page 0 (firstLine o) page′ r → PutWhole page (firstLine o) page′ r
   unfolding firstLine
   first-fits o h p =
       let a = length-decimal (outcomeNumber o) in
+      let p′ = length-place (outcomeNumber o) (outcomePlace o) in
       let b = length-decimal (outcomeCount o) in
       put-whole p same (simp length-append (omega arith))
 

@@ -3,14 +3,14 @@ use Prim.Native.Nat.{ℕ, _*_}
 use mathlib.Core.List.{List, _++_}
 use lib.ListN.{take}
 use Rattle.answers.specs.declared.Outcome.{Outcome}
-use Rattle.answers.specs.Answers.{outcomeNumber, outcomeCount}
+use Rattle.answers.specs.Answers.{outcomeNumber, outcomePlace, outcomeCount}
 use Rattle.tokens.specs.Tokens.{tokenWords}
 use Rattle.cutter.specs.Cutting.{cutAnswer, cutRoom}
-use Rattle.lines.specs.Lines.{item, lines}
+use Rattle.lines.specs.Lines.{item, placeItem, lines}
 
--- the answer's number and the count of tokens
+-- the answer's number, of a refusal its place, and the count of tokens
 unfoldable pub firstLine : Outcome → List ℕ
-firstLine o = item (outcomeNumber o) 32 ++ item (outcomeCount o) 10
+firstLine o = item (outcomeNumber o) 32 ++ (placeItem (outcomeNumber o) (outcomePlace o) ++ item (outcomeCount o) 10)
 
 -- then the words of each token, one a line; the letter is cut in a room of so many words
 unfoldable pub tokenLines : List ℕ → ℕ → List ℕ

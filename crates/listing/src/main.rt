@@ -1,6 +1,6 @@
 // Lists a letter's tokens: the letter comes by standard input, the list goes to standard output.
 //
-// The first line has the answer's number and the count of tokens. Then each token has a line: its words in decimal, with the
+// The first line has the answer's number, of a refusal its place, and the count of tokens. Then each token has a line: its words in decimal, with the
 // number as a signed one. A read that fails counts as the letter's end.
 //
 // The list goes out part by part, each whole on its page: the first line, then the lines of so many tokens at a time.
@@ -8,6 +8,7 @@ use answers::Outcome;
 use libc::STDIN_FILENO;
 use libc::STDOUT_FILENO;
 use lines::number;
+use lines::place_item;
 use lines::records;
 use tokens::TOKEN_WORDS;
 ghost use mathlib.Core.Path.{_≡_};
@@ -37,8 +38,10 @@ const PAGE_BYTES: usize = 12 * PART_WORDS;
 fn first_line(outcome: Outcome, page: &mut [u8]) -> usize
     ensures { λ r. ⌜ Put (now (page .entry)) 0 (firstLine outcome) (now (page .exit)) r ⌝ }
 {
-    let answer = number(outcome.number() as u64, b' ', page, 0);
-    number(outcome.count() as u64, b'\n', page, answer)
+    let answer = outcome.number();
+    let told = number(answer as u64, b' ', page, 0);
+    let placed = place_item(answer, outcome.place(), page, told);
+    number(outcome.count() as u64, b'\n', page, placed)
 }
 
 fn whole_first_line(outcome: Outcome, page: &mut [u8; PAGE_BYTES]) -> usize

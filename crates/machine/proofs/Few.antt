@@ -11,14 +11,15 @@ use native.Mathlib.Omega.{arith}
 use lib.Dec.{leb, ltb}
 use lib.ListN.{length, length-append}
 use Rattle.answers.specs.declared.Refusal.{Refusal}
-use Rattle.answers.specs.Answers.{Found, found, refused}
+use Rattle.answers.specs.Answers.{Fate, becomes, fails}
 use Rattle.rooms.specs.Streams.{Stream, end, items}
 use Rattle.tokens.specs.declared.Property.{Property}
 use Rattle.units.specs.declared.Run.{Run}
 use Rattle.units.specs.declared.Gave.{Gave}
 use Rattle.units.specs.Units.{before, unitOf, isHigh, isLow, alone, pair, skipCount, nothing, taken, met, metAny, step, values}
 use Rattle.machine.specs.Stack.{moved, stackOf}
-use Rattle.machine.specs.Machine.{States, Deed, opens, closes, sets, says, unit, refuses, parts, stops, ended, gave, textsOf, writtenAll, _▸▸_, onward, moveOf, skipOf, spoken, said, machine}
+use Rattle.machine.specs.Machine.{States, Deed, opens, closes, sets, says, unit, refuses, parts, stops, Act, at}
+use Rattle.machine.specs.Machine.{ended, gave, textsOf, writtenAll, _▸▸_, onward, moveOf, skipOf, spoken, said, machine}
 
 -- what a run still owes
 abbrev pub owed : Run → ℕ
@@ -114,12 +115,12 @@ module _ {R S E : Type 0} (states : States R S E) where
       let c = length-written (values g) in
       omega arith
 
-  onward-few : (m : Found (List R)) (more : Stream Refusal E) → length (items (onward m more)) ≤ length (items more)
+  onward-few : (p : ℕ) (m : Fate (List R)) (more : Stream Refusal E) → length (items (onward p m more)) ≤ length (items more)
   unfolding items
-  onward-few (found st) more = omega arith
-  onward-few (refused r) more = omega arith
+  onward-few p (becomes st) more = omega arith
+  onward-few p (fails why) more = omega arith
 
-  pub machine-few : (st : List R) (run : Run) (ds : List (Deed S)) → length (items (machine states st run ds)) ≤ length ds + owed run
+  pub machine-few : (st : List R) (run : Run) (acts : List (Act S)) → length (items (machine states st run acts)) ≤ length acts + owed run
   unfolding machine items
   machine-few st run [] =
       let xs : List E = said states st (ended run) parts in
@@ -129,15 +130,15 @@ module _ {R S E : Type 0} (states : States R S E) where
       let c = said-most st (ended run) parts in
       let d = ended-few run in
       omega arith
-  machine-few st run (d ∷ ds) =
+  machine-few st run (at p d ∷ acts) =
       let g : Gave = gave (skipOf states st) run d in
-      let m : Found (List R) = moved (states .fresh) st (moveOf states d) in
-      let more : Stream Refusal E = machine states (stackOf m) (g .run) ds in
+      let m : Fate (List R) = moved (states .fresh) st (moveOf states d) in
+      let more : Stream Refusal E = machine states (stackOf m) (g .run) acts in
       let xs : List E = said states st g d in
-      let a = ap length (front-items xs (onward m more)) in
-      let b = length-append xs (items (onward m more)) in
+      let a = ap length (front-items xs (onward p m more)) in
+      let b = length-append xs (items (onward p m more)) in
       let c = said-most st g d in
       let e = gave-few (skipOf states st) run d in
-      let f = onward-few m more in
-      let h = machine-few (stackOf m) (g .run) ds in
+      let f = onward-few p m more in
+      let h = machine-few (stackOf m) (g .run) acts in
       omega arith

@@ -1,5 +1,6 @@
 -- States of two kinds that go the same way: what is said in the one is what is said in the other, changed.
---     mapDeed               a deed with each of its settings changed
+--     mapDeed, mapAct       a deed, and an act, with each of its settings changed
+--     deedOf                the deed of an act
 --     Carries               states carried over: a fresh one, a setting done, how many units are skipped, and what is said
 --     settle-map            then settings are carried over,
 --     moved-map, all-map    what a token does to the stack, and what tokens do,
@@ -14,14 +15,14 @@ use lib.ListN.{length, length-map}
 use lib.Dec.{eqb}
 use Rattle.answers.specs.declared.Why.the-variants.{TooDeep}
 use Rattle.answers.specs.declared.Refusal.{Refusal}
-use Rattle.answers.specs.Answers.{refusal, Found, found, refused}
+use Rattle.answers.specs.Answers.{Fate, becomes, fails}
 use Rattle.rooms.specs.Streams.{Stream, end, each}
 use Rattle.units.specs.declared.Run.{Run}
 use Rattle.units.specs.declared.Gave.{Gave}
 use Rattle.units.specs.Units.{before, values}
 use Rattle.machine.specs.Stack.{stackLimit, moved, stackOf}
 use Rattle.machine.specs.Moves.{next, movedFrom}
-use Rattle.machine.specs.Machine.{States, Deed, opens, closes, sets, says, unit, refuses, parts, stops}
+use Rattle.machine.specs.Machine.{States, Deed, opens, closes, sets, says, unit, refuses, parts, stops, Act, at}
 use Rattle.machine.specs.Machine.{ended, gave, textsOf, writtenAll, _▸▸_, onward, settle, moveOf, skipOf, spoken, said, machine, start}
 
 -- a deed with each of its settings changed
@@ -35,10 +36,16 @@ mapDeed g (refuses why) = refuses why
 mapDeed g parts = parts
 mapDeed g (stops why) = stops why
 
--- what is found, changed
-abbrev pub mapFound : {R R′ : Type 0} → (R → R′) → Found (List R) → Found (List R′)
-mapFound h (found st) = found (map h st)
-mapFound h (refused r) = refused r
+abbrev pub mapAct : {S S′ : Type 0} → (S → S′) → Act S → Act S′
+mapAct g (at p d) = at p (mapDeed g d)
+
+abbrev pub deedOf : {S : Type 0} → Act S → Deed S
+deedOf (at p d) = d
+
+-- what becomes of a stack, changed
+abbrev pub mapFate : {R R′ : Type 0} → (R → R′) → Fate (List R) → Fate (List R′)
+mapFate h (becomes st) = becomes (map h st)
+mapFate h (fails why) = fails why
 
 -- a stream with each of its items changed, and the same end
 abbrev pub mapSaid : {E E′ : Type 0} → (E → E′) → Stream Refusal E → Stream Refusal E′
@@ -54,18 +61,18 @@ pub record Carries {R S E R′ S′ E′ : Type 0} (a : States R S E) (b : State
 -- ---- without states
 
 module _ {R R′ : Type 0} (h : R → R′) where
-  found-cond : (t : Bool) (x y : Found (List R)) → mapFound h (cond t x y) ≡ cond t (mapFound h x) (mapFound h y)
-  found-cond true x y = refl
-  found-cond false x y = refl
+  fate-cond : (t : Bool) (x y : Fate (List R)) → mapFate h (cond t x y) ≡ cond t (mapFate h x) (mapFate h y)
+  fate-cond true x y = refl
+  fate-cond false x y = refl
 
-  stack-map : (x : Found (List R)) → map h (stackOf x) ≡ stackOf (mapFound h x)
-  stack-map (found st) = refl
-  stack-map (refused r) = refl
+  stack-map : (x : Fate (List R)) → map h (stackOf x) ≡ stackOf (mapFate h x)
+  stack-map (becomes st) = refl
+  stack-map (fails why) = refl
 
-  onward-map : {E E′ : Type 0} (e : E → E′) (x : Found (List R)) (s : Stream Refusal E) → mapSaid e (onward x s) ≡ onward (mapFound h x) (mapSaid e s)
+  onward-map : {E E′ : Type 0} (e : E → E′) (p : ℕ) (x : Fate (List R)) (s : Stream Refusal E) → mapSaid e (onward p x s) ≡ onward p (mapFate h x) (mapSaid e s)
   unfolding each
-  onward-map e (found st) s = refl
-  onward-map e (refused r) s = refl
+  onward-map e p (becomes st) s = refl
+  onward-map e p (fails why) s = refl
 
 front-map : {E E′ : Type 0} (e : E → E′) (xs : List E) (s : Stream Refusal E) → mapSaid e (xs ▸▸ s) ≡ map e xs ▸▸ mapSaid e s
 unfolding each _▸▸_
@@ -102,16 +109,16 @@ module _ {R S E R′ S′ E′ : Type 0} {a : States R S E} {b : States R′ S�
   settle-map [] r = refl
   settle-map (s ∷ ss) r = settle-map ss (a .put s r) ∙ ap (settle b (map g ss)) (c .puts s r)
 
-  pub moved-map : (st : List R) (d : Deed S) → mapFound h (moved (a .fresh) st (moveOf a d)) ≡ moved (b .fresh) (map h st) (moveOf b (mapDeed g d))
+  pub moved-map : (st : List R) (d : Deed S) → mapFate h (moved (a .fresh) st (moveOf a d)) ≡ moved (b .fresh) (map h st) (moveOf b (mapDeed g d))
   unfolding moved
-  moved-map [] opens = ap (λ (x : R′). found (x ∷ [])) (c .freshes)
+  moved-map [] opens = ap (λ (x : R′). becomes (x ∷ [])) (c .freshes)
   moved-map (top ∷ rest) opens =
-      found-cond h (eqb (suc (length rest)) stackLimit) (refused (refusal TooDeep)) (found (top ∷ top ∷ rest))
-      ∙ ap (λ (n : ℕ). cond (eqb (suc n) stackLimit) (refused (refusal TooDeep)) (found (h top ∷ h top ∷ map h rest))) (sym (length-map rest h))
+      fate-cond h (eqb (suc (length rest)) stackLimit) (fails TooDeep) (becomes (top ∷ top ∷ rest))
+      ∙ ap (λ (n : ℕ). cond (eqb (suc n) stackLimit) (fails TooDeep) (becomes (h top ∷ h top ∷ map h rest))) (sym (length-map rest h))
   moved-map [] closes = refl
   moved-map (top ∷ rest) closes = refl
   moved-map [] (sets ss) = refl
-  moved-map (top ∷ rest) (sets ss) = ap (λ (x : R′). found (x ∷ map h rest)) (settle-map ss top)
+  moved-map (top ∷ rest) (sets ss) = ap (λ (x : R′). becomes (x ∷ map h rest)) (settle-map ss top)
   moved-map [] (says bs) = refl
   moved-map (top ∷ rest) (says bs) = refl
   moved-map [] (unit n) = refl
@@ -121,18 +128,18 @@ module _ {R S E R′ S′ E′ : Type 0} {a : States R S E} {b : States R′ S�
   moved-map st parts = refl
   moved-map st (stops why) = refl
 
-  next-map : (x : Found (List R)) (d : Deed S) → mapFound h (next (a .fresh) x (moveOf a d)) ≡ next (b .fresh) (mapFound h x) (moveOf b (mapDeed g d))
-  next-map (found st) d = moved-map st d
-  next-map (refused r) d = refl
+  next-map : (x : Fate (List R)) (d : Deed S) → mapFate h (next (a .fresh) x (moveOf a d)) ≡ next (b .fresh) (mapFate h x) (moveOf b (mapDeed g d))
+  next-map (becomes st) d = moved-map st d
+  next-map (fails why) d = refl
 
-  pub all-map : (x : Found (List R)) (ds : List (Deed S))
-      → mapFound h (movedFrom (a .fresh) x (map (λ (d : Deed S). moveOf a d) ds))
-      ≡ movedFrom (b .fresh) (mapFound h x) (map (λ (d : Deed S′). moveOf b d) (map (mapDeed g) ds))
+  pub all-map : (x : Fate (List R)) (acts : List (Act S))
+      → mapFate h (movedFrom (a .fresh) x (map (λ (y : Act S). moveOf a (deedOf y)) acts))
+      ≡ movedFrom (b .fresh) (mapFate h x) (map (λ (y : Act S′). moveOf b (deedOf y)) (map (mapAct g) acts))
   unfolding movedFrom
   all-map x [] = refl
-  all-map x (d ∷ ds) =
-      all-map (next (a .fresh) x (moveOf a d)) ds
-      ∙ ap (λ (y : Found (List R′)). movedFrom (b .fresh) y (map (λ (d : Deed S′). moveOf b d) (map (mapDeed g) ds))) (next-map x d)
+  all-map x (at p d ∷ acts) =
+      all-map (next (a .fresh) x (moveOf a d)) acts
+      ∙ ap (λ (z : Fate (List R′)). movedFrom (b .fresh) z (map (λ (y : Act S′). moveOf b (deedOf y)) (map (mapAct g) acts))) (next-map x d)
 
   skip-map : (st : List R) → skipOf a st ≡ skipOf b (map h st)
   skip-map [] = refl
@@ -154,14 +161,14 @@ module _ {R S E R′ S′ E′ : Type 0} {a : States R S E} {b : States R′ S�
   met-map : (st : List R) (run : Run) (d : Deed S) → gave (skipOf a st) run d ≡ gave (skipOf b (map h st)) run (mapDeed g d)
   met-map st run d = gave-map g (skipOf a st) run d ∙ ap (λ (n : ℕ). gave n run (mapDeed g d)) (skip-map st)
 
-  pub machine-map : (st : List R) (run : Run) (ds : List (Deed S)) → mapSaid e (machine a st run ds) ≡ machine b (map h st) run (map (mapDeed g) ds)
+  pub machine-map : (st : List R) (run : Run) (acts : List (Act S)) → mapSaid e (machine a st run acts) ≡ machine b (map h st) run (map (mapAct g) acts)
   unfolding machine each
   machine-map st run [] = front-map e (said a st (ended run) parts) end ∙ ap (λ (l : List E′). l ▸▸ end) (said-map st (ended run) parts)
-  machine-map st run (d ∷ ds) =
+  machine-map st run (at p d ∷ acts) =
       let v : Gave = gave (skipOf a st) run d in
-      let x : Found (List R) = moved (a .fresh) st (moveOf a d) in
-      front-map e (said a st v d) (onward x (machine a (stackOf x) (v .run) ds))
-      ∙ rw (onward-map h e x, machine-map (stackOf x) (v .run) ds, stack-map h x, moved-map st d, said-map st v d, met-map st run d)
+      let x : Fate (List R) = moved (a .fresh) st (moveOf a d) in
+      front-map e (said a st v d) (onward p x (machine a (stackOf x) (v .run) acts))
+      ∙ rw (onward-map h e p x, machine-map (stackOf x) (v .run) acts, stack-map h x, moved-map st d, said-map st v d, met-map st run d)
 
-  pub start-map : (ds : List (Deed S)) → mapSaid e (start a ds) ≡ start b (map (mapDeed g) ds)
-  start-map ds = machine-map (a .fresh ∷ []) before ds ∙ ap (λ (x : R′). machine b (x ∷ []) before (map (mapDeed g) ds)) (c .freshes)
+  pub start-map : (acts : List (Act S)) → mapSaid e (start a acts) ≡ start b (map (mapAct g) acts)
+  start-map acts = machine-map (a .fresh ∷ []) before acts ∙ ap (λ (x : R′). machine b (x ∷ []) before (map (mapAct g) acts)) (c .freshes)

@@ -1,6 +1,7 @@
 -- What a run of adjacent `u` tokens says is its text, as 01 defines it, whatever a state is made of.
 --     textsOfRun        the texts said at each token of a run, and at what ends it
 --     texts-run         joined they are `runText`, if the numbers fit their words
+--     units, numbers    the acts of `u` tokens, by their places and numbers; the numbers
 --     Elsewhere         what may follow a run: the end, or a token that is no `u` token
 --     front-append      items in front of a stream, in two parts
 --     machine-units     the machine over a run that has come so far: those texts, in the top state, then what follows, no run under way
@@ -20,7 +21,7 @@ use Rattle.units.specs.declared.Gave.{Gave}
 use Rattle.units.specs.Units.{before, step, values, flushed, utf8All, runText}
 use Rattle.units.proofs.Units.{Numbers32, Scalars, walk, utf8All-append, text-walk, values-scalars}
 use Rattle.machine.specs.Stack.{moved}
-use Rattle.machine.specs.Machine.{States, Deed, opens, closes, sets, says, unit, refuses, parts, stops}
+use Rattle.machine.specs.Machine.{States, opens, closes, sets, says, unit, refuses, parts, stops, Act, at}
 use Rattle.machine.specs.Machine.{ended, gave, writtenAll, _▸▸_, spoken, said, machine}
 
 -- ---- the texts of a run
@@ -67,17 +68,23 @@ unfolding _▸▸_
 front-append [] b s = refl
 front-append (x ∷ a) b s = rw (front-append a b s)
 
+abbrev pub units : {S : Type 0} → List (ℕ × Property) → List (Act S)
+units ns = map (λ (n : ℕ × Property). at (n .0) (unit (n .1))) ns
+
+abbrev pub numbers : List (ℕ × Property) → List Property
+numbers ns = map (λ (n : ℕ × Property). n .1) ns
+
 -- "A run of adjacent `u` tokens": what may follow it
-abbrev pub Elsewhere : {S : Type 0} → List (Deed S) → Type 0
+abbrev pub Elsewhere : {S : Type 0} → List (Act S) → Type 0
 Elsewhere [] = Unit {0}
-Elsewhere (unit n ∷ ds) = ⊥
-Elsewhere (opens ∷ ds) = Unit {0}
-Elsewhere (closes ∷ ds) = Unit {0}
-Elsewhere (sets ss ∷ ds) = Unit {0}
-Elsewhere (says bs ∷ ds) = Unit {0}
-Elsewhere (refuses why ∷ ds) = Unit {0}
-Elsewhere (parts ∷ ds) = Unit {0}
-Elsewhere (stops why ∷ ds) = Unit {0}
+Elsewhere (at p (unit n) ∷ acts) = ⊥
+Elsewhere (at p opens ∷ acts) = Unit {0}
+Elsewhere (at p closes ∷ acts) = Unit {0}
+Elsewhere (at p (sets ss) ∷ acts) = Unit {0}
+Elsewhere (at p (says bs) ∷ acts) = Unit {0}
+Elsewhere (at p (refuses why) ∷ acts) = Unit {0}
+Elsewhere (at p parts ∷ acts) = Unit {0}
+Elsewhere (at p (stops why) ∷ acts) = Unit {0}
 
 module _ {R S E : Type 0} (states : States R S E) where
   spoken-append : (top : R) (a b : List (List ℕ)) → spoken states top (a ++ b) ≡ spoken states top a ++ spoken states top b
@@ -92,31 +99,31 @@ module _ {R S E : Type 0} (states : States R S E) where
 
   module _ (top : R) (rest : List R) where
     -- what follows a run says first what the run still gives
-    machine-ended : (run : Run) (more : List (Deed S)) → Elsewhere more
+    machine-ended : (run : Run) (more : List (Act S)) → Elsewhere more
         → machine states (top ∷ rest) run more ≡ spoken states top (writtenAll (values (ended run))) ▸▸ machine states (top ∷ rest) before more
     unfolding machine said gave values writtenAll
     machine-ended run [] h = front-spoken top (writtenAll (values (ended run))) [] end
-    machine-ended run (unit n ∷ ds) h = absurd h
-    machine-ended run (opens ∷ ds) h = front-spoken top (writtenAll (values (ended run))) [] _
-    machine-ended run (closes ∷ ds) h = front-spoken top (writtenAll (values (ended run))) [] _
-    machine-ended run (sets ss ∷ ds) h = front-spoken top (writtenAll (values (ended run))) [] _
-    machine-ended run (says bs ∷ ds) h = front-spoken top (writtenAll (values (ended run))) (bs ∷ []) _
-    machine-ended run (refuses why ∷ ds) h = front-spoken top (writtenAll (values (ended run))) [] _
-    machine-ended run (parts ∷ ds) h = front-spoken top (writtenAll (values (ended run))) [] _
-    machine-ended run (stops why ∷ ds) h = front-spoken top (writtenAll (values (ended run))) [] _
+    machine-ended run (at p (unit n) ∷ acts) h = absurd h
+    machine-ended run (at p opens ∷ acts) h = front-spoken top (writtenAll (values (ended run))) [] _
+    machine-ended run (at p closes ∷ acts) h = front-spoken top (writtenAll (values (ended run))) [] _
+    machine-ended run (at p (sets ss) ∷ acts) h = front-spoken top (writtenAll (values (ended run))) [] _
+    machine-ended run (at p (says bs) ∷ acts) h = front-spoken top (writtenAll (values (ended run))) (bs ∷ []) _
+    machine-ended run (at p (refuses why) ∷ acts) h = front-spoken top (writtenAll (values (ended run))) [] _
+    machine-ended run (at p parts ∷ acts) h = front-spoken top (writtenAll (values (ended run))) [] _
+    machine-ended run (at p (stops why) ∷ acts) h = front-spoken top (writtenAll (values (ended run))) [] _
 
-    pub machine-units : (run : Run) (ns : List Property) (more : List (Deed S)) → Elsewhere more
-        → machine states (top ∷ rest) run (map (λ (n : Property). unit n) ns ++ more)
-        ≡ spoken states top (textsOfRun (states .skip top) run ns) ▸▸ machine states (top ∷ rest) before more
+    pub machine-units : (run : Run) (ns : List (ℕ × Property)) (more : List (Act S)) → Elsewhere more
+        → machine states (top ∷ rest) run (units ns ++ more)
+        ≡ spoken states top (textsOfRun (states .skip top) run (numbers ns)) ▸▸ machine states (top ∷ rest) before more
     unfolding textsOfRun machine said gave moved
     machine-units run [] more h = machine-ended run more h
     machine-units run (n ∷ ns) more h =
-        let g : Gave = step (states .skip top) run n in
+        let g : Gave = step (states .skip top) run (n .1) in
         rw (append-nil, machine-units (g .run) ns more h)
-        (sym (front-spoken top (writtenAll (values g)) (textsOfRun (states .skip top) (g .run) ns) (machine states (top ∷ rest) before more)))
+        (sym (front-spoken top (writtenAll (values g)) (textsOfRun (states .skip top) (g .run) (numbers ns)) (machine states (top ∷ rest) before more)))
 
-    pub machine-run : (ns : List Property) (more : List (Deed S)) → Elsewhere more → Numbers32 ns
-        → (texts : List (List ℕ)) × (flatten texts ≡ runText (states .skip top) ns)
-        × (machine states (top ∷ rest) before (map (λ (n : Property). unit n) ns ++ more) ≡ spoken states top texts ▸▸ machine states (top ∷ rest) before more)
+    pub machine-run : (ns : List (ℕ × Property)) (more : List (Act S)) → Elsewhere more → Numbers32 (numbers ns)
+        → (texts : List (List ℕ)) × (flatten texts ≡ runText (states .skip top) (numbers ns))
+        × (machine states (top ∷ rest) before (units ns ++ more) ≡ spoken states top texts ▸▸ machine states (top ∷ rest) before more)
     machine-run ns more h small =
-        (textsOfRun (states .skip top) before ns, texts-run (states .skip top) ns small, machine-units before ns more h)
+        (textsOfRun (states .skip top) before (numbers ns), texts-run (states .skip top) (numbers ns) small, machine-units before ns more h)

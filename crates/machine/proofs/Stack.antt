@@ -16,8 +16,8 @@ use borrow.Author.Tests.{eq-eqb, ne-eqb}
 use lib.ListN.{length, getD, set}
 use lib.Seq.{getD-set-same, getD-set-other}
 use Rattle.answers.specs.declared.Why.the-variants.{NoState, TooDeep}
-use Rattle.answers.specs.Answers.{refusal, found, refused}
-use Rattle.machine.specs.Stack.{Fate, opens, closes, within, topped, moved, held}
+use Rattle.answers.specs.Answers.{Fate, becomes, fails}
+use Rattle.machine.specs.Stack.{opens, closes, within, topped, moved, held}
 
 module _ {R : Type 0} (none : R) where
   pub length-held : (states : List R) (d : ℕ) → length (held none states d) ≡ d
@@ -51,24 +51,24 @@ module _ {R : Type 0} (none : R) where
   held-settle states (suc d) r z h = let q : suc d - 1 ≡ d = omega arith in rw q (held-push states d r (omega arith))
 
   module _ (fresh : R) (states : List R) (d : ℕ) where
-    pub open-none : d ≡ 0 → 0 < length states → found (held none (set states 0 fresh) 1) ≡ moved fresh (held none states d) opens
+    pub open-none : d ≡ 0 → 0 < length states → becomes (held none (set states 0 fresh) 1) ≡ moved fresh (held none states d) opens
     unfolding moved held
-    open-none e h = rw e (ap found (held-push states 0 fresh h))
+    open-none e h = rw e (ap becomes (held-push states 0 fresh h))
 
     module _ (z : 0 < d) where
-      pub open-full : d ≡ 64 → refused (refusal TooDeep) ≡ moved fresh (held none states d) opens
+      pub open-full : d ≡ 64 → fails TooDeep ≡ moved fresh (held none states d) opens
       unfolding moved
       open-full e =
           let q : suc (length (held none states (d - 1))) ≡ 64 = rw length-held (omega arith) in
           rw (held-top states d z, eq-eqb _ 64 q)
 
-      pub open-more : (d ≡ 64 → ⊥) → d < length states → found (held none (set states d (getD states (d - 1) none)) (d + 1)) ≡ moved fresh (held none states d) opens
+      pub open-more : (d ≡ 64 → ⊥) → d < length states → becomes (held none (set states d (getD states (d - 1) none)) (d + 1)) ≡ moved fresh (held none states d) opens
       unfolding moved
       open-more n h =
           let q : suc (length (held none states (d - 1))) ≡ 64 → ⊥ = λ e. let g : length (held none states (d - 1)) ≡ d - 1 = length-held states (d - 1) in omega arith in
           rw add-one (rw (held-push states d (getD states (d - 1) none) h, held-top states d z, ne-eqb _ 64 q) refl)
 
-      pub close-top : found (held none states (d - 1)) ≡ moved fresh (held none states d) closes
+      pub close-top : becomes (held none states (d - 1)) ≡ moved fresh (held none states d) closes
       unfolding moved
       close-top = rw (held-top states d z)
 
@@ -78,10 +78,10 @@ module _ {R : Type 0} (none : R) where
       within-top f = rw (held-top states d z)
 
     module _ (z : d ≡ 0) where
-      pub close-none : refused (refusal NoState) ≡ moved fresh (held none states d) closes
+      pub close-none : fails NoState ≡ moved fresh (held none states d) closes
       unfolding moved held
       close-none = rw z
 
-      pub within-none : (f : R → Fate R) → refused (refusal NoState) ≡ moved fresh (held none states d) (within f)
+      pub within-none : (f : R → Fate R) → fails NoState ≡ moved fresh (held none states d) (within f)
       unfolding moved held
       within-none f = rw z

@@ -1,4 +1,4 @@
--- 01, Body: what is said, one token at a time, over a stack of states and a run of units under way, whatever a state is made of.
+-- 01, Body, and 02, A4: what is said, one token at a time, over a stack of states and a run of units under way, whatever a state is made of.
 -- Assumes nothing: these are definitions.
 use Prim.Native.Nat.{ℕ}
 use mathlib.Core.List.{List, [], _∷_, _++_}
@@ -6,14 +6,14 @@ use mathlib.Core.Bool.{false}
 use lib.Dec.{ltb}
 use Rattle.answers.specs.declared.Why.{Why}
 use Rattle.answers.specs.declared.Refusal.{Refusal}
-use Rattle.answers.specs.Answers.{Found, found, refused}
+use Rattle.answers.specs.Answers.{Fate, becomes, fails, refusalAt}
 use Rattle.rooms.specs.Streams.{Stream, end, stop, _▸_}
 use Rattle.tokens.specs.declared.Property.{Property}
 use Rattle.utf8.specs.Utf8.{written}
 use Rattle.units.specs.declared.Run.{Run}
 use Rattle.units.specs.declared.Gave.{Gave}
 use Rattle.units.specs.Units.{before, step, values}
-use Rattle.machine.specs.Stack.{Fate, becomes, fails, Move, moved, stackOf}
+use Rattle.machine.specs.Stack.{Move, moved, stackOf}
 use Rattle.machine.specs.Stack as move
 
 -- what a state is made of: a fresh one; one with a setting done; how many units it skips; and what is said in it
@@ -34,6 +34,10 @@ pub data Deed (S : Type 0) : Type 0 where
   refuses : Why → Deed S
   parts : Deed S
   stops : Why → Deed S
+
+-- 02, A4: a deed, and the place of the slice that its token was cut from
+pub data Act (S : Type 0) : Type 0 where
+  at : ℕ → Deed S → Act S
 
 -- "A run of adjacent `u` tokens gives units": any other token ends it, and a surrogate that waits is lost
 abbrev pub ended : Run → Gave
@@ -71,10 +75,10 @@ unfoldable pub _▸▸_ : {F E : Type 0} → List E → Stream F E → Stream F 
 [] ▸▸ s = s
 (x ∷ xs) ▸▸ s = x ▸ (xs ▸▸ s)
 
--- what is said behind a move, if it was one
-abbrev pub onward : {R E : Type 0} → Found (List R) → Stream Refusal E → Stream Refusal E
-onward (found st) more = more
-onward (refused r) more = stop r
+-- what is said behind a move of the token at p, if it was one
+abbrev pub onward : {R E : Type 0} → ℕ → Fate (List R) → Stream Refusal E → Stream Refusal E
+onward p (becomes st) more = more
+onward p (fails why) more = stop (refusalAt why p)
 
 module _ {R S E : Type 0} (states : States R S E) where
   -- settings, one after the other
@@ -108,12 +112,12 @@ module _ {R S E : Type 0} (states : States R S E) where
   said (top ∷ rest) g d = spoken top (writtenAll (values g) ++ textsOf d)
 
   -- token by token
-  unfoldable pub machine : List R → Run → List (Deed S) → Stream Refusal E
+  unfoldable pub machine : List R → Run → List (Act S) → Stream Refusal E
   machine st run [] = said st (ended run) parts ▸▸ end
-  machine st run (d ∷ ds) =
-      let more = machine (stackOf (moved (states .fresh) st (moveOf d))) (gave (skipOf st) run d .run) ds in
-      said st (gave (skipOf st) run d) d ▸▸ onward (moved (states .fresh) st (moveOf d)) more
+  machine st run (at p d ∷ acts) =
+      let more = machine (stackOf (moved (states .fresh) st (moveOf d))) (gave (skipOf st) run d .run) acts in
+      said st (gave (skipOf st) run d) d ▸▸ onward p (moved (states .fresh) st (moveOf d)) more
 
   -- "One is held at the start."
-  abbrev pub start : List (Deed S) → Stream Refusal E
-  start ds = machine (states .fresh ∷ []) before ds
+  abbrev pub start : List (Act S) → Stream Refusal E
+  start acts = machine (states .fresh ∷ []) before acts

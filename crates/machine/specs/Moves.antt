@@ -6,22 +6,22 @@ use mathlib.Core.List.{List, [], _∷_}
 use lib.ListN.{length}
 use Rattle.answers.specs.declared.Why.{Why}
 use Rattle.answers.specs.declared.Why.the-variants.{NoState, TooDeep}
-use Rattle.answers.specs.Answers.{Found, found, refused}
-use Rattle.machine.specs.Stack.{stackLimit, fails, Move, opens, closes, within, stays, stops, moved}
+use Rattle.answers.specs.Answers.{Fate, becomes, fails}
+use Rattle.machine.specs.Stack.{stackLimit, Move, opens, closes, within, stays, stops, moved}
 
 module _ {R : Type 0} where
   -- a move, if none before it was refused
-  abbrev pub next : R → Found (List R) → Move R → Found (List R)
-  next fresh (found st) m = moved fresh st m
-  next fresh (refused r) m = refused r
+  abbrev pub next : R → Fate (List R) → Move R → Fate (List R)
+  next fresh (becomes st) m = moved fresh st m
+  next fresh (fails why) m = fails why
 
-  unfoldable pub movedFrom : R → Found (List R) → List (Move R) → Found (List R)
+  unfoldable pub movedFrom : R → Fate (List R) → List (Move R) → Fate (List R)
   movedFrom fresh h [] = h
   movedFrom fresh h (m ∷ ms) = movedFrom fresh (next fresh h m) ms
 
   -- moves, one after the other: the first refusal stands
-  abbrev pub movedAll : R → List R → List (Move R) → Found (List R)
-  movedAll fresh st ms = movedFrom fresh (found st) ms
+  abbrev pub movedAll : R → List R → List (Move R) → Fate (List R)
+  movedAll fresh st ms = movedFrom fresh (becomes st) ms
 
   -- when a move is refused, and why. 14: "closing bracket, control word, text or line break with no state left"; 16: "an opening
   -- bracket with 64 states held"

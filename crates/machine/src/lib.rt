@@ -9,4 +9,6 @@
 //   proofs/Maps.antt      states of two kinds that go the same way
 //   proofs/Runs.antt      what a run of `u` tokens says is its text
 //   proofs/Parts.antt     tokens in two parts, and what comes behind a group
+//   proofs/Few.antt       how much is said
+//   proofs/Places.antt    the places of tokens, and of refusals
 //   proofs/Cases.antt     small bodies, computed

@@ -1,5 +1,5 @@
 -- How much a letter that was read has: at most as many blocks as tokens, at most 256 fonts and colours, and a text that its room counts.
---     walk-few, deeds-few, body-few    the walk, its deeds and the body give no more than there are tokens
+--     walk-few, acts-few, body-few    the walk, its acts and the body give no more than there are tokens
 --     roomy-few, roomy-short           nor do the pieces that find room, whose text is no longer than the room
 --     blocks-few                       nor do the blocks
 --     letter-few                       so it is with a letter
@@ -19,7 +19,7 @@ use Rattle.answers.specs.declared.Outcome.the-variants.{Done, Refused}
 use Rattle.answers.specs.Answers.{refusal, Found, found, refused}
 use Rattle.rooms.specs.Streams.{Stream, end, stop, _▸_, items, answer}
 use Rattle.rooms.specs.Rooms.{capacity, tableLimit}
-use Rattle.tokens.specs.Tokens.{Shown}
+use Rattle.tokens.specs.Tokens.{Shown, Token, token, shownIn, shownBy}
 use Rattle.tokens.specs.Tokens
 use Rattle.readings.specs.declared.Reading.{Reading}
 use Rattle.styles.specs.declared.Style.{Style}
@@ -35,25 +35,25 @@ use Rattle.header.specs.Header.{tables}
 use Rattle.header.proofs.Tables.{tables-few-256}
 use Rattle.blocks.specs.Pages.{Piece, piece, blocksFrom, blocks, textOf, blockWords, textCapacity, Last, none, last, starts, roomy}
 use Rattle.runs.specs.Runs.{rows}
-use Rattle.body.specs.Body.{deeds, body}
+use Rattle.body.specs.Body.{acts, body}
 use Rattle.parser.specs.Parsing.{begun, Sizes, Letter, letterFrom, placed, bodied, headed, walked, FewIn}
 
-walk-few : (w : ℕ) (ts : List Shown) → length (walkFrom w ts) ≤ length ts
+walk-few : (w : ℕ) (ts : List Token) → length (walkFrom w ts) ≤ length ts
 unfolding walkFrom
 walk-few w [] = omega arith
-walk-few zero (t ∷ ts) = let h = walk-few (leftAt zero t ts) ts in omega arith
+walk-few zero (t ∷ ts) = let h = walk-few (leftAt zero (shownIn t) (shownBy ts)) ts in omega arith
 walk-few (suc w) (t ∷ ts) = let h = walk-few w ts in omega arith
 
-deeds-few : (rd : Reading) (ss : List Step) → length (deeds rd ss) ≡ length ss
-unfolding deeds
-deeds-few rd [] = refl
-deeds-few rd (s ∷ ss) = ap suc (deeds-few rd ss)
+acts-few : (rd : Reading) (ss : List Step) → length (acts rd ss) ≡ length ss
+unfolding acts
+acts-few rd [] = refl
+acts-few rd (s ∷ ss) = ap suc (acts-few rd ss)
 
 body-few : (rd : Reading) (ss : List Step) → length (items (body rd ss)) ≤ length ss
 unfolding body
 body-few rd ss =
-    let h = machine-few rows (freshRow ∷ []) before (deeds rd ss) in
-    let k = deeds-few rd ss in
+    let h = machine-few rows (freshRow ∷ []) before (acts rd ss) in
+    let k = acts-few rd ss in
     omega arith
 
 module _ (x : Piece) (more : Stream Refusal Piece) (y z : Bool) where
@@ -117,7 +117,7 @@ capacity-most t = go (ltb t 2147483647) refl
     go false e = omega arith
 
 -- the pieces of a body that found room
-placed-few : (rd : Reading) (b t : ℕ) (ts : List Shown) → (length (blocks (items (placed rd b t ts))) ≤ length ts) × (length (textOf (items (placed rd b t ts))) ≤ 2147483647)
+placed-few : (rd : Reading) (b t : ℕ) (ts : List Token) → (length (blocks (items (placed rd b t ts))) ≤ length ts) × (length (textOf (items (placed rd b t ts))) ≤ 2147483647)
 unfolding placed
 placed-few rd b t ts =
     let s : Stream Refusal Piece = body rd (walk ts) in
@@ -129,26 +129,26 @@ placed-few rd b t ts =
     let y = capacity-most t in
     (omega arith, omega arith)
 
-letter-from-few : (rd : Reading) (b t : ℕ) (ts : List Shown) (h : Tables) → (length (h .fonts) ≤ 256) × (length (h .colours) ≤ 256) → (o : Outcome)
+letter-from-few : (rd : Reading) (b t : ℕ) (ts : List Token) (h : Tables) → (length (h .fonts) ≤ 256) × (length (h .colours) ≤ 256) → (o : Outcome)
     → FewIn (length ts) (letterFrom h (placed rd b t ts) o)
 letter-from-few rd b t ts h k (Done n) = let p = placed-few rd b t ts in record { fonts = k .0; colours = k .1; blocks = p .0; text = p .1 }
 letter-from-few rd b t ts h k (Refused r) = tt
 
-headed-few : (rd : Reading) (b t : ℕ) (ts : List Shown) (x : Found Tables) → ((s : Tables) → x ≡ found s → (length (s .fonts) ≤ 256) × (length (s .colours) ≤ 256))
+headed-few : (rd : Reading) (b t : ℕ) (ts : List Token) (x : Found Tables) → ((s : Tables) → x ≡ found s → (length (s .fonts) ≤ 256) × (length (s .colours) ≤ 256))
     → FewIn (length ts) (headed rd b t ts x)
 unfolding bodied
 headed-few rd b t ts (found s) h = letter-from-few rd b t ts s (h s refl) (answer 0 (placed rd b t ts))
 headed-few rd b t ts (refused r) h = tt
 
-pub letter-few : (rd : Reading) (z : Sizes) (ts : List Shown) → FewIn (length ts) (walked rd z (begun ts))
+pub letter-few : (rd : Reading) (z : Sizes) (ts : List Token) → FewIn (length ts) (walked rd z (begun ts))
 letter-few rd z [] = tt
-letter-few rd z (Shown.opening ∷ ts) =
-    let all : List Shown = Shown.opening ∷ ts in
+letter-few rd z (token p n Shown.opening ∷ ts) =
+    let all : List Token = token p n Shown.opening ∷ ts in
     headed-few rd (z .blocks) (z .text) all (tables (tableLimit fontWords (z .fonts)) (tableLimit colourWords (z .colours)) (walk all))
     (λ s e. tables-few-256 (z .fonts) (z .colours) (walk all) s e)
-letter-few rd z (Shown.closing ∷ ts) = tt
-letter-few rd z (Shown.lineBreak ∷ ts) = tt
-letter-few rd z (Shown.ignorable ∷ ts) = tt
-letter-few rd z (Shown.text p bs ∷ ts) = tt
-letter-few rd z (Shown.word w num ∷ ts) = tt
-letter-few rd z (Shown.unknown p bs num ∷ ts) = tt
+letter-few rd z (token p n Shown.closing ∷ ts) = tt
+letter-few rd z (token p n Shown.lineBreak ∷ ts) = tt
+letter-few rd z (token p n Shown.ignorable ∷ ts) = tt
+letter-few rd z (token p n (Shown.text q bs) ∷ ts) = tt
+letter-few rd z (token p n (Shown.word w num) ∷ ts) = tt
+letter-few rd z (token p n (Shown.unknown q bs num) ∷ ts) = tt

@@ -1,26 +1,29 @@
 -- The functions of the parser, one law for each way through the code.
---     start-none, start-first      the first token
+--     start-none, -other, -opening   the first token
 --     body-full, body-laid         the body
 --     letter-refused, letter-read  header and body
 --     parse-refused, parse-read    the whole
 -- Assumes nothing.
 use mathlib.Core.Path.{_≡_, refl, sym, ap, _∙_}
 use mathlib.Core.List.{List, [], _∷_, _++_}
+use mathlib.Core.Bool.{Bool, true, false, not, true≢false, false≢true}
 use Prim.Native.Nat.{ℕ, _+_, _-_, _*_, _≤_}
 use native.Mathlib.Omega.{arith}
+use borrow.Author.Tests.{not-true, not-false}
 use lib.ListN.{length, take, replicate, length-take}
 use Rattle.answers.specs.declared.Refusal.{Refusal}
-use Rattle.answers.specs.declared.Why.the-variants.{NoTokens}
+use Rattle.answers.specs.declared.Why.the-variants.{NoTokens, FirstToken}
 use Rattle.answers.specs.declared.Outcome.{Outcome}
 use Rattle.answers.specs.declared.Outcome.the-variants.{Done, Refused}
-use Rattle.answers.specs.Answers.{refusal, Found, found, refused}
+use Rattle.answers.specs.Answers.{refusal, refusalAt, Found, found, refused}
 use Rattle.rooms.specs.Streams.{Stream, items, answer}
 use Rattle.rooms.proofs.Streams.{done-refused}
-use Rattle.tokens.specs.Tokens.{Shown}
+use Rattle.tokens.specs.Tokens.{Shown, Token, token}
 use Rattle.tokens.specs.Tokens
 use Rattle.tokens.specs.declared.item.Item.{Item}
-use Rattle.tokens.specs.Items.{itemAt, shownOf, shownAll}
-use Rattle.tokens.proofs.Items.{shown-none, shown-some}
+use Rattle.tokens.specs.declared.item.Item.the-variants.{Text, Opening, Closing, LineBreak, Ignorable, Word, Unknown}
+use Rattle.tokens.specs.Items.{itemAt, shownOf, sliceAt, tokensAll}
+use Rattle.tokens.proofs.Items.{tokens-none, tokens-some}
 use Rattle.readings.specs.declared.Reading.{Reading}
 use Rattle.blocks.specs.declared.Page.{Page}
 use Rattle.blocks.specs.declared.Laid.{Laid}
@@ -36,32 +39,45 @@ use Rattle.fonts.specs.Rows.{tableWords, fontWords}
 use Rattle.fonts.proofs.RowTables.{length-table}
 use Rattle.header.specs.declared.Header.{Header}
 use Rattle.header.specs.declared.Header.the-variants.{Read as Headed, Refused as Unheaded}
-use Rattle.header.specs.Entering.{Tables}
+use Rattle.header.specs.Entering.{Tables, opens}
 use Rattle.header.specs.Header.{tables, ReadHeader}
 use Rattle.parser.specs.declared.Answer.{Answer}
 use Rattle.parser.specs.declared.Answer.the-variants.{Read, Refuses}
 use Rattle.parser.specs.Parsing.{Sizes, begun, letterFrom, placed, bodied, headed, walked}
-use Rattle.parser.specs.Parts.{Starts, firstOf, BodyInto, LetterInto}
+use Rattle.parser.specs.Parts.{Starts, BodyInto, LetterInto}
 use Rattle.colours.specs.Colours.{colourWords}
 
 -- the first token
-pub start-none : (src : List ℕ) (n : ℕ) (ws : List ℕ) {r : Refusal} → n ≡ 0 → r ≡ refusal NoTokens → Starts (begun (shownAll src n ws)) (Refused r)
-start-none src n ws e f = rw (shown-none src n ws (omega arith), f) refl
+pub start-none : (src : List ℕ) (n : ℕ) (ws : List ℕ) {r : Refusal} → n ≡ 0 → r ≡ refusal NoTokens → Starts (begun (tokensAll src n ws)) (Refused r)
+start-none src n ws e f = rw (tokens-none src n ws (omega arith), f) refl
 
-starts-first : (x : Shown) (ts : List Shown) → Starts (begun (x ∷ ts)) (firstOf x)
-starts-first Shown.opening ts = refl
-starts-first Shown.closing ts = refl
-starts-first Shown.lineBreak ts = refl
-starts-first Shown.ignorable ts = refl
-starts-first (Shown.text p bs) ts = refl
-starts-first (Shown.word w num) ts = refl
-starts-first (Shown.unknown p bs num) ts = refl
+starts-other : (src : List ℕ) (p l : ℕ) (i : Item) (ts : List Token) → opens i ≡ false → Starts (begun (token p l (shownOf src i) ∷ ts)) (Refused (refusalAt FirstToken p))
+starts-other src p l Opening ts e = absurd (true≢false e)
+starts-other src p l Closing ts e = refl
+starts-other src p l LineBreak ts e = refl
+starts-other src p l Ignorable ts e = refl
+starts-other src p l (Text q n) ts e = refl
+starts-other src p l (Word w num) ts e = refl
+starts-other src p l (Unknown q n num) ts e = refl
 
-pub start-first : (src : List ℕ) (n : ℕ) (ws : List ℕ) {i : Item} {r : Outcome} → (n ≡ 0 → ⊥) → i ≡ itemAt ws → ((s : List ℕ) → r ≡ firstOf (shownOf s i)) → Starts (begun (shownAll src n ws)) r
-start-first src n ws z e f = rw (shown-some src n ws (omega arith), f src, e) (starts-first (shownOf src (itemAt ws)) _)
+starts-opening : (src : List ℕ) (p l : ℕ) (i : Item) (ts : List Token) → opens i ≡ true → Starts (begun (token p l (shownOf src i) ∷ ts)) (Done 0)
+starts-opening src p l Opening ts e = refl
+starts-opening src p l Closing ts e = absurd (false≢true e)
+starts-opening src p l LineBreak ts e = absurd (false≢true e)
+starts-opening src p l Ignorable ts e = absurd (false≢true e)
+starts-opening src p l (Text q n) ts e = absurd (false≢true e)
+starts-opening src p l (Word w num) ts e = absurd (false≢true e)
+starts-opening src p l (Unknown q n num) ts e = absurd (false≢true e)
+
+module _ (src : List ℕ) (n : ℕ) (ws : List ℕ) (z : n ≡ 0 → ⊥) {b : Bool} (e : b ≡ opens (itemAt ws)) where
+  pub start-other : not b ≡ true → {p : ℕ} {r : Refusal} → p ≡ sliceAt ws → r ≡ refusalAt FirstToken p → Starts (begun (tokensAll src n ws)) (Refused r)
+  start-other f q h = rw (tokens-some src n ws (omega arith), h, q) (starts-other src (sliceAt ws) _ (itemAt ws) _ (sym e ∙ not-true b f))
+
+  pub start-opening : not b ≡ false → Starts (begun (tokensAll src n ws)) (Done 0)
+  start-opening f = rw (tokens-some src n ws (omega arith)) (starts-opening src (sliceAt ws) _ (itemAt ws) _ (sym e ∙ not-false b f))
 
 -- the body
-module _ (rd : Reading) (ts : List Shown) (b t : List ℕ) (n f c : ℕ) where
+module _ (rd : Reading) (ts : List Token) (b t : List ℕ) (n f c : ℕ) where
   abbrev stream : Stream Refusal Piece
   stream = placed rd (length b) (length t) ts
 
@@ -94,7 +110,7 @@ module _ (rd : Reading) (ts : List Shown) (b t : List ℕ) (n f c : ℕ) where
 headed-unheaded : {A : Type 0} {f c : ℕ} {k : Refusal} → Headed f c ≡ Unheaded k → A
 headed-unheaded e = absurd (let w : _≡_ {A = ℕ} 0 1 = cc in omega arith)
 
-module _ (rd : Reading) (zf zc zb zt : ℕ) (ts : List Shown) (n : ℕ) where
+module _ (rd : Reading) (zf zc zb zt : ℕ) (ts : List Token) (n : ℕ) where
   pub letter-refused : (x : Found Tables) (r : Header) (fs cs : List ℕ) → ReadHeader x zf zc r fs cs → {k : Refusal} → r ≡ Unheaded k
       → (bs tx : List ℕ) → LetterInto (headed rd zb zt ts x) n (Refuses k) fs cs bs tx zf zc zb zt
   letter-refused (found s) r fs cs h e bs tx = headed-unheaded (sym (h .0) ∙ e)
@@ -121,21 +137,21 @@ module _ (rd : Reading) (zf zc zb zt : ℕ) (ts : List Shown) (n : ℕ) where
       body-ends s (answer 0 st) st a fs cs bs tx (h .1) (h .2) w
 
 -- the whole: the first token refuses, or the letter's answer stands
-begun-found : (ts : List Shown) {s : Outcome} {m : ℕ} → Starts (begun ts) s → s ≡ Done m → begun ts ≡ found ts
+begun-found : (ts : List Token) {s : Outcome} {m : ℕ} → Starts (begun ts) s → s ≡ Done m → begun ts ≡ found ts
 begun-found [] h f = absurd (done-refused (sym f ∙ h))
-begun-found (Shown.opening ∷ ts) h f = refl
-begun-found (Shown.closing ∷ ts) h f = absurd (done-refused (sym f ∙ h))
-begun-found (Shown.lineBreak ∷ ts) h f = absurd (done-refused (sym f ∙ h))
-begun-found (Shown.ignorable ∷ ts) h f = absurd (done-refused (sym f ∙ h))
-begun-found (Shown.text p bs ∷ ts) h f = absurd (done-refused (sym f ∙ h))
-begun-found (Shown.word w num ∷ ts) h f = absurd (done-refused (sym f ∙ h))
-begun-found (Shown.unknown p bs num ∷ ts) h f = absurd (done-refused (sym f ∙ h))
+begun-found (token p n Shown.opening ∷ ts) h f = refl
+begun-found (token p n Shown.closing ∷ ts) h f = absurd (done-refused (sym f ∙ h))
+begun-found (token p n Shown.lineBreak ∷ ts) h f = absurd (done-refused (sym f ∙ h))
+begun-found (token p n Shown.ignorable ∷ ts) h f = absurd (done-refused (sym f ∙ h))
+begun-found (token p n (Shown.text q bs) ∷ ts) h f = absurd (done-refused (sym f ∙ h))
+begun-found (token p n (Shown.word w num) ∷ ts) h f = absurd (done-refused (sym f ∙ h))
+begun-found (token p n (Shown.unknown q bs num) ∷ ts) h f = absurd (done-refused (sym f ∙ h))
 
-module _ (rd : Reading) (z : Sizes) (ts : List Shown) (n : ℕ) {s : Outcome} (h : Starts (begun ts) s) where
+module _ (rd : Reading) (z : Sizes) (ts : List Token) (n : ℕ) {s : Outcome} (h : Starts (begun ts) s) where
   pub parse-refused : {k : Refusal} → s ≡ Refused k → (fs cs bs tx : List ℕ) → LetterInto (walked rd z (begun ts)) n (Refuses k) fs cs bs tx (z .fonts) (z .colours) (z .blocks) (z .text)
   parse-refused {k} e fs cs bs tx = go (begun ts) h
     where
-      go : (x : Found (List Shown)) → Starts x s → LetterInto (walked rd z x) n (Refuses k) fs cs bs tx (z .fonts) (z .colours) (z .blocks) (z .text)
+      go : (x : Found (List Token)) → Starts x s → LetterInto (walked rd z x) n (Refuses k) fs cs bs tx (z .fonts) (z .colours) (z .blocks) (z .text)
       go (found us) q = absurd (done-refused (sym q ∙ e))
       go (refused r) q = let w : Refused r ≡ Refused k = sym q ∙ e in cc
 

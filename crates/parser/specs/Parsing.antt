@@ -1,14 +1,14 @@
--- 01, Answer numbers 8 to 20: tokens become tables, blocks and text. Assumes nothing: these are definitions.
+-- 01, Answer numbers 8 to 20, and 02, A4: tokens become tables, blocks and text. Assumes nothing: these are definitions.
 use Prim.Native.Nat.{ℕ, _≤_}
 use mathlib.Core.List.{List, [], _∷_}
 use lib.ListN.{length}
 use Rattle.answers.specs.declared.Why.the-variants.{NoTokens, FirstToken}
 use Rattle.answers.specs.declared.Outcome.{Outcome}
 use Rattle.answers.specs.declared.Outcome.the-variants.{Done, Refused}
-use Rattle.answers.specs.Answers.{refusal, whyNumber, Found, found, refused}
+use Rattle.answers.specs.Answers.{refusal, refusalAt, whyNumber, Found, found, refused}
 use Rattle.rooms.specs.Streams.{Stream, items, answer}
 use Rattle.rooms.specs.Rooms.{tableLimit, capacity}
-use Rattle.tokens.specs.Tokens.{Shown}
+use Rattle.tokens.specs.Tokens.{Shown, Token, token}
 use Rattle.tokens.specs.Tokens
 use Rattle.walk.specs.Walk.{walk}
 use Rattle.header.specs.Entering.{Tables}
@@ -23,16 +23,16 @@ use Rattle.fonts.specs.Rows.{fontWords}
 use Rattle.colours.specs.Colours.{colourWords}
 use Rattle.answers.specs.declared.Refusal.{Refusal}
 
--- "8: no tokens (blank source)", "9: first token is no opening bracket"
-abbrev pub begun : List Shown → Found (List Shown)
+-- "8: no tokens (blank source)", "9: first token is no opening bracket", with the place of its slice (02, A4)
+abbrev pub begun : List Token → Found (List Token)
 begun [] = refused (refusal NoTokens)
-begun (Shown.opening ∷ ts) = found (Shown.opening ∷ ts)
-begun (Shown.closing ∷ ts) = refused (refusal FirstToken)
-begun (Shown.lineBreak ∷ ts) = refused (refusal FirstToken)
-begun (Shown.ignorable ∷ ts) = refused (refusal FirstToken)
-begun (Shown.text p bs ∷ ts) = refused (refusal FirstToken)
-begun (Shown.word w num ∷ ts) = refused (refusal FirstToken)
-begun (Shown.unknown p bs num ∷ ts) = refused (refusal FirstToken)
+begun (token p n Shown.opening ∷ ts) = found (token p n Shown.opening ∷ ts)
+begun (token p n Shown.closing ∷ ts) = refused (refusalAt FirstToken p)
+begun (token p n Shown.lineBreak ∷ ts) = refused (refusalAt FirstToken p)
+begun (token p n Shown.ignorable ∷ ts) = refused (refusalAt FirstToken p)
+begun (token p n (Shown.text q bs) ∷ ts) = refused (refusalAt FirstToken p)
+begun (token p n (Shown.word w num) ∷ ts) = refused (refusalAt FirstToken p)
+begun (token p n (Shown.unknown q bs num) ∷ ts) = refused (refusalAt FirstToken p)
 
 -- the sizes of the five rooms: words, and bytes of the text room
 pub record Sizes : Type 0 where
@@ -56,27 +56,31 @@ abbrev pub letterFrom : Tables → Stream Refusal Piece → Outcome → Found Le
 letterFrom h s (Done n) = found (record { tables = h; pieces = items s })
 letterFrom h s (Refused r) = refused r
 
-unfoldable pub placed : Reading → ℕ → ℕ → List Shown → Stream Refusal Piece
+unfoldable pub placed : Reading → ℕ → ℕ → List Token → Stream Refusal Piece
 placed rd b t ts = roomy (capacity blockWords b) (textCapacity t) none (body rd (walk ts))
 
-unfoldable pub bodied : Reading → ℕ → ℕ → List Shown → Tables → Found Letter
+unfoldable pub bodied : Reading → ℕ → ℕ → List Token → Tables → Found Letter
 bodied rd b t ts h =
     let s = placed rd b t ts in
     letterFrom h s (answer 0 s)
 
 -- "then the header walk; then the body"
-abbrev pub headed : Reading → ℕ → ℕ → List Shown → Found Tables → Found Letter
+abbrev pub headed : Reading → ℕ → ℕ → List Token → Found Tables → Found Letter
 headed rd b t ts (found h) = bodied rd b t ts h
 headed rd b t ts (refused r) = refused r
 
-abbrev pub walked : Reading → Sizes → Found (List Shown) → Found Letter
+abbrev pub walked : Reading → Sizes → Found (List Token) → Found Letter
 walked rd z (found ts) = headed rd (z .blocks) (z .text) ts (tables (tableLimit fontWords (z .fonts)) (tableLimit colourWords (z .colours)) (walk ts))
 walked rd z (refused r) = refused r
 
--- "0 is success."; the number and the five counts of an answer
+-- "0 is success."; the number, the place and the five counts of an answer
 abbrev pub answerNumber : Answer → ℕ
 answerNumber (Read n) = 0
 answerNumber (Refuses r) = whyNumber (r .why)
+
+abbrev pub answerPlace : Answer → ℕ
+answerPlace (Read n) = 0
+answerPlace (Refuses r) = r .place
 
 abbrev pub noCounts : Counts
 noCounts = record { tokens = 0; fonts = 0; colours = 0; blocks = 0; text = 0 }

@@ -5,11 +5,9 @@ use mathlib.Core.List.{List}
 use lib.ListN.{length}
 use Rattle.answers.specs.declared.Outcome.{Outcome}
 use Rattle.answers.specs.declared.Outcome.the-variants.{Done, Refused}
-use Rattle.answers.specs.declared.Why.the-variants.{FirstToken}
-use Rattle.answers.specs.Answers.{refusal, Found, found, refused}
+use Rattle.answers.specs.Answers.{Found, found, refused}
 use Rattle.rooms.specs.Rooms.{filled}
-use Rattle.tokens.specs.Tokens.{Shown}
-use Rattle.tokens.specs.Tokens
+use Rattle.tokens.specs.Tokens.{Token}
 use Rattle.fonts.specs.Rows.{tableWords}
 use Rattle.blocks.specs.Pages.{Piece, blocks, textOf, records}
 use Rattle.parser.specs.declared.Answer.{Answer}
@@ -17,19 +15,9 @@ use Rattle.parser.specs.declared.Answer.the-variants.{Read, Refuses}
 use Rattle.parser.specs.Parsing.{Letter}
 
 -- the look at the first token: nothing, or a refusal
-abbrev pub Starts : Found (List Shown) → Outcome → Type 0
+abbrev pub Starts : Found (List Token) → Outcome → Type 0
 Starts (found ts) r = r ≡ Done 0
 Starts (refused q) r = r ≡ Refused q
-
--- the first token: 9 if it is no opening bracket
-abbrev pub firstOf : Shown → Outcome
-firstOf Shown.opening = Done 0
-firstOf Shown.closing = Refused (refusal FirstToken)
-firstOf Shown.lineBreak = Refused (refusal FirstToken)
-firstOf Shown.ignorable = Refused (refusal FirstToken)
-firstOf (Shown.text p bs) = Refused (refusal FirstToken)
-firstOf (Shown.word w num) = Refused (refusal FirstToken)
-firstOf (Shown.unknown p bs num) = Refused (refusal FirstToken)
 
 -- the body, where n tokens, f fonts and c colours were counted: blocks and text in their rooms, or a refusal
 abbrev pub BodyInto : Outcome → List Piece → ℕ → ℕ → ℕ → Answer → List ℕ → List ℕ → ℕ → ℕ → Type 0

@@ -11,19 +11,19 @@ use blocks::BLOCK_WORDS;
 use blocks::Laid;
 use body::lay_body;
 use header::Header;
+use header::group::is_opening;
 use header::read_header;
 use readings::Reading;
 use rooms::clear_bytes_from;
 use rooms::clear_from;
-use tokens::item::Item;
-use tokens::item::item_at;
+use tokens::item::slice_at;
 ghost use mathlib.Core.Path.{_≡_};
 ghost use mathlib.Core.List.{List};
 ghost use Prim.Native.Nat.{ℕ, _*_, _≤_};
 ghost use lib.ListN.{length};
-ghost use Rattle.tokens.specs.Items.{shownOf, shownAll};
-ghost use Rattle.parser.specs.Parsing.{answerNumber, answerCounts, sizes, begun as begunOf, headed, placed, walked};
-ghost use Rattle.parser.specs.Parts.{Starts, firstOf, BodyInto, LetterInto};
+ghost use Rattle.tokens.specs.Items.{tokensAll};
+ghost use Rattle.parser.specs.Parsing.{answerNumber, answerPlace, answerCounts, sizes, begun as begunOf, headed, placed, walked};
+ghost use Rattle.parser.specs.Parts.{Starts, BodyInto, LetterInto};
 ghost use Rattle.rooms.specs.Streams.{answer, items};
 ghost use Rattle.rooms.specs.Rooms.{tableLimit};
 ghost use Rattle.walk.specs.Walk.{walk as walkOf};
@@ -46,30 +46,18 @@ pub enum Answer {
     Refuses(Refusal),
 }
 
-// The first token must be an opening bracket.
-fn first_token(i: Item) -> Outcome
-    ensures { λ r. ⌜ ((src : List ℕ) → r ≡ firstOf (shownOf src i)) ⌝ }
-{
-    match i {
-        Item::Opening => Outcome::Done(0),
-        Item::Closing => Outcome::Refused(Refusal::of(Why::FirstToken)),
-        Item::LineBreak => Outcome::Refused(Refusal::of(Why::FirstToken)),
-        Item::Ignorable => Outcome::Refused(Refusal::of(Why::FirstToken)),
-        Item::Text(_, _) => Outcome::Refused(Refusal::of(Why::FirstToken)),
-        Item::Word(_, _) => Outcome::Refused(Refusal::of(Why::FirstToken)),
-        Item::Unknown(_, _, _) => Outcome::Refused(Refusal::of(Why::FirstToken)),
-    }
-}
-
 // Whether there is a first token, and an opening bracket it is.
 fn start(tokens: &[u32], n: usize) -> Outcome
     requires { ⌜ n * tokenWords ≤ length (now tokens) ⌝ }
-    ensures { λ r. ⌜ ((src : List ℕ) → Starts (begunOf (shownAll src n (now (tokens .entry)))) r) ⌝ }
+    ensures { λ r. ⌜ ((src : List ℕ) → Starts (begunOf (tokensAll src n (now (tokens .entry)))) r) ⌝ }
 {
     if n == 0 {
         return Outcome::Refused(Refusal::of(Why::NoTokens));
     }
-    first_token(item_at(tokens))
+    if !is_opening(tokens) {
+        return Outcome::Refused(Refusal::at(Why::FirstToken, slice_at(tokens)));
+    }
+    Outcome::Done(0)
 }
 
 // The body: blocks and text in their rooms, and zeros behind them.
@@ -84,7 +72,7 @@ fn read_body(
     text: &mut [u8],
 ) -> Answer
     requires { ⌜ (n * tokenWords ≤ length (now tokens)) × (n ≤ 65536) ⌝ }
-    ensures { λ r. ⌜ BodyInto (answer 0 (placed reading (length (now (blocks .entry))) (length (now (text .entry))) (shownAll (now (source .entry)) n (now (tokens .entry))))) (items (placed reading (length (now (blocks .entry))) (length (now (text .entry))) (shownAll (now (source .entry)) n (now (tokens .entry))))) n fonts colours r (now (blocks .exit)) (now (text .exit)) (length (now (blocks .entry))) (length (now (text .entry))) ⌝ }
+    ensures { λ r. ⌜ BodyInto (answer 0 (placed reading (length (now (blocks .entry))) (length (now (text .entry))) (tokensAll (now (source .entry)) n (now (tokens .entry))))) (items (placed reading (length (now (blocks .entry))) (length (now (text .entry))) (tokensAll (now (source .entry)) n (now (tokens .entry))))) n fonts colours r (now (blocks .exit)) (now (text .exit)) (length (now (blocks .entry))) (length (now (text .entry))) ⌝ }
 {
     let laid = lay_body(source, reading, tokens, n, blocks, text);
     match laid {
@@ -117,7 +105,7 @@ fn letter(
     text: &mut [u8],
 ) -> Answer
     requires { ⌜ (n * tokenWords ≤ length (now tokens)) × (n ≤ 65536) ⌝ }
-    ensures { λ r. ⌜ LetterInto (headed reading (length (now (blocks .entry))) (length (now (text .entry))) (shownAll (now (source .entry)) n (now (tokens .entry))) (tables (tableLimit fontWords (length (now (fonts .entry)))) (tableLimit colourWords (length (now (colours .entry)))) (walkOf (shownAll (now (source .entry)) n (now (tokens .entry)))))) n r (now (fonts .exit)) (now (colours .exit)) (now (blocks .exit)) (now (text .exit)) (length (now (fonts .entry))) (length (now (colours .entry))) (length (now (blocks .entry))) (length (now (text .entry))) ⌝ }
+    ensures { λ r. ⌜ LetterInto (headed reading (length (now (blocks .entry))) (length (now (text .entry))) (tokensAll (now (source .entry)) n (now (tokens .entry))) (tables (tableLimit fontWords (length (now (fonts .entry)))) (tableLimit colourWords (length (now (colours .entry)))) (walkOf (tokensAll (now (source .entry)) n (now (tokens .entry)))))) n r (now (fonts .exit)) (now (colours .exit)) (now (blocks .exit)) (now (text .exit)) (length (now (fonts .entry))) (length (now (colours .entry))) (length (now (blocks .entry))) (length (now (text .entry))) ⌝ }
 {
     let header = read_header(source, tokens, n, fonts, colours);
     match header {
@@ -138,7 +126,7 @@ pub fn parse(
     text: &mut [u8],
 ) -> Answer
     requires { ⌜ (n * tokenWords ≤ length (now tokens)) × (n ≤ 65536) ⌝ }
-    ensures { λ r. ⌜ LetterInto (walked reading (sizes (now (tokens .entry)) (now (fonts .entry)) (now (colours .entry)) (now (blocks .entry)) (now (text .entry))) (begunOf (shownAll (now (source .entry)) n (now (tokens .entry))))) n r (now (fonts .exit)) (now (colours .exit)) (now (blocks .exit)) (now (text .exit)) (length (now (fonts .entry))) (length (now (colours .entry))) (length (now (blocks .entry))) (length (now (text .entry))) ⌝ }
+    ensures { λ r. ⌜ LetterInto (walked reading (sizes (now (tokens .entry)) (now (fonts .entry)) (now (colours .entry)) (now (blocks .entry)) (now (text .entry))) (begunOf (tokensAll (now (source .entry)) n (now (tokens .entry))))) n r (now (fonts .exit)) (now (colours .exit)) (now (blocks .exit)) (now (text .exit)) (length (now (fonts .entry))) (length (now (colours .entry))) (length (now (blocks .entry))) (length (now (text .entry))) ⌝ }
 {
     let started = start(tokens, n);
     match started {
@@ -155,6 +143,16 @@ impl Answer {
         match self {
             Answer::Read(_) => 0,
             Answer::Refuses(refusal) => refusal.number(),
+        }
+    }
+
+    // The refusal's place; 0 on success.
+    pub fn place(self) -> u32
+        ensures { λ r. ⌜ r ≡ answerPlace self ⌝ }
+    {
+        match self {
+            Answer::Read(_) => 0,
+            Answer::Refuses(refusal) => refusal.place,
         }
     }
 

@@ -1,6 +1,6 @@
 -- What the body says: pieces that a stored block can be made of.
 --     walk-fine           the walk keeps tokens as they are
---     deeds-fine          what they do: texts are whole, and settings keep the ranges of a row
+--     acts-fine           what they do: texts are whole, and settings keep the ranges of a row
 --     moved-sound         so all rows of the stack keep them
 --     machine-storable    and all that is said is such a piece, what a run of units gives too, since any number is written as a character
 --     body-storable       the pieces of the body
@@ -14,12 +14,12 @@ use lib.ListN.{length}
 use lib.Dec.{eqb}
 use Rattle.answers.specs.declared.Refusal.{Refusal}
 use Rattle.answers.specs.declared.Why.the-variants.{TooDeep}
-use Rattle.answers.specs.Answers.{refusal, Found, found, refused}
+use Rattle.answers.specs.Answers.{Fate, becomes, fails}
 use Rattle.bytes.specs.Bytes.{any, isHigh}
 use Rattle.rooms.specs.Streams.{Stream, end}
 use Rattle.rooms.proofs.Streams.{Each}
 use Rattle.tokens.specs.declared.Property.{Property}
-use Rattle.tokens.specs.Tokens.{Shown, valueOf}
+use Rattle.tokens.specs.Tokens.{Shown, Token, shownIn, shownBy, valueOf}
 use Rattle.tokens.specs.Tokens
 use Rattle.tokens.specs.WordNumbers as words
 use Rattle.utf8.specs.Utf8.{isScalar, utf8, written}
@@ -35,51 +35,52 @@ use Rattle.fields.specs.Fields.{inRange}
 use Rattle.blocks.specs.Pages.{Piece}
 use Rattle.walk.specs.declared.Aim.{Aim}
 use Rattle.walk.specs.declared.Aim.the-variants.{Nothing, Hide, Fonts, Colours}
-use Rattle.walk.specs.Walk.{aim, Step, kept, hidden, fontTable, colourTable, entered, stepOf, stepsAt, leftAt, passedBy}
+use Rattle.walk.specs.Walk.{aim, Step, kept, hidden, fontTable, colourTable, entered, stepBy, stepsAt, leftAt, passedBy}
 use Rattle.walk.specs.Walk.{walkFrom, walk}
 use Rattle.settings.specs.Fields.{Setting, freshRow}
 use Rattle.settings.specs.Effects.{Effect, effect}
 use Rattle.settings.specs.Effects as does
 use Rattle.machine.specs.Stack.{stackLimit, moved, stackOf}
-use Rattle.machine.specs.Machine.{Deed, opens, closes, sets, says, unit, refuses, parts, stops, ended, gave, textsOf, writtenAll}
+use Rattle.machine.specs.Machine.{Deed, Act, at, opens, closes, sets, says, unit, refuses, parts, stops, ended, gave, textsOf, writtenAll}
 use Rattle.machine.specs.Machine.{_▸▸_, onward, settle, moveOf, skipOf, spoken, said, machine}
 use Rattle.runs.specs.Runs.{rows}
 use Rattle.deeds.specs.Deeds.{doing, tokenDeed}
-use Rattle.body.specs.Body.{deedOf, deeds, body}
+use Rattle.body.specs.Body.{actOf, acts, body}
 use Rattle.roundtrips.specs.Trips.{Words}
-use Rattle.previews.proofs.Tokens.{All, Fine}
+use Rattle.previews.proofs.Tokens.{All, Fine, FineIn}
 use Rattle.previews.proofs.States.{Sound, SoundEffect, fresh-sound, all-sound, effect-sound, sound-range, sound-words}
 
 -- ---- the walk
 
 abbrev FineStep : Step → Type 0
-FineStep (kept t) = Fine t
+FineStep (kept t) = FineIn t
 FineStep hidden = Unit {0}
 FineStep (fontTable late ts) = Unit {0}
 FineStep (colourTable late ts) = Unit {0}
 
-entered-fine : (a : Aim) (ts : List Shown) → FineStep (entered a ts)
-entered-fine Nothing ts = tt
-entered-fine Hide ts = tt
-entered-fine (Fonts late) ts = tt
-entered-fine (Colours late) ts = tt
+module _ (t : Token) (ts : List Token) (h : FineIn t) where
+  entered-fine : (a : Aim) → FineStep (entered a t ts)
+  entered-fine Nothing = h
+  entered-fine Hide = tt
+  entered-fine (Fonts late) = tt
+  entered-fine (Colours late) = tt
 
-step-fine : (t : Shown) (ts : List Shown) → Fine t → FineStep (stepOf t ts)
-step-fine Shown.opening ts h = entered-fine (aim ts) ts
-step-fine Shown.closing ts h = tt
-step-fine Shown.lineBreak ts h = tt
-step-fine Shown.ignorable ts h = tt
-step-fine (Shown.text p bs) ts h = h
-step-fine (Shown.word w num) ts h = h
-step-fine (Shown.unknown p bs num) ts h = tt
+  step-fine : (x : Shown) → FineStep (stepBy x t ts)
+  step-fine Shown.opening = entered-fine (aim (shownBy ts))
+  step-fine Shown.closing = h
+  step-fine Shown.lineBreak = h
+  step-fine Shown.ignorable = h
+  step-fine (Shown.text p bs) = h
+  step-fine (Shown.word w num) = h
+  step-fine (Shown.unknown p bs num) = h
 
-walk-fine : (ts : List Shown) (w : ℕ) → All Fine ts → All FineStep (walkFrom w ts)
+walk-fine : (ts : List Token) (w : ℕ) → All FineIn ts → All FineStep (walkFrom w ts)
 unfolding walkFrom
 walk-fine [] w h = tt
 walk-fine (t ∷ ts) w h = go w (λ k. walk-fine ts k (h .1))
   where
-    go : (w : ℕ) → ((k : ℕ) → All FineStep (walkFrom k ts)) → All FineStep (stepsAt w t ts ++ walkFrom (leftAt w t ts) ts)
-    go zero more = (step-fine t ts (h .0), more (passedBy t ts))
+    go : (w : ℕ) → ((k : ℕ) → All FineStep (walkFrom k ts)) → All FineStep (stepsAt w t ts ++ walkFrom (leftAt w (shownIn t) (shownBy ts)) ts)
+    go zero more = (step-fine t ts (h .0) (shownIn t), more (passedBy (shownIn t) (shownBy ts)))
     go (suc k) more = more k
 
 -- ---- texts
@@ -126,6 +127,10 @@ FineDeed (refuses why) = Unit {0}
 FineDeed parts = Unit {0}
 FineDeed (stops why) = Unit {0}
 
+-- at whatever place
+abbrev FineAct : Act Setting → Type 0
+FineAct (at p d) = FineDeed d
+
 doing-fine : (e : Effect) → SoundEffect e → FineDeed (doing e)
 doing-fine (does.sets ss) h = h
 doing-fine (does.says c) h = written-whole c
@@ -152,16 +157,16 @@ module _ (rd : Reading) where
   token-fine (Shown.word w num) h = word-fine w num h
   token-fine (Shown.unknown p bs num) h = all-sound [] tt
 
-  deed-fine : (s : Step) → FineStep s → FineDeed (deedOf rd s)
-  deed-fine (kept t) h = token-fine t h
-  deed-fine hidden h = tt
-  deed-fine (fontTable late ts) h = tt
-  deed-fine (colourTable late ts) h = tt
+  act-fine : (s : Step) → FineStep s → FineAct (actOf rd s)
+  act-fine (kept t) h = token-fine (shownIn t) h
+  act-fine hidden h = tt
+  act-fine (fontTable late ts) h = tt
+  act-fine (colourTable late ts) h = tt
 
-  deeds-fine : (ss : List Step) → All FineStep ss → All FineDeed (deeds rd ss)
-  unfolding deeds
-  deeds-fine [] h = tt
-  deeds-fine (s ∷ ss) h = (deed-fine s (h .0), deeds-fine ss (h .1))
+  acts-fine : (ss : List Step) → All FineStep ss → All FineAct (acts rd ss)
+  unfolding acts
+  acts-fine [] h = tt
+  acts-fine (s ∷ ss) h = (act-fine s (h .0), acts-fine ss (h .1))
 
 -- ---- the stack
 
@@ -170,7 +175,7 @@ opened-sound : (top : List ℕ) (rest : List (List ℕ)) → Sound top → All S
 unfolding moved
 opened-sound top rest h k = go (eqb (suc (length rest)) stackLimit)
   where
-    go : (t : Bool) → All Sound (stackOf (cond t (refused (refusal TooDeep)) (found (top ∷ top ∷ rest))))
+    go : (t : Bool) → All Sound (stackOf (cond t (fails TooDeep) (becomes (top ∷ top ∷ rest))))
     go true = tt
     go false = (h, (h, k))
 
@@ -229,22 +234,22 @@ unfolding _▸▸_
 front-storable [] more h k = k
 front-storable (x ∷ xs) more h k = (h .0, front-storable xs more (h .1) k)
 
-onward-storable : (m : Found (List (List ℕ))) (more : Stream Refusal Piece) → Each Storable more → Each Storable (onward m more)
-onward-storable (found st) more h = h
-onward-storable (refused r) more h = tt
+onward-storable : (p : ℕ) (m : Fate (List (List ℕ))) (more : Stream Refusal Piece) → Each Storable more → Each Storable (onward p m more)
+onward-storable p (becomes st) more h = h
+onward-storable p (fails why) more h = tt
 
-machine-storable : (st : List (List ℕ)) (run : Run) (ds : List (Deed Setting)) → All Sound st → All FineDeed ds
+machine-storable : (st : List (List ℕ)) (run : Run) (ds : List (Act Setting)) → All Sound st → All FineAct ds
     → Each Storable (machine rows st run ds)
 unfolding machine
 machine-storable st run [] h k = front-storable (said rows st (ended run) parts) end (said-storable st (ended run) parts h tt) tt
-machine-storable st run (d ∷ ds) h k =
+machine-storable st run (at p d ∷ ds) h k =
     let g : Gave = gave (skipOf rows st) run d in
-    let m : Found (List (List ℕ)) = moved freshRow st (moveOf rows d) in
+    let m : Fate (List (List ℕ)) = moved freshRow st (moveOf rows d) in
     let more : Stream Refusal Piece = machine rows (stackOf m) (g .run) ds in
-    front-storable (said rows st g d) (onward m more) (said-storable st g d h (k .0))
-    (onward-storable m more (machine-storable (stackOf m) (g .run) ds (moved-sound st d h (k .0)) (k .1)))
+    front-storable (said rows st g d) (onward p m more) (said-storable st g d h (k .0))
+    (onward-storable p m more (machine-storable (stackOf m) (g .run) ds (moved-sound st d h (k .0)) (k .1)))
 
-pub body-storable : (rd : Reading) (ts : List Shown) → All Fine ts → Each Storable (body rd (walk ts))
+pub body-storable : (rd : Reading) (ts : List Token) → All FineIn ts → Each Storable (body rd (walk ts))
 unfolding body
 body-storable rd ts h =
-    machine-storable (freshRow ∷ []) before (deeds rd (walk ts)) (fresh-sound, tt) (deeds-fine rd (walk ts) (walk-fine ts 0 h))
+    machine-storable (freshRow ∷ []) before (acts rd (walk ts)) (fresh-sound, tt) (acts-fine rd (walk ts) (walk-fine ts 0 h))

@@ -20,7 +20,7 @@ use Rattle.rooms.specs.Rooms.{capacity, filled, tableLimit, settled}
 use Rattle.rooms.proofs.Rooms.{settled-over}
 use Rattle.sevens.specs.Sevens.{byteLayout}
 use Rattle.sevens.proofs.Streamed.{answer-streamed}
-use Rattle.tokens.specs.Tokens.{Shown, Token, shownBy}
+use Rattle.tokens.specs.Tokens.{Shown, Token, token}
 use Rattle.tokens.specs.Tokens
 use Rattle.cutter.specs.Cutting.{tokenStream, cutAnswer}
 use Rattle.walk.specs.Walk.{walk}
@@ -46,7 +46,7 @@ use Rattle.roundtrips.specs.Trips.{Small}
 use Rattle.roundtrips.proofs.Ample.{roomy-whole, roomy-text, take-filled, Reads}
 use Rattle.roundtrips.proofs.RoundTrips.{list-reads}
 use Rattle.previews.specs.Promise.{blocksRead, textRead, StoredAs, ReadBack, Kept, Promise}
-use Rattle.previews.proofs.Tokens.{All, Fine, shown-fine}
+use Rattle.previews.proofs.Tokens.{All, FineIn, tokens-fine}
 use Rattle.previews.proofs.Pieces.{Storable, body-storable}
 use Rattle.previews.proofs.Joining.{items-storable, blocks-storable, storable-good, storable-small}
 use Rattle.fonts.specs.Rows.{fontWords}
@@ -56,11 +56,11 @@ use Rattle.answers.specs.declared.Refusal.{Refusal}
 -- ---- the pieces of a letter that was read
 
 -- they are those of the body, and all of them found room
-abbrev Laid : Reading → ℕ → ℕ → List Shown → Found Letter → Type 0
+abbrev Laid : Reading → ℕ → ℕ → List Token → Found Letter → Type 0
 Laid rd b t ts (found l) = (n : ℕ) × (answer 0 (placed rd b t ts) ≡ Done n) × (l .pieces ≡ items (placed rd b t ts))
 Laid rd b t ts (refused r) = Unit {0}
 
-bodied-laid : (rd : Reading) (b t : ℕ) (ts : List Shown) (h : Tables) → Laid rd b t ts (bodied rd b t ts h)
+bodied-laid : (rd : Reading) (b t : ℕ) (ts : List Token) (h : Tables) → Laid rd b t ts (bodied rd b t ts h)
 unfolding bodied
 bodied-laid rd b t ts h = go (answer 0 (placed rd b t ts)) refl
   where
@@ -68,35 +68,35 @@ bodied-laid rd b t ts h = go (answer 0 (placed rd b t ts)) refl
     go (Done n) e = (n, e, refl)
     go (Refused r) e = tt
 
-headed-laid : (rd : Reading) (b t : ℕ) (ts : List Shown) (x : Found Tables) → Laid rd b t ts (headed rd b t ts x)
+headed-laid : (rd : Reading) (b t : ℕ) (ts : List Token) (x : Found Tables) → Laid rd b t ts (headed rd b t ts x)
 headed-laid rd b t ts (found h) = bodied-laid rd b t ts h
 headed-laid rd b t ts (refused r) = tt
 
 module _ (rd : Reading) (z : Sizes) where
-  begun-laid : (ts : List Shown) → Laid rd (z .blocks) (z .text) ts (walked rd z (begun ts))
+  begun-laid : (ts : List Token) → Laid rd (z .blocks) (z .text) ts (walked rd z (begun ts))
   begun-laid [] = tt
-  begun-laid (Shown.opening ∷ ts) =
-      let all : List Shown = Shown.opening ∷ ts in
+  begun-laid (token p n Shown.opening ∷ ts) =
+      let all : List Token = token p n Shown.opening ∷ ts in
       headed-laid rd (z .blocks) (z .text) all (tables (tableLimit fontWords (z .fonts)) (tableLimit colourWords (z .colours)) (walk all))
-  begun-laid (Shown.closing ∷ ts) = tt
-  begun-laid (Shown.lineBreak ∷ ts) = tt
-  begun-laid (Shown.ignorable ∷ ts) = tt
-  begun-laid (Shown.text p bs ∷ ts) = tt
-  begun-laid (Shown.word w num ∷ ts) = tt
-  begun-laid (Shown.unknown p bs num ∷ ts) = tt
+  begun-laid (token p n Shown.closing ∷ ts) = tt
+  begun-laid (token p n Shown.lineBreak ∷ ts) = tt
+  begun-laid (token p n Shown.ignorable ∷ ts) = tt
+  begun-laid (token p n (Shown.text q bs) ∷ ts) = tt
+  begun-laid (token p n (Shown.word w num) ∷ ts) = tt
+  begun-laid (token p n (Shown.unknown q bs num) ∷ ts) = tt
 
-  cut-laid : (ts : List Token) (o : Outcome) → Laid rd (z .blocks) (z .text) (shownBy ts) (cut rd z ts o)
-  cut-laid ts (Done n) = begun-laid (shownBy ts)
+  cut-laid : (ts : List Token) (o : Outcome) → Laid rd (z .blocks) (z .text) ts (cut rd z ts o)
+  cut-laid ts (Done n) = begun-laid ts
   cut-laid ts (Refused r) = tt
 
-  letter-laid : (src : List ℕ) → Laid rd (z .blocks) (z .text) (shownBy (items (tokenStream src))) (letterOf rd src z)
+  letter-laid : (src : List ℕ) → Laid rd (z .blocks) (z .text) (items (tokenStream src)) (letterOf rd src z)
   unfolding letterOf
   letter-laid src = cut-laid (items (tokenStream src)) (cutAnswer src (z .tokens))
 
 -- ---- pieces that found room
 
-module _ (rd : Reading) (b t : ℕ) (ts : List Shown) {n : ℕ} (d : answer 0 (placed rd b t ts) ≡ Done n) where
-  placed-storable : All Fine ts → All Storable (items (placed rd b t ts))
+module _ (rd : Reading) (b t : ℕ) (ts : List Token) {n : ℕ} (d : answer 0 (placed rd b t ts) ≡ Done n) where
+  placed-storable : All FineIn ts → All Storable (items (placed rd b t ts))
   unfolding placed
   placed-storable h =
       let e : roomy (capacity blockWords b) (textCapacity t) none (body rd (walk ts)) ≡ body rd (walk ts) =
@@ -161,14 +161,14 @@ back-checked c ws tx s h =
 
 module _ (rd : Reading) (src : List ℕ) (z : Sizes) where
   letter-kept : (l : Letter) → letterOf rd src z ≡ found l
-      → Laid rd (z .blocks) (z .text) (shownBy (items (tokenStream src))) (found l)
+      → Laid rd (z .blocks) (z .text) (items (tokenStream src)) (found l)
       → Kept (countsOf src l) (blocksRead rd src z (countsOf src l)) (textRead rd src z (countsOf src l))
   letter-kept l e (n, d, p) =
       let xs : List Piece = blocks (l .pieces) in
-      let ts : List Shown = shownBy (items (tokenStream src)) in
+      let ts : List Token = items (tokenStream src) in
       let c : Counts = countsOf src l in
       let h : All Storable (l .pieces) =
-      subst (All Storable) (sym p) (placed-storable rd (z .blocks) (z .text) ts d (shown-fine src)) in
+      subst (All Storable) (sym p) (placed-storable rd (z .blocks) (z .text) ts d (tokens-fine src)) in
       let same : textOf xs ≡ textOf (l .pieces) = text-blocks (l .pieces) in
       let short : length (textOf xs) ≤ 2147483647 = rw (same, p) (placed-short rd (z .blocks) (z .text) ts d) in
       let good : Good none xs ≡ true = storable-good (l .pieces) h in
@@ -185,7 +185,7 @@ pub read-back : Promise
 unfolding readAnswer
 read-back rd src z c a = go (letterOf rd src z) refl (letter-laid rd z src) a
   where
-    go : (x : Found Letter) → letterOf rd src z ≡ x → Laid rd (z .blocks) (z .text) (shownBy (items (tokenStream src))) x
+    go : (x : Found Letter) → letterOf rd src z ≡ x → Laid rd (z .blocks) (z .text) (items (tokenStream src)) x
         → answered src x ≡ Read c → Kept c (blocksRead rd src z c) (textRead rd src z c)
     go (found l) e d b =
         let same : countsOf src l ≡ c = cc in

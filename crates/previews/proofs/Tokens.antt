@@ -1,7 +1,7 @@
 -- What the tokens of a letter show: text that is not empty and has no byte above 127, and numbers of 32 bits.
 --     tokens-some, stream-some    no text of a slice's tokens is empty, nor of a source's
 --     low-part                    bytes that stand in a source without a byte above 127 have none either
---     shown-fine                  what the tokens of a source show
+--     tokens-fine                 what the tokens of a source show
 -- Assumes nothing.
 use mathlib.Core.Path.{_≡_, refl, sym, ap, _∙_}
 use mathlib.Core.List.{List, [], _∷_}
@@ -10,8 +10,9 @@ use Prim.Native.Nat.{ℕ, _+_, _<_}
 use native.Mathlib.Omega.{arith}
 use lib.ListN.{length, take, drop, take-append-drop}
 use lib.Dec.{eqb, ltb}
+use Rattle.answers.specs.declared.Why.{Why}
 use Rattle.answers.specs.declared.Why.the-variants.{SourceTooLong, NotAscii}
-use Rattle.answers.specs.Answers.{refusal}
+use Rattle.answers.specs.Answers.{refusal, refusalAt}
 use Rattle.bytes.specs.declared.Class.the-variants.{White, WordEnd, InWord, Space, Numeral}
 use Rattle.bytes.specs.Bytes.{isLetter, isHigh, inClass, lead, body, any}
 use Rattle.bytes.proofs.Runs.{or-left, or-right, any-append}
@@ -24,12 +25,12 @@ use Rattle.rooms.proofs.Streams.{Each, Each-then, Each-each, Each-either}
 use Rattle.slices.specs.Slices.{slices}
 use Rattle.tokens.specs.declared.Property.{Property}
 use Rattle.tokens.specs.declared.Property.the-variants.{None, Value}
-use Rattle.tokens.specs.Tokens.{Shown, Token, valueOf, shownBy}
+use Rattle.tokens.specs.Tokens.{Shown, Token, token, shownIn, valueOf}
 use Rattle.tokens.specs.Tokens
 use Rattle.tokenize.specs.Tokenize.{isMark, isEscape, mark, plain, hexValue, hexEscape, lineBreakAnd, shownWord, numbered}
 use Rattle.tokenize.specs.Tokenize.{named, bareLength, wordTail, word, other, escaped, tokens}
 use Rattle.tokenize.proofs.Places.{At, Stands}
-use Rattle.cutter.specs.Cutting.{locate, located, last, allSlices, trimStart, trimmed, tokenStream}
+use Rattle.cutter.specs.Cutting.{located, last, allSlices, trimStart, trimmed, tokenStream}
 use Rattle.cutter.proofs.Places.{Placed, stream-places}
 use Rattle.answers.specs.declared.Refusal.{Refusal}
 
@@ -123,11 +124,11 @@ tokens-some p (b ∷ s) =
 
 -- the same of located tokens
 abbrev SomeIn : Token → Type 0
-SomeIn t = Some (t .shows)
+SomeIn t = Some (shownIn t)
 
 located-some : (p : ℕ) (s : List ℕ) → Each SomeIn (located p s)
 unfolding located
-located-some p s = Each-each SomeIn refusal (locate p (length s)) (tokens p s) (tokens-some p s)
+located-some p s = Each-each SomeIn (λ (w : Why). refusalAt w p) (token p (length s)) (tokens p s) (tokens-some p s)
 
 last-some : (p : ℕ) (s : List ℕ) → Each SomeIn (last p s)
 unfolding last
@@ -175,6 +176,9 @@ Fine Shown.ignorable = Unit {0}
 Fine (Shown.word w num) = valueOf num < 4294967296
 Fine (Shown.unknown p bs num) = Unit {0}
 
+abbrev pub FineIn : Token → Type 0
+FineIn t = Fine (shownIn t)
+
 fine-one : (src : List ℕ) → any isHigh src ≡ false → (t : Shown) → Stands src 0 t → Some t → Fine t
 fine-one src h (Shown.text p bs) a s = (s, low-part h a)
 fine-one src h Shown.opening a s = tt
@@ -185,24 +189,27 @@ fine-one src h (Shown.word w num) a s = a .1
 fine-one src h (Shown.unknown p bs num) a s = tt
 
 fine-all : (src : List ℕ) → any isHigh src ≡ false → (s : Stream Refusal Token) → Each (Placed src) s → Each SomeIn s
-    → All Fine (shownBy (items s))
-unfolding items shownBy
+    → All FineIn (items s)
+unfolding items
 fine-all src h end a b = tt
 fine-all src h (stop r) a b = tt
-fine-all src h (t ▸ s) a b = (fine-one src h (t .shows) (a .0 .0) (b .0), fine-all src h s (a .1) (b .1))
+fine-all src h (t ▸ s) a b = (fine-one src h (shownIn t) (a .0 .0) (b .0), fine-all src h s (a .1) (b .1))
 
 -- a source with a byte above 127 has no tokens
-none-high : (src : List ℕ) → any isHigh src ≡ true → shownBy (items (tokenStream src)) ≡ []
-unfolding tokenStream items shownBy
+none-high : (src : List ℕ) → any isHigh src ≡ true → items (tokenStream src) ≡ []
+unfolding tokenStream items
 none-high src h = rw h (go (ltb 65536 (length src)))
   where
-    go : (t : Bool) → shownBy (items (cond t (stop (refusal SourceTooLong)) (stop (refusal NotAscii)))) ≡ []
+    none : Bool → Stream Refusal Token
+    none t = cond t (stop (refusal SourceTooLong)) (stop (refusal NotAscii))
+
+    go : (t : Bool) → items (none t) ≡ []
     go true = refl
     go false = refl
 
-pub shown-fine : (src : List ℕ) → All Fine (shownBy (items (tokenStream src)))
-shown-fine src = go (any isHigh src) refl
+pub tokens-fine : (src : List ℕ) → All FineIn (items (tokenStream src))
+tokens-fine src = go (any isHigh src) refl
   where
-    go : (t : Bool) → any isHigh src ≡ t → All Fine (shownBy (items (tokenStream src)))
+    go : (t : Bool) → any isHigh src ≡ t → All FineIn (items (tokenStream src))
     go true h = rw (none-high src h) tt
     go false h = fine-all src h (tokenStream src) (stream-places src) (stream-some src)

@@ -4,7 +4,7 @@
 -- Assumes nothing.
 use mathlib.Core.Path.{_≡_, refl, sym, ap, _∙_}
 use mathlib.Core.List.{List, [], _∷_}
-use Prim.Native.Nat.{ℕ, suc, _≤_}
+use Prim.Native.Nat.{ℕ, _≤_}
 use native.Mathlib.Omega.{arith}
 use lib.ListN.{length, replicate}
 use Rattle.answers.specs.declared.Refusal.{Refusal}
@@ -13,9 +13,9 @@ use Rattle.answers.specs.declared.Outcome.the-variants.{Done, Refused}
 use Rattle.answers.specs.Answers.{Found, found, refused}
 use Rattle.rooms.specs.Streams.{items}
 use Rattle.rooms.specs.Rooms.{encode, filled, content}
-use Rattle.tokens.specs.Tokens.{Shown, Token, tokenLayout, shownBy}
+use Rattle.tokens.specs.Tokens.{Token, tokenLayout}
 use Rattle.cutter.specs.Cutting.{tokenStream, cutAnswer, cutRoom}
-use Rattle.tokens.specs.Items.{shownAll}
+use Rattle.tokens.specs.Items.{tokensAll}
 use Rattle.readings.specs.declared.Reading.{Reading}
 use Rattle.parser.specs.declared.Counts.{Counts}
 use Rattle.parser.specs.declared.Answer.{Answer}
@@ -34,18 +34,13 @@ cut-room : (src : List ℕ) (total : ℕ) {n : ℕ} → Done n ≡ cutAnswer src
 unfolding cutRoom content
 cut-room src total e = ap (λ (a : Outcome). content tokenLayout total a (tokenStream src)) (sym e)
 
-length-shown : (ts : List Token) → length (shownBy ts) ≡ length ts
-unfolding shownBy
-length-shown [] = refl
-length-shown (t ∷ ts) = ap suc (length-shown ts)
-
 -- a letter has at most as many blocks as its source has tokens
 letter-counted : (rd : Reading) (src : List ℕ) (z : Sizes) → FewIn (tokenCount src) (letterOf rd src z)
 unfolding letterOf
 letter-counted rd src z = go (cutAnswer src (z .tokens))
   where
     go : (o : Outcome) → FewIn (tokenCount src) (cut rd z (items (tokenStream src)) o)
-    go (Done n) = rw length-shown at (letter-few rd z (shownBy (items (tokenStream src))))
+    go (Done n) = letter-few rd z (items (tokenStream src))
     go (Refused r) = tt
 
 module _ (rd : Reading) (src : List ℕ) (z : Sizes) where
@@ -70,13 +65,13 @@ module _ (rd : Reading) (src : List ℕ) (z : Sizes) where
   cut-refused e d m fs cs bs tx = rw (sym e ∙ d) refl
 
   -- cut: the parser's answer stands
-  pub cut-parsed : {o : Outcome} {n : ℕ} → o ≡ cutAnswer src (z .tokens) → o ≡ Done n → (room : List ℕ) → n ≡ tokenCount src → shownAll src n room ≡ shownBy (items (tokenStream src)) → {t : ℕ} → t ≡ z .tokens → (a : Answer) (fs cs bs tx : List ℕ)
-      → LetterInto (walked rd (record { tokens = t; fonts = z .fonts; colours = z .colours; blocks = z .blocks; text = z .text }) (begun (shownAll src n room))) n a fs cs bs tx (z .fonts) (z .colours) (z .blocks) (z .text)
+  pub cut-parsed : {o : Outcome} {n : ℕ} → o ≡ cutAnswer src (z .tokens) → o ≡ Done n → (room : List ℕ) → n ≡ tokenCount src → tokensAll src n room ≡ items (tokenStream src) → {t : ℕ} → t ≡ z .tokens → (a : Answer) (fs cs bs tx : List ℕ)
+      → LetterInto (walked rd (record { tokens = t; fonts = z .fonts; colours = z .colours; blocks = z .blocks; text = z .text }) (begun (tokensAll src n room))) n a fs cs bs tx (z .fonts) (z .colours) (z .blocks) (z .text)
       → LetterInto (letterOf rd src z) (tokenCount src) a fs cs bs tx (z .fonts) (z .colours) (z .blocks) (z .text)
   unfolding letterOf
   cut-parsed {o} {n} e d room m q i a fs cs bs tx g =
-      let l : letterOf rd src z ≡ walked rd z (begun (shownAll src n room)) =
-      ap (cut rd z (items (tokenStream src))) (sym e ∙ d) ∙ ap (λ (ts : List Shown). walked rd z (begun ts)) (sym q) in
+      let l : letterOf rd src z ≡ walked rd z (begun (tokensAll src n room)) =
+      ap (cut rd z (items (tokenStream src))) (sym e ∙ d) ∙ ap (λ (ts : List Token). walked rd z (begun ts)) (sym q) in
       rw (l, ← m) (rw i at g)
 
   module _ (a : Answer) (fs cs bs tx : List ℕ) (g : LetterInto (letterOf rd src z) (tokenCount src) a fs cs bs tx (z .fonts) (z .colours) (z .blocks) (z .text)) where

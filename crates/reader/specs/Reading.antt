@@ -9,7 +9,7 @@ use Rattle.answers.specs.declared.Outcome.the-variants.{Done, Refused}
 use Rattle.answers.specs.Answers.{Found, found, refused}
 use Rattle.rooms.specs.Streams.{items}
 use Rattle.rooms.specs.Rooms.{encode, filled}
-use Rattle.tokens.specs.Tokens.{Shown, Token, tokenLayout, shownBy}
+use Rattle.tokens.specs.Tokens.{Token, tokenLayout}
 use Rattle.cutter.specs.Cutting.{tokenStream, cutAnswer}
 use Rattle.fonts.specs.Rows.{tableWords}
 use Rattle.readings.specs.declared.Reading.{Reading}
@@ -21,7 +21,7 @@ use Rattle.parser.specs.Parsing.{begun, Sizes, Letter, walked}
 
 -- "cutting .. then 6, 7, 8, 9"
 abbrev pub cut : Reading → Sizes → List Token → Outcome → Found Letter
-cut rd z ts (Done n) = walked rd z (begun (shownBy ts))
+cut rd z ts (Done n) = walked rd z (begun ts)
 cut rd z ts (Refused r) = refused r
 
 -- a source, read into rooms of such sizes

@@ -1,4 +1,4 @@
-// One answer of ours against the listed one: the refusal, the count of tokens, every word of the room.
+// One answer of ours against the listed one: the refusal, its place, the count of tokens, every word of the room.
 use crate::list::Answer;
 use crate::list::word;
 use answers::Outcome;
@@ -10,6 +10,7 @@ ghost use Rattle.replay.specs.Listed.{wordAt, Judged};
 // What differs first.
 pub enum Part {
     Refusal,
+    Place,
     Count,
     Word(usize),
 }
@@ -52,6 +53,14 @@ pub fn compare(outcome: Outcome, room: &[u32], answer: Answer, records: &[u8]) -
             part: Part::Refusal,
             ours: refusal as u64,
             listed: answer.refusal as u64,
+        });
+    }
+    let place = outcome.place();
+    if place != answer.place {
+        return Verdict::Differs(Difference {
+            part: Part::Place,
+            ours: place as u64,
+            listed: answer.place as u64,
         });
     }
     let count = outcome.count();

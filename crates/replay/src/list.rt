@@ -1,5 +1,5 @@
 // The list of answers, as its bytes: words of four bytes, little endian, with nothing before the first answer.
-// An answer: the letter's length in bytes, the room's in words, the refusal or 0, the count of tokens; then the
+// An answer: the letter's length in bytes, the room's in words, the refusal or 0, its place, the count of tokens; then the
 // letter; then a record for each token.
 use tokens::TOKEN_WORDS;
 ghost use mathlib.Core.Path.{_≡_};
@@ -8,7 +8,7 @@ ghost use lib.ListN.{length, getD};
 ghost use Rattle.replay.specs.Listed.{wordAt, FrontWhole};
 
 // The words before the letter.
-pub const HEAD_BYTES: usize = 16;
+pub const HEAD_BYTES: usize = 20;
 
 // No list has a longer letter or a larger room.
 const LETTER_MOST: usize = 400;
@@ -22,6 +22,7 @@ const RECORD_BYTES: usize = 4 * TOKEN_WORDS;
 pub struct Answer {
     pub room: usize,
     pub refusal: u32,
+    pub place: u32,
     pub tokens: usize,
     pub records: usize,
     pub end: usize,
@@ -65,7 +66,8 @@ pub fn next(list: &[u8]) -> Front
     let letter = word(list, 0) as usize;
     let room = word(list, 4) as usize;
     let refusal = word(list, 8);
-    let tokens = word(list, 12) as usize;
+    let place = word(list, 12);
+    let tokens = word(list, 16) as usize;
     if LETTER_MOST < letter {
         return Front::Malformed;
     }
@@ -83,6 +85,7 @@ pub fn next(list: &[u8]) -> Front
     Front::Answer(Answer {
         room: room,
         refusal: refusal,
+        place: place,
         tokens: tokens,
         records: records,
         end: end,

@@ -37,6 +37,7 @@ pub fn line(difference: Difference, answer: usize, differ: usize) {
     let part = difference.part;
     match part {
         Part::Refusal => text(b": refusal"),
+        Part::Place => text(b": place"),
         Part::Count => text(b": count of tokens"),
         Part::Word(at) => {
             text(b": word ");

@@ -29,7 +29,7 @@ use Rattle.machine.proofs.Stack.{held-top}
 use Rattle.blocks.specs.declared.Page.{Page}
 use Rattle.blocks.specs.Pages.{Piece}
 use Rattle.blocks.specs.Laying.{Laying, on, off, addOf, laidOn, layAll}
-use Rattle.blocks.proofs.Laying.{lay-more}
+use Rattle.blocks.proofs.Laying.{lay-more, Placeless, laid-on-placeless}
 use Rattle.runs.specs.Runs.{rows, runWords, runOf, valueIf, laidAll}
 
 pub ne-pos : {d : ℕ} → (d ≡ 0 → ⊥) → 0 < d
@@ -46,6 +46,11 @@ pub laid-append : (l : Laying) (xs ys : List Piece) → laidAll (laidAll l xs) y
 unfolding laidAll
 laid-append l [] ys = refl
 laid-append l (x ∷ xs) ys = laid-append (laidOn l x) xs ys
+
+pub laid-placeless : (l : Laying) (xs : List Piece) → Placeless l → Placeless (laidAll l xs)
+unfolding laidAll
+laid-placeless l [] h = h
+laid-placeless l (x ∷ xs) h = laid-placeless (laidOn l x) xs (laid-on-placeless l x h)
 
 pub lay-said : (l : Laying) (xs : List Piece) (s : Stream Refusal Piece) → layAll l (xs ▸▸ s) ≡ layAll (laidAll l xs) s
 unfolding laidAll _▸▸_

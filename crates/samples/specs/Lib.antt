@@ -1,4 +1,4 @@
--- Letters: 01's sample letters, its sample listing, letters that tell its easy errors and the order of refusals. Fonts: telling token
--- lists, and the fonts that each gives.
+-- Letters: 01's sample letters, its sample listing, letters that tell its easy errors, the order of refusals and their places. Fonts: telling
+-- token lists, and the fonts that each gives.
 pub mod Letters
 pub mod Fonts

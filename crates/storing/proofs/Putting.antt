@@ -16,7 +16,7 @@ use Rattle.answers.specs.declared.Outcome.{Outcome}
 use Rattle.answers.specs.declared.Outcome.the-variants.{Done}
 use Rattle.rooms.specs.Streams.{Stream, end, andThen, byRefusal}
 use Rattle.rooms.specs.Rooms.{Wrote, put}
-use Rattle.rooms.proofs.Rooms.{wrote-none, wrote-then, wrote-more, length-put, length-putAll}
+use Rattle.rooms.proofs.Rooms.{wrote-none, wrote-then, wrote-more, length-put}
 use Rattle.sevens.specs.Sevens.{written, byteLayout, streamed}
 use Rattle.sevens.proofs.Sevens.{written-length}
 use Rattle.sevens.proofs.Streamed.{streamed-append, place-after}
@@ -35,7 +35,7 @@ Ahead n room₀ x at room y =
 -- what is written keeps the room's length
 pub wrote-length : {n : ℕ} {room room′ : List ℕ} {s : Stream Refusal ℕ} {r : Outcome} → Wrote byteLayout byRefusal n room s r room′
     → length room′ ≡ length room
-wrote-length {n} {room} {room′} {s} w = ap length (w .holds) ∙ length-putAll byteLayout s room n
+wrote-length w = w .long
 
 -- ---- numbers
 

@@ -66,7 +66,7 @@ module _ (ws tx : List ℕ) {room room′ : List ℕ} {o r : Outcome} (w : Wrote
         let c : n ≡ count s = answer-count s 0 n (sym (w .says) ∙ q .0) ∙ omega arith in
         let k : n ≡ count s * 1 = omega arith in
         let f : take (count s * 1) room′ ≡ encode byteLayout s =
-        rw (w .holds) (putAll-front byteLayout (λ x. refl) s room (omega (arith, wrote-length w, q .1))) in
+        rw (w .holds n (q .0)) (putAll-front byteLayout (λ x. refl) s room (omega (arith, wrote-length w, q .1))) in
         let l : length (encode byteLayout s) ≡ n = length-encode byteLayout (λ x. refl) s ∙ sym k in
         filled-front (length room) n (encode byteLayout s) room′ _ z (ap (λ (i : ℕ). take i room′) k ∙ f) l (wrote-length w)
 

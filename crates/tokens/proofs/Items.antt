@@ -2,7 +2,9 @@
 --     item-opening ..         the item of a record, by its kind
 --     part-none ..            the part of a source, by where it lies
 --     shown-none, -some       what a room's tokens show, from the first one on
---     shown-drop, -take       what those behind the first k, and the first k, show
+--     tokens-none, -some      the tokens themselves, from the first one on
+--     tokens-drop, -take      those behind the first k, and the first k
+--     tokens-shown            what they show
 -- Assumes nothing.
 use mathlib.Core.Path.{_≡_, refl, sym, ap, _∙_}
 use mathlib.Core.List.{List, [], _∷_}
@@ -13,10 +15,10 @@ use borrow.Author.Tests.{ne-eqb}
 use lib.ListN.{length, getD, take, drop, length-drop, length-take}
 use lib.Seq.{drop-drop, take-all, getD-take}
 use Rattle.tokens.specs.declared.Property.{Property}
-use Rattle.tokens.specs.Tokens.{Shown, tokenWords}
+use Rattle.tokens.specs.Tokens.{Shown, Token, shownWords, tokenWords, shownBy}
 use Rattle.tokens.specs.declared.item.Item.{Item}
 use Rattle.tokens.specs.declared.item.Item.the-variants.{Text, Opening, Closing, LineBreak, Ignorable}
-use Rattle.tokens.specs.Items.{propertyOf, wordItem, itemOf, itemAt, part, shownOf, shownAll}
+use Rattle.tokens.specs.Items.{propertyOf, wordItem, itemOf, itemAt, part, shownOf, shownAll, tokenAt, tokensAll}
 
 module _ (ws : List ℕ) where
   pub item-opening : getD ws 0 0 ≡ 1 → Opening ≡ itemAt ws
@@ -96,6 +98,11 @@ item-take m ws h =
       getD-take m ws 5 0 (omega arith),
     )
 
+-- a token, of the words up to a place behind it
+token-take : (src : List ℕ) (m : ℕ) (ws : List ℕ) → tokenWords ≤ m → tokenAt src (take m ws) ≡ tokenAt src ws
+token-take src m ws h =
+    rw (item-take m ws h, getD-take m ws shownWords 0 (omega arith), getD-take m ws (shownWords + 1) 0 (omega arith))
+
 module _ (src : List ℕ) where
   pub shown-none : (n : ℕ) (ws : List ℕ) → n ≤ 0 → shownAll src n ws ≡ []
   unfolding shownAll
@@ -108,26 +115,43 @@ module _ (src : List ℕ) where
   shown-some zero ws h = absurd (not-suc-le-zero h)
   shown-some (suc n) ws h = let q : suc n - 1 ≡ n = omega arith in rw (q, rest-drop)
 
-  drop-words : (k n : ℕ) (ws : List ℕ) → k ≤ n → drop k (shownAll src n ws) ≡ shownAll src (n - k) (drop (k * tokenWords) ws)
-  unfolding shownAll
-  drop-words zero n ws h = let q : n - 0 ≡ n = omega arith in rw q
-  drop-words (suc k) zero ws h = absurd (not-suc-le-zero h)
-  drop-words (suc k) (suc n) ws h =
+  pub tokens-none : (n : ℕ) (ws : List ℕ) → n ≤ 0 → tokensAll src n ws ≡ []
+  unfolding tokensAll
+  tokens-none zero ws h = refl
+  tokens-none (suc n) ws h = absurd (not-suc-le-zero h)
+
+  -- the first token, and the rest
+  pub tokens-some : (n : ℕ) (ws : List ℕ) → 0 < n → tokensAll src n ws ≡ tokenAt src ws ∷ tokensAll src (n - 1) (rest ws tokenWords)
+  unfolding tokensAll
+  tokens-some zero ws h = absurd (not-suc-le-zero h)
+  tokens-some (suc n) ws h = let q : suc n - 1 ≡ n = omega arith in rw (q, rest-drop)
+
+  drop-tokens : (k n : ℕ) (ws : List ℕ) → k ≤ n → drop k (tokensAll src n ws) ≡ tokensAll src (n - k) (drop (k * tokenWords) ws)
+  unfolding tokensAll
+  drop-tokens zero n ws h = let q : n - 0 ≡ n = omega arith in rw q
+  drop-tokens (suc k) zero ws h = absurd (not-suc-le-zero h)
+  drop-tokens (suc k) (suc n) ws h =
       let q : suc n - suc k ≡ n - k = omega arith in
       let x : tokenWords + k * tokenWords ≡ suc k * tokenWords = omega arith in
       let e : drop (suc k * tokenWords) ws ≡ drop (k * tokenWords) (drop tokenWords ws) = sym (drop-drop (k * tokenWords) tokenWords ws ∙ ap (λ (m : ℕ). drop m ws) x) in
-      rw (q, e) (drop-words k n (drop tokenWords ws) (omega arith))
+      rw (q, e) (drop-tokens k n (drop tokenWords ws) (omega arith))
 
   -- the tokens behind the first k
-  pub shown-drop : (k n : ℕ) (ws : List ℕ) → k ≤ n → drop k (shownAll src n ws) ≡ shownAll src (n - k) (rest ws (k * tokenWords))
-  shown-drop k n ws h = rw rest-drop (drop-words k n ws h)
+  pub tokens-drop : (k n : ℕ) (ws : List ℕ) → k ≤ n → drop k (tokensAll src n ws) ≡ tokensAll src (n - k) (rest ws (k * tokenWords))
+  tokens-drop k n ws h = rw rest-drop (drop-tokens k n ws h)
 
   -- the first k tokens
-  pub shown-take : (k n : ℕ) (ws : List ℕ) → k ≤ n → take k (shownAll src n ws) ≡ shownAll src k (take (k * tokenWords) ws)
-  unfolding shownAll
-  shown-take zero n ws h = refl
-  shown-take (suc k) zero ws h = absurd (not-suc-le-zero h)
-  shown-take (suc k) (suc n) ws h =
+  pub tokens-take : (k n : ℕ) (ws : List ℕ) → k ≤ n → take k (tokensAll src n ws) ≡ tokensAll src k (take (k * tokenWords) ws)
+  unfolding tokensAll
+  tokens-take zero n ws h = refl
+  tokens-take (suc k) zero ws h = absurd (not-suc-le-zero h)
+  tokens-take (suc k) (suc n) ws h =
       let x : suc k * tokenWords ≡ tokenWords + k * tokenWords = omega arith in
-      rw (x, item-take (tokenWords + k * tokenWords) ws (omega arith), drop-take tokenWords (k * tokenWords) ws)
-      (ap (λ (ts : List Shown). shownOf src (itemAt ws) ∷ ts) (shown-take k n (drop tokenWords ws) (omega arith)))
+      rw (x, token-take src (tokenWords + k * tokenWords) ws (omega arith), drop-take tokenWords (k * tokenWords) ws)
+      (ap (λ (ts : List Token). tokenAt src ws ∷ ts) (tokens-take k n (drop tokenWords ws) (omega arith)))
+
+  -- what they show
+  pub tokens-shown : (n : ℕ) (ws : List ℕ) → shownBy (tokensAll src n ws) ≡ shownAll src n ws
+  unfolding tokensAll shownAll shownBy
+  tokens-shown zero ws = refl
+  tokens-shown (suc n) ws = ap (λ (xs : List Shown). shownOf src (itemAt ws) ∷ xs) (tokens-shown n (drop tokenWords ws))

@@ -1,13 +1,13 @@
--- 01, Cutting: a token's six words, read back: what the token shows, given the source that its places point into.
+-- 01, Cutting, and 02, A4: a token's eight words, read back: the token, given the source that its places point into.
 -- Assumes nothing: these are definitions.
-use Prim.Native.Nat.{ℕ, zero, suc}
+use Prim.Native.Nat.{ℕ, zero, suc, _+_}
 use mathlib.Core.List.{List, [], _∷_}
 use mathlib.Core.Bool.{cond}
 use lib.ListN.{getD, take, drop}
 use lib.Dec.{eqb}
 use Rattle.tokens.specs.declared.Property.{Property}
 use Rattle.tokens.specs.declared.Property.the-variants.{None, Value}
-use Rattle.tokens.specs.Tokens.{Shown, tokenWords}
+use Rattle.tokens.specs.Tokens.{Shown, Token, token, shownWords, tokenWords}
 use Rattle.tokens.specs.Tokens
 use Rattle.tokens.specs.declared.item.Item.{Item}
 use Rattle.tokens.specs.declared.item.Item.the-variants.{Text, Opening, Closing, LineBreak, Ignorable, Word, Unknown}
@@ -52,3 +52,15 @@ shownOf src (Unknown p n num) = Shown.unknown p (part src p n) num
 unfoldable pub shownAll : List ℕ → ℕ → List ℕ → List Shown
 shownAll src zero ws = []
 shownAll src (suc n) ws = shownOf src (itemAt ws) ∷ shownAll src n (drop tokenWords ws)
+
+-- "place and length" of the slice
+abbrev pub sliceAt : List ℕ → ℕ
+sliceAt ws = getD ws shownWords 0
+
+abbrev pub tokenAt : List ℕ → List ℕ → Token
+tokenAt src ws = token (sliceAt ws) (getD ws (shownWords + 1) 0) (shownOf src (itemAt ws))
+
+-- the first n tokens of a room
+unfoldable pub tokensAll : List ℕ → ℕ → List ℕ → List Token
+tokensAll src zero ws = []
+tokensAll src (suc n) ws = tokenAt src ws ∷ tokensAll src n (drop tokenWords ws)

@@ -1,8 +1,11 @@
--- 01, Cutting: what a token is, and its six words. Assumes nothing: these are definitions.
-use Prim.Native.Nat.{ℕ}
-use mathlib.Core.List.{List, [], _∷_}
+-- 01, Cutting, and 02, A4: what a token is, and its eight words. Assumes nothing: these are definitions.
+use Prim.Native.Nat.{ℕ, zero, suc, _+_, _*_}
+use mathlib.Core.List.{List, [], _∷_, _++_}
+use mathlib.Core.Bool.{cond}
 use lib.ListN.{length}
-use Rattle.rooms.specs.Rooms.{Layout}
+use lib.Seq.{sets}
+use lib.Dec.{ltb}
+use Rattle.rooms.specs.Rooms.{Layout, capacity}
 use Rattle.tokens.specs.declared.Property.{Property}
 use Rattle.tokens.specs.declared.Property.the-variants.{None, Value}
 use Rattle.tokens.specs.declared.Record.{Record}
@@ -20,16 +23,23 @@ pub data Shown : Type 0 where
   word : ℕ → Property → Shown
   unknown : ℕ → List ℕ → Property → Shown
 
--- a token: the place and the length of the slice that it was cut from, and what it shows
-pub record Token : Type 0 where
-  pub place : ℕ
-  pub length : ℕ
-  pub shows : Shown
+-- a token: "the place of their slice in two further words, place and length", and what it shows
+pub data Token : Type 0 where
+  token : ℕ → ℕ → Shown → Token
+
+abbrev pub sliceOf : Token → ℕ
+sliceOf (token p n x) = p
+
+abbrev pub sliceLengthOf : Token → ℕ
+sliceLengthOf (token p n x) = n
+
+abbrev pub shownIn : Token → Shown
+shownIn (token p n x) = x
 
 -- what tokens show
 unfoldable pub shownBy : List Token → List Shown
 shownBy [] = []
-shownBy (t ∷ ts) = t .shows ∷ shownBy ts
+shownBy (t ∷ ts) = shownIn t ∷ shownBy ts
 
 -- "1 if a number is present, that number modulo 2^32"
 abbrev pub hasOf : Property → ℕ
@@ -65,16 +75,31 @@ recordOf ignorable = bareRecord 4
 recordOf (word w num) = wordRecord w num
 recordOf (unknown p bs num) = unknownRecord p (length bs) num
 
--- "A token is six u32"
+-- "A token is six u32"; "two further words, place and length"
+abbrev pub shownWords : ℕ
+shownWords = 6
+
 abbrev pub tokenWords : ℕ
-tokenWords = 6
+tokenWords = shownWords + 2
 
 abbrev pub recordWords : Record → List ℕ
 recordWords t = t .kind ∷ t .word ∷ t .has ∷ t .number ∷ t .place ∷ t .length ∷ []
+
+abbrev pub sliceWords : ℕ → ℕ → List ℕ
+sliceWords p n = p ∷ n ∷ []
 
 -- how what a token shows, and how a token, stands in a room
 abbrev pub shownLayout : Layout Shown
 shownLayout = record { width = tokenWords; words = λ s. recordWords (recordOf s) }
 
 abbrev pub tokenLayout : Layout Token
-tokenLayout = record { width = tokenWords; words = λ t. recordWords (recordOf (t .shows)) }
+tokenLayout = record { width = tokenWords; words = λ t. recordWords (recordOf (shownIn t)) ++ sliceWords (sliceOf t) (sliceLengthOf t) }
+
+-- the room with the place and the length of a slice behind what the token at n shows, if it holds that token
+unfoldable pub sealed : ℕ → ℕ → List ℕ → ℕ → List ℕ
+sealed p l room n = cond (ltb n (capacity tokenWords (length room))) (sets room (n * tokenWords + shownWords) (sliceWords p l)) room
+
+-- the same for k tokens from n on
+unfoldable pub sealedAll : ℕ → ℕ → List ℕ → ℕ → ℕ → List ℕ
+sealedAll p l room n zero = room
+sealedAll p l room n (suc k) = sealedAll p l (sealed p l room n) (n + 1) k

@@ -1,17 +1,19 @@
-// Items: a token's record of six words, read back (01, Cutting). The reader sees a letter's tokens through it.
+// Items: a token's record, read back (01, Cutting). The reader sees a letter's tokens through it.
 //
 //   Item       what a token shows; a text and an unknown word by place and length
 //   item_at    the token that a slice of words starts with
 //   number_at  its number, if it is a word
+//   slice_at   the place of the slice that it was cut from
 //   part       the bytes of the source that an item points at
 use crate::Property;
+use crate::SLICE;
 use crate::words;
 use rooms::wide;
 ghost use mathlib.Core.Path.{_≡_};
 ghost use Prim.Native.Nat.{_≤_, _<_};
 ghost use lib.ListN.{length};
 ghost use Rattle.tokens.specs.Tokens.{valueOf, tokenWords};
-ghost use Rattle.tokens.specs.Items.{propertyOf, numberAt, wordItem, itemAt, part as partOf};
+ghost use Rattle.tokens.specs.Items.{propertyOf, numberAt, wordItem, itemAt, sliceAt, part as partOf};
 
 pub enum Item {
     Text(u32, u32),
@@ -49,6 +51,14 @@ pub fn number_at(t: &[u32]) -> Property
     let has = t[2];
     let number = t[3];
     property(has, number)
+}
+
+// The place of the slice that the first token of a slice of words was cut from.
+pub fn slice_at(t: &[u32]) -> u32
+    requires { ⌜ tokenWords ≤ length (now t) ⌝ }
+    ensures { λ r. ⌜ r ≡ sliceAt (now (t .entry)) ⌝ }
+{
+    t[SLICE]
 }
 
 // The first token of a slice of words.

@@ -1,19 +1,26 @@
-// Tokens: what a slice of a letter shows, and its record of six words in the token room (01, Cutting; `tokens.rs` in the crate).
+// Tokens: what a slice of a letter shows, and its record of eight words in the token room (01, Cutting, and 02, A4; `tokens.rs` in
+// the crate).
 //
 //   Property   the number that may end a word
 //   Record     six words: kind, word number, 1 if a number is present, that number, source place, length
 //   put        writes a record at its place in a room
+//   seal       writes the two words behind it: place and length of the slice that it was cut from
 //
-// The definitions say more of a token than its six words do: they keep the slice that it was cut from.
+// What a slice shows is found by functions that see a part of the slice; the cutter's loop, which holds all of it, seals.
 pub mod item;
 pub mod words;
 
 ghost use mathlib.Core.Path.{_≡_};
+ghost use Prim.Native.Nat.{_-_, _≤_};
 ghost use Rattle.rooms.specs.Rooms.{put as putWords};
-ghost use Rattle.tokens.specs.Tokens.{tokenWords, recordWords, hasOf, valueOf, bareRecord, textRecord, wordRecord, unknownRecord};
+ghost use Rattle.tokens.specs.Tokens.{tokenWords, recordWords, hasOf, valueOf, bareRecord, textRecord, wordRecord, unknownRecord, sealed, sealedAll};
 
-// How many words a record has.
-pub const TOKEN_WORDS: usize = 6;
+// How many words a token has, and where those of its slice stand.
+pub const TOKEN_WORDS: usize = 8;
+
+pub const SLICE: usize = 6;
+
+pub const SLICE_LENGTH: usize = 7;
 
 pub enum Property {
     None,
@@ -124,5 +131,28 @@ pub fn put(room: &mut [u32], n: usize, t: Record)
         room[at + 3] = t.number;
         room[at + 4] = t.place;
         room[at + 5] = t.length;
+    }
+}
+
+// The room with place and length of a slice behind the record at n, if it holds that record.
+fn seal_one(room: &mut [u32], n: usize, place: u32, length: u32)
+    ensures { λ _. ⌜ now (room .exit) ≡ sealed place length (now (room .entry)) n ⌝ }
+{
+    if n < room.len() / TOKEN_WORDS {
+        let at = n * TOKEN_WORDS;
+        room[at + SLICE] = place;
+        room[at + SLICE_LENGTH] = length;
+    }
+}
+
+// The same behind the records from n up to m.
+pub fn seal(room: &mut [u32], n: usize, m: usize, place: u32, length: u32)
+    requires { ⌜ n ≤ m ⌝ }
+    ensures { λ _. ⌜ now (room .exit) ≡ sealedAll place length (now (room .entry)) n (m - n) ⌝ }
+{
+    let mut i = n;
+    while i < m {
+        seal_one(room, i, place, length);
+        i += 1;
     }
 }

@@ -8,6 +8,7 @@ use mathlib.Core.List.{List, [], _∷_, _++_}
 use Prim.Native.Nat.{ℕ, suc, _+_, _-_}
 use native.Mathlib.Omega.{arith}
 use lib.ListN.{length, replicate}
+use Rattle.answers.specs.declared.Why.{Why}
 use Rattle.answers.specs.declared.Refusal.{Refusal}
 use Rattle.answers.specs.declared.Outcome.{Outcome}
 use Rattle.answers.specs.declared.Outcome.the-variants.{Done, Refused}
@@ -82,7 +83,7 @@ abbrev textIn : Said → List ℕ
 textIn (says c) = c .text
 textIn (refuses r) = []
 
-says-refuses : {c : Content} {r : Refusal} → says c ≡ refuses r → ⊥
+says-refuses : {c : Content} {r : Why} → says c ≡ refuses r → ⊥
 says-refuses e = let z : _≡_ {A = ℕ} 0 1 = cc in omega arith
 
 -- ---- two calls
@@ -148,9 +149,9 @@ module _ (a b : List ℕ) (z y : Sizes) (same : SameRooms z y) where
         font-rooms = filled-unplaced (l .tables .fonts) (k .tables .fonts) (ap fontsOf o);
       }
 
-  same-refused : (r q : Refusal) → refuses r ≡ refuses q → Left (refused r) (refused q)
+  same-refused : (r q : Refusal) → refuses (r .why) ≡ refuses (q .why) → Left (refused r) (refused q)
   same-refused r q e =
-      let k : r ≡ q = cc in
+      let k : r .why ≡ q .why = cc in
       record {
         number = rw k;
         font-count = refl;

@@ -14,7 +14,7 @@ use Rattle.answers.specs.Answers.{refusal}
 use Rattle.rooms.specs.Streams.{items, answer}
 use Rattle.rooms.specs.Rooms.{settled}
 use Rattle.rooms.proofs.Streams.{done-refused}
-use Rattle.tokens.specs.Tokens.{Shown, tokenLayout, shownBy}
+use Rattle.tokens.specs.Tokens.{Token, tokenLayout}
 use Rattle.cutter.specs.Cutting.{tokenStream, cutAnswer}
 use Rattle.walk.specs.Walk.{Step, walk}
 use Rattle.readings.specs.declared.Reading.{Reading}
@@ -42,14 +42,14 @@ cut-whole src total {n} e = go (answer 0 (tokenStream src)) refl e
 
 -- the steps of the walk, without places
 steps : List ℕ → List Step
-steps src = bareSteps (walk (shownBy (items (tokenStream src))))
+steps src = bareSteps (walk (items (tokenStream src)))
 
 -- a font's name, read from the source, is the name that the font table gives
 pub said-own : (rd : Reading) (src : List ℕ) (z : Sizes) {n : ℕ} → cutAnswer src (z .tokens) ≡ Done n
     → said rd src z ≡ sayOf (letterOf rd src z)
 unfolding said letterOf
 said-own rd src z e =
-    let ts : List Shown = shownBy (items (tokenStream src)) in
+    let ts : List Token = items (tokenStream src) in
     ap (λ (o : Outcome). saidBy src (cut rd z (items (tokenStream src)) o)) e
     ∙ ap (saidBy src) (begun-steps rd z ts)
     ∙ letter-names src rd (z .fonts) (z .colours) (z .blocks) (z .text)
@@ -61,7 +61,7 @@ said-steps : (rd : Reading) (src : List ℕ) (z : Sizes) {n : ℕ} → cutAnswer
     → said rd src z ≡ sayOf (first rd (z .fonts) (z .colours) (z .blocks) (z .text) (steps src))
 unfolding letterOf steps
 said-steps rd src z e =
-    let ts : List Shown = shownBy (items (tokenStream src)) in
+    let ts : List Token = items (tokenStream src) in
     said-own rd src z e
     ∙ ap (λ (o : Outcome). sayOf (cut rd z (items (tokenStream src)) o)) e
     ∙ ap sayOf (begun-steps rd z ts)

@@ -13,7 +13,7 @@ use lib.Dec.{eqb, ltb}
 use Rattle.answers.specs.declared.Why.the-variants.{FontRoom}
 use Rattle.answers.specs.declared.Outcome.{Outcome}
 use Rattle.answers.specs.declared.Outcome.the-variants.{Done, Refused}
-use Rattle.answers.specs.Answers.{refusal, Found, found, refused}
+use Rattle.answers.specs.Answers.{Found, found, refused, Fate, becomes, fails, foundAt}
 use Rattle.bytes.specs.declared.Class.the-variants.{Semicolon}
 use Rattle.bytes.specs.Bytes.{inClass, grown, body as bodyLength}
 use Rattle.rooms.specs.Streams.{Stream, end, stop, _▸_, items, answer}
@@ -21,7 +21,7 @@ use Rattle.rooms.specs.Rooms.{tableLimit}
 use Rattle.rooms.proofs.Streams.{Each}
 use Rattle.tokens.specs.declared.Property.{Property}
 use Rattle.tokens.specs.declared.Property.the-variants.{None, Value}
-use Rattle.tokens.specs.Tokens.{Shown, Token, shownBy}
+use Rattle.tokens.specs.Tokens.{Shown, Token, token, sliceOf, shownIn, shownBy}
 use Rattle.tokens.specs.Tokens
 use Rattle.tokenize.proofs.Places.{Stands}
 use Rattle.cutter.specs.Cutting.{tokenStream}
@@ -34,7 +34,7 @@ use Rattle.fonts.specs.Fonts.{fontsFrom, fonts}
 use Rattle.colours.specs.Colours.{colours, colourWords}
 use Rattle.walk.specs.declared.Aim.{Aim}
 use Rattle.walk.specs.declared.Aim.the-variants.{Nothing, Hide, Fonts as ReadFonts, Colours as ReadColours}
-use Rattle.walk.specs.Walk.{aim, extent, Step, kept, hidden, fontTable, colourTable, entered, stepOf, passedBy, walkFrom, walk}
+use Rattle.walk.specs.Walk.{aim, extent, Step, kept, hidden, fontTable, colourTable, entered, stepBy, passedBy, walkFrom, walk}
 use Rattle.header.specs.Entering.{Tables, withFonts, withColours, readStep}
 use Rattle.header.specs.Header.{noTables, nextStep, tablesFrom, tables}
 use Rattle.readings.specs.declared.Reading.{Reading}
@@ -56,9 +56,9 @@ module _ (src : List ℕ) where
   TextAt (Shown.word w num) = Unit {0}
   TextAt (Shown.unknown p bs num) = Unit {0}
 
-  abbrev TextsAt : List Shown → Type 0
+  abbrev TextsAt : List Token → Type 0
   TextsAt [] = Unit {0}
-  TextsAt (t ∷ ts) = TextAt t × TextsAt ts
+  TextsAt (t ∷ ts) = TextAt (shownIn t) × TextsAt ts
 
   text-at : (t : Shown) → Stands src 0 t → TextAt t
   unfolding part
@@ -70,15 +70,15 @@ module _ (src : List ℕ) where
   text-at (Shown.word w num) a = tt
   text-at (Shown.unknown p bs num) a = tt
 
-  texts-at : (s : Stream Refusal Token) → Each (Placed src) s → TextsAt (shownBy (items s))
-  unfolding items shownBy
+  texts-at : (s : Stream Refusal Token) → Each (Placed src) s → TextsAt (items s)
+  unfolding items
   texts-at end h = tt
   texts-at (stop r) h = tt
-  texts-at (t ▸ s) h = (text-at (t .shows) (h .0 .0), texts-at s (h .1))
+  texts-at (t ▸ s) h = (text-at (shownIn t) (h .0 .0), texts-at s (h .1))
 
   -- ---- the tables that the walk reads
 
-  take-at : (n : ℕ) (ts : List Shown) → TextsAt ts → TextsAt (take n ts)
+  take-at : (n : ℕ) (ts : List Token) → TextsAt ts → TextsAt (take n ts)
   take-at zero ts h = tt
   take-at (suc n) [] h = tt
   take-at (suc n) (t ∷ ts) h = (h .0, take-at n ts (h .1))
@@ -93,25 +93,25 @@ module _ (src : List ℕ) where
   StepsAt [] = Unit {0}
   StepsAt (s ∷ ss) = StepAt s × StepsAt ss
 
-  entered-at : (a : Aim) (ts : List Shown) → TextsAt ts → StepAt (entered a ts)
-  entered-at Nothing ts h = tt
-  entered-at Hide ts h = tt
-  entered-at (ReadFonts late) ts h = take-at (extent 1 ts) ts h
-  entered-at (ReadColours late) ts h = tt
+  entered-at : (a : Aim) (t : Token) (ts : List Token) → TextsAt ts → StepAt (entered a t ts)
+  entered-at Nothing t ts h = tt
+  entered-at Hide t ts h = tt
+  entered-at (ReadFonts late) t ts h = take-at (extent 1 (shownBy ts)) ts h
+  entered-at (ReadColours late) t ts h = tt
 
-  step-at : (t : Shown) (ts : List Shown) → TextsAt ts → StepAt (stepOf t ts)
-  step-at Shown.opening ts h = entered-at (aim ts) ts h
-  step-at Shown.closing ts h = tt
-  step-at Shown.lineBreak ts h = tt
-  step-at Shown.ignorable ts h = tt
-  step-at (Shown.text p bs) ts h = tt
-  step-at (Shown.word w num) ts h = tt
-  step-at (Shown.unknown p bs num) ts h = tt
+  step-at : (x : Shown) (t : Token) (ts : List Token) → TextsAt ts → StepAt (stepBy x t ts)
+  step-at Shown.opening t ts h = entered-at (aim (shownBy ts)) t ts h
+  step-at Shown.closing t ts h = tt
+  step-at Shown.lineBreak t ts h = tt
+  step-at Shown.ignorable t ts h = tt
+  step-at (Shown.text p bs) t ts h = tt
+  step-at (Shown.word w num) t ts h = tt
+  step-at (Shown.unknown p bs num) t ts h = tt
 
-  walk-at : (w : ℕ) (ts : List Shown) → TextsAt ts → StepsAt (walkFrom w ts)
+  walk-at : (w : ℕ) (ts : List Token) → TextsAt ts → StepsAt (walkFrom w ts)
   unfolding walkFrom
   walk-at w [] h = tt
-  walk-at zero (t ∷ ts) h = (step-at t ts (h .1), walk-at (passedBy t ts) ts (h .1))
+  walk-at zero (t ∷ ts) h = (step-at (shownIn t) t ts (h .1), walk-at (passedBy (shownIn t) (shownBy ts)) ts (h .1))
   walk-at (suc w) (t ∷ ts) h = walk-at w ts (h .1)
 
   -- ---- a font table
@@ -127,6 +127,14 @@ module _ (src : List ℕ) where
   FontsAt (found s) = NamesAt (s .table) × NameAt (s .font)
   FontsAt (refused r) = Unit {0}
 
+  abbrev FateAt : Fate Fonts → Type 0
+  FateAt (becomes s) = NamesAt (s .table) × NameAt (s .font)
+  FateAt (fails why) = Unit {0}
+
+  found-at : (p : ℕ) (x : Fate Fonts) → FateAt x → FontsAt (foundAt p x)
+  found-at p (becomes s) h = h
+  found-at p (fails why) h = tt
+
   none-at : FontsAt (found noFonts)
   unfolding part
   none-at = (tt, refl)
@@ -141,26 +149,26 @@ module _ (src : List ℕ) where
       go false true i = (h, k .1)
       go false false i = (h, k)
 
-  stored-at : (limit : ℕ) (s : Fonts) → FontsAt (found s) → FontsAt (stored limit s)
+  stored-at : (limit : ℕ) (s : Fonts) → FontsAt (found s) → FateAt (stored limit s)
   unfolding stored
   stored-at limit s h = go (hasKey (s .font .key) (s .table) || ltb (length (s .table)) limit)
     where
       go : (x : Bool)
-          → FontsAt (cond x (found (record { table = inserted (s .font) (s .table); font = s .font })) (refused (refusal FontRoom)))
+          → FateAt (cond x (becomes (record { table = inserted (s .font) (s .table); font = s .font })) (fails FontRoom))
       go true = (inserted-at (s .font) (s .table) (h .1) (h .0), h .1)
       go false = tt
 
-  rekeyed-at : (num : Property) (x : Found Fonts) → FontsAt x → FontsAt (rekeyed num x)
-  rekeyed-at None (found s) h = tt
-  rekeyed-at (Value v) (found s) h = h
-  rekeyed-at None (refused r) h = tt
-  rekeyed-at (Value v) (refused r) h = tt
+  rekeyed-at : (num : Property) (x : Fate Fonts) → FateAt x → FateAt (rekeyed num x)
+  rekeyed-at None (becomes s) h = tt
+  rekeyed-at (Value v) (becomes s) h = h
+  rekeyed-at None (fails why) h = tt
+  rekeyed-at (Value v) (fails why) h = tt
 
-  font-word-at : (limit w : ℕ) (num : Property) (s : Fonts) → FontsAt (found s) → FontsAt (fontWord limit w num s)
+  font-word-at : (limit w : ℕ) (num : Property) (s : Fonts) → FontsAt (found s) → FateAt (fontWord limit w num s)
   unfolding fontWord
   font-word-at limit w num s h = go (eqb w 9)
     where
-      go : (x : Bool) → FontsAt (cond x (rekeyed num (stored limit s)) (found s))
+      go : (x : Bool) → FateAt (cond x (rekeyed num (stored limit s)) (becomes s))
       go true = rekeyed-at num (stored limit s) (stored-at limit s h)
       go false = h
 
@@ -194,7 +202,7 @@ module _ (src : List ℕ) where
       go true q = empty (bodyLength (inClass Semicolon) bs) (eqb-true (bodyLength (inClass Semicolon) bs) 0 q)
       go false q = part-front p (bodyLength (inClass Semicolon) bs) bs (body-le (inClass Semicolon) bs) e
 
-  font-token-at : (limit : ℕ) (t : Shown) (s : Fonts) → TextAt t → FontsAt (found s) → FontsAt (fontToken limit t s)
+  font-token-at : (limit : ℕ) (t : Shown) (s : Fonts) → TextAt t → FontsAt (found s) → FateAt (fontToken limit t s)
   unfolding fontToken
   font-token-at limit (Shown.word w num) s e h = font-word-at limit w num s h
   font-token-at limit (Shown.text p bs) s e h = (h .0, named-at (s .font) p bs e)
@@ -204,11 +212,11 @@ module _ (src : List ℕ) where
   font-token-at limit Shown.ignorable s e h = h
   font-token-at limit (Shown.unknown p bs num) s e h = h
 
-  next-font-at : (limit : ℕ) (x : Found Fonts) (t : Shown) → TextAt t → FontsAt x → FontsAt (nextFont limit x t)
-  next-font-at limit (found s) t e h = font-token-at limit t s e h
+  next-font-at : (limit : ℕ) (x : Found Fonts) (t : Token) → TextAt (shownIn t) → FontsAt x → FontsAt (nextFont limit x t)
+  next-font-at limit (found s) t e h = found-at (sliceOf t) (fontToken limit (shownIn t) s) (font-token-at limit (shownIn t) s e h)
   next-font-at limit (refused r) t e h = tt
 
-  fonts-from-at : (limit : ℕ) (x : Found Fonts) (ts : List Shown) → TextsAt ts → FontsAt x → FontsAt (fontsFrom limit x ts)
+  fonts-from-at : (limit : ℕ) (x : Found Fonts) (ts : List Token) → TextsAt ts → FontsAt x → FontsAt (fontsFrom limit x ts)
   unfolding fontsFrom
   fonts-from-at limit x [] e h = h
   fonts-from-at limit x (t ∷ ts) e h = fonts-from-at limit (nextFont limit x t) ts (e .1) (next-font-at limit x t (e .0) h)
@@ -271,13 +279,13 @@ module _ (src : List ℕ) where
 
     first-at : (ss : List Step) → StepsAt ss → LetterAt (first rd f c b t ss)
     first-at [] e = tt
-    first-at (kept Shown.opening ∷ ss) e = stepped-at (kept Shown.opening ∷ ss) e
-    first-at (kept Shown.closing ∷ ss) e = tt
-    first-at (kept Shown.lineBreak ∷ ss) e = tt
-    first-at (kept Shown.ignorable ∷ ss) e = tt
-    first-at (kept (Shown.text p bs) ∷ ss) e = tt
-    first-at (kept (Shown.word w num) ∷ ss) e = tt
-    first-at (kept (Shown.unknown p bs num) ∷ ss) e = tt
+    first-at (kept (token p n Shown.opening) ∷ ss) e = stepped-at (kept (token p n Shown.opening) ∷ ss) e
+    first-at (kept (token p n Shown.closing) ∷ ss) e = tt
+    first-at (kept (token p n Shown.lineBreak) ∷ ss) e = tt
+    first-at (kept (token p n Shown.ignorable) ∷ ss) e = tt
+    first-at (kept (token p n (Shown.text q bs)) ∷ ss) e = tt
+    first-at (kept (token p n (Shown.word w num)) ∷ ss) e = tt
+    first-at (kept (token p n (Shown.unknown q bs num)) ∷ ss) e = tt
     first-at (hidden ∷ ss) e = stepped-at (hidden ∷ ss) e
     first-at (fontTable late ts ∷ ss) e = stepped-at (fontTable late ts ∷ ss) e
     first-at (colourTable late ts ∷ ss) e = stepped-at (colourTable late ts ∷ ss) e
@@ -297,7 +305,7 @@ module _ (src : List ℕ) where
 
   -- what a source's steps say, its names read from the source or told by their bytes
   pub letter-names : (rd : Reading) (f c b t : ℕ)
-      → let x : Found Letter = first rd f c b t (walk (shownBy (items (tokenStream src)))) in saidBy src x ≡ sayOf x
+      → let x : Found Letter = first rd f c b t (walk (items (tokenStream src))) in saidBy src x ≡ sayOf x
   letter-names rd f c b t =
-      let ss : List Step = walk (shownBy (items (tokenStream src))) in
-      said-own (first rd f c b t ss) (first-at rd f c b t ss (walk-at 0 (shownBy (items (tokenStream src))) (texts-at (tokenStream src) (stream-places src))))
+      let ss : List Step = walk (items (tokenStream src)) in
+      said-own (first rd f c b t ss) (first-at rd f c b t ss (walk-at 0 (items (tokenStream src)) (texts-at (tokenStream src) (stream-places src))))

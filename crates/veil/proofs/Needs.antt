@@ -1,11 +1,11 @@
--- Why each premise of `hidden-stays-hidden`, and each of `Ignored`, is asked: letters without it whose readings differ from
+-- Why each premise of `hidden-stays-hidden`, and each of `Ignored`, is asked, and why places are left out: letters without it whose readings differ from
 -- that of `{a{\*x}b}`, or from one another's, by computation. A letter is heard as its answer number, its text and its fonts,
 -- which are a part of what it says. Assumes nothing.
 use mathlib.Core.Path.{_≡_, refl}
 use mathlib.Core.List.{List, [], _∷_}
-use Prim.Native.Nat.{ℕ}
+use Prim.Native.Nat.{ℕ, _*_}
 use Prim.Native.String.{String}
-use Rattle.answers.specs.Answers.{whyNumber}
+use Rattle.answers.specs.Answers.{whyNumber, Found, found, refused}
 use Rattle.bytes.specs.Bytes.{lead, body, any}
 use Rattle.bytes.specs.Texts.{bytesOf}
 use Rattle.names.specs.Names.{sameBytes, placeIn, wordNumber}
@@ -22,20 +22,20 @@ use Rattle.machine.specs.Stack.{moved}
 use Rattle.machine.specs.Machine.{gave, writtenAll, _▸▸_, settle, spoken, said as saidOf, machine}
 use Rattle.tokens.specs.Items.{part as bytesAt}
 use Rattle.walk.specs.Walk.{aimFrom, extent, walkFrom}
-use Rattle.fonts.specs.Rows.{hasKey, inserted, stored}
+use Rattle.fonts.specs.Rows.{hasKey, inserted, stored, fontWords}
 use Rattle.fonts.specs.Fonts.{named as fontNamed, fontWord, fontToken, fontsFrom, fonts}
-use Rattle.colours.specs.Colours.{colourWordOf, colourToken, coloursFrom, colours}
+use Rattle.colours.specs.Colours.{colourWordOf, colourToken, coloursFrom, colours, colourWords}
 use Rattle.header.specs.Header.{tablesFrom}
 use Rattle.readings.specs.declared.Reading.the-variants.{Plain}
 use Rattle.settings.specs.Fields.{resets, flagsOf, styleOf}
 use Rattle.settings.specs.Effects.{fitted, spacing, painterWord, paragraphWord, characterWord, endingWord, effect}
-use Rattle.blocks.specs.Pages.{blocksFrom, blocks, textOf, roomy}
-use Rattle.body.specs.Body.{deeds, body as bodyOf}
-use Rattle.parser.specs.Parsing.{placed, bodied}
+use Rattle.blocks.specs.Pages.{blocksFrom, blocks, textOf, roomy, blockWords}
+use Rattle.body.specs.Body.{acts, body as bodyOf}
+use Rattle.parser.specs.Parsing.{Letter, placed, bodied}
 use Rattle.reader.specs.Reading.{letterOf}
 use Rattle.veil.specs.Veil.{part, parts, pieces, join, shown, mask, veil}
 use Rattle.veil.specs.Said.{Named, Said, refuses, says, namesIn, said}
-use Rattle.tokens.specs.Tokens.{shownBy}
+use Rattle.tokens.specs.Tokens.{shownBy, tokenWords}
 
 record Heard : Type 0 where
   number : ℕ
@@ -44,9 +44,9 @@ record Heard : Type 0 where
 
 abbrev heard : Said → Heard
 heard (says c) = record { number = 0; text = c .text; fonts = c .fonts }
-heard (refuses r) = record { number = whyNumber (r .why); text = []; fonts = [] }
+heard (refuses why) = record { number = whyNumber why; text = []; fonts = [] }
 
--- a letter; the words of its token room, the bytes of its text room; and what is heard
+-- a letter; the tokens that its room holds, the bytes of its text room; and what is heard
 record Case : Type 0 where
   letter : String
   tokens : ℕ
@@ -55,7 +55,7 @@ record Case : Type 0 where
 
 -- rooms that are large enough
 case : String → Heard → Case
-case s h = record { letter = s; tokens = 600; text = 16; hears = h }
+case s h = record { letter = s; tokens = 75; text = 16; hears = h }
 
 inRooms : ℕ → ℕ → String → Heard → Case
 inRooms n m s h = record { letter = s; tokens = n; text = m; hears = h }
@@ -79,10 +79,10 @@ cases =
     -- cut without refusal: there is a refusal inside
     ∷ case "{a{\\*{\\'zz}}b}" (refusal 4)
     -- token room enough for each: 7 tokens find room, 9 do not
-    ∷ inRooms 42 16 "{a{\\*x}b}" (text "ab")
-    ∷ inRooms 42 16 "{a{\\*{}}b}" (refusal 7)
+    ∷ inRooms 7 16 "{a{\\*x}b}" (text "ab")
+    ∷ inRooms 7 16 "{a{\\*{}}b}" (refusal 7)
     -- other rooms of the same sizes: a text room of 1
-    ∷ inRooms 600 1 "{a{\\*x}b}" (refusal 20)
+    ∷ inRooms 75 1 "{a{\\*x}b}" (refusal 20)
     -- closed by its own bracket: one that closes an inner group; one that is text; one that is glued to a slice
     ∷ case "{a{\\*{x}b}" (text "a")
     ∷ case "{a{\\*x\\}b}" (text "a")
@@ -123,15 +123,15 @@ Heards [] = Unit {0}
 Heards (x ∷ xs) =
     (heard (said Plain (bytesOf (x .letter)) (record {
       tokens =
-          x .tokens;
-      fonts = 9;
-      colours = 3;
-      blocks = 39;
+          x .tokens * tokenWords;
+      fonts = 3 * fontWords;
+      colours = 3 * colourWords;
+      blocks = 3 * blockWords;
       text = x .text;
     })) ≡ x .hears) × Heards xs
 
 needs : Heards cases
-unfolding cases case inRooms text bytes refusal font said letterOf shownBy bodied placed roomy bodyOf deeds machine moved saidOf spoken gave settle writtenAll _▸▸_ blocks blocksFrom textOf walkFrom extent aimFrom tablesFrom fonts fontsFrom fontToken fontWord stored inserted hasKey fontNamed colours coloursFrom colourToken colourWordOf tableLimit values step metAny met taken unitOf utf8 written effect painterWord paragraphWord characterWord endingWord fitted spacing resets styleOf flagsOf cutAnswer tokenStream trimmed allSlices last located settled ended items each andThen split slices lead body any tokens escaped other word wordTail bareLength named numbered shownWord lineBreakAnd hexEscape hexValue plain mark wordNumber placeIn sameBytes hexDigit hexPair digitsFrom digits decimal namesIn bytesAt
+unfolding cases case inRooms text bytes refusal font said letterOf shownBy bodied placed roomy bodyOf acts machine moved saidOf spoken gave settle writtenAll _▸▸_ blocks blocksFrom textOf walkFrom extent aimFrom tablesFrom fonts fontsFrom fontToken fontWord stored inserted hasKey fontNamed colours coloursFrom colourToken colourWordOf tableLimit values step metAny met taken unitOf utf8 written effect painterWord paragraphWord characterWord endingWord fitted spacing resets styleOf flagsOf cutAnswer tokenStream trimmed allSlices last located settled ended items each andThen split slices lead body any tokens escaped other word wordTail bareLength named numbered shownWord lineBreakAnd hexEscape hexValue plain mark wordNumber placeIn sameBytes hexDigit hexPair digitsFrom digits decimal namesIn bytesAt
 needs =
     (refl, (refl, (refl, (refl, (refl, (refl, (refl, (refl, (refl, (refl, (refl, (refl, (refl, (refl, (refl, (refl, (refl, (refl, (refl, (refl, (refl, tt)))))))))))))))))))))
 
@@ -139,3 +139,23 @@ needs =
 refused-inside : veil (bytesOf "{a{\\*{\\'zz}}b}") ≡ veil (bytesOf "{a{\\*x}b}")
 unfolding veil pieces join mask parts part shown aimFrom trimmed items andThen split slices lead body tokens escaped other word wordTail bareLength named numbered shownWord lineBreakAnd hexEscape hexValue plain mark wordNumber placeIn sameBytes hexDigit hexPair digitsFrom digits decimal
 refused-inside = refl
+
+-- numbers and no places: what is hidden moves what comes behind it
+abbrev place : Found Letter → ℕ
+place (found l) = 0
+place (refused r) = r .place
+
+abbrev refusedAt : String → ℕ
+refusedAt s = place (letterOf Plain (bytesOf s) (record { tokens = 75 * tokenWords; fonts = 3 * fontWords; colours = 3 * colourWords; blocks = 3 * blockWords; text = 16 }))
+
+first-place : refusedAt "{a{\\*x}\\fs-1}" ≡ 7
+unfolding letterOf shownBy bodied placed roomy bodyOf acts machine moved saidOf spoken gave settle writtenAll _▸▸_ blocks blocksFrom textOf walkFrom extent aimFrom tablesFrom fonts fontsFrom fontToken fontWord stored inserted hasKey fontNamed colours coloursFrom colourToken colourWordOf tableLimit values step metAny met taken unitOf utf8 written effect painterWord paragraphWord characterWord endingWord fitted spacing resets styleOf flagsOf cutAnswer tokenStream trimmed allSlices last located settled ended items each andThen split slices lead body any tokens escaped other word wordTail bareLength named numbered shownWord lineBreakAnd hexEscape hexValue plain mark wordNumber placeIn sameBytes hexDigit hexPair digitsFrom digits decimal
+first-place = refl
+
+second-place : refusedAt "{a{\\*xyz}\\fs-1}" ≡ 9
+unfolding letterOf shownBy bodied placed roomy bodyOf acts machine moved saidOf spoken gave settle writtenAll _▸▸_ blocks blocksFrom textOf walkFrom extent aimFrom tablesFrom fonts fontsFrom fontToken fontWord stored inserted hasKey fontNamed colours coloursFrom colourToken colourWordOf tableLimit values step metAny met taken unitOf utf8 written effect painterWord paragraphWord characterWord endingWord fitted spacing resets styleOf flagsOf cutAnswer tokenStream trimmed allSlices last located settled ended items each andThen split slices lead body any tokens escaped other word wordTail bareLength named numbered shownWord lineBreakAnd hexEscape hexValue plain mark wordNumber placeIn sameBytes hexDigit hexPair digitsFrom digits decimal
+second-place = refl
+
+same-veil : veil (bytesOf "{a{\\*x}\\fs-1}") ≡ veil (bytesOf "{a{\\*xyz}\\fs-1}")
+unfolding veil pieces join mask parts part shown aimFrom trimmed items andThen split slices lead body tokens escaped other word wordTail bareLength named numbered shownWord lineBreakAnd hexEscape hexValue plain mark wordNumber placeIn sameBytes hexDigit hexPair digitsFrom digits decimal
+same-veil = refl

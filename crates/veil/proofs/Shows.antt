@@ -13,7 +13,7 @@ use borrow.Author.Tests.{eqb-true}
 use Rattle.answers.specs.declared.Refusal.{Refusal}
 use Rattle.answers.specs.declared.Why.the-variants.{SourceTooLong, NotAscii, LastSlice, HexShort, HexBad, NumberBad}
 use Rattle.answers.specs.declared.Outcome.the-variants.{Done}
-use Rattle.answers.specs.Answers.{refusal}
+use Rattle.answers.specs.Answers.{refusal, refusalAt}
 use Rattle.bytes.specs.declared.Class.the-variants.{White, WordEnd, InWord, Space, Numeral}
 use Rattle.bytes.specs.Bytes.{isLetter, isHigh, inClass, lead, body, any}
 use Rattle.numbers.specs.declared.Number.{Number}
@@ -25,11 +25,11 @@ use Rattle.rooms.proofs.Streams.{done-refused}
 use Rattle.slices.specs.Slices.{slices}
 use Rattle.tokens.specs.declared.Property.{Property}
 use Rattle.tokens.specs.declared.Property.the-variants.{None, Value}
-use Rattle.tokens.specs.Tokens.{Shown, Token, shownBy}
+use Rattle.tokens.specs.Tokens.{Shown, Token, token, shownIn, shownBy}
 use Rattle.tokens.specs.Tokens
 use Rattle.tokenize.specs.Tokenize.{isMark, isEscape, mark, plain, hexValue, hexEscape, lineBreakAnd, shownWord, numbered}
 use Rattle.tokenize.specs.Tokenize.{named, bareLength, wordTail, word, other, escaped, tokens}
-use Rattle.cutter.specs.Cutting.{locate, located, last, allSlices, trimStart, trimmed, tokenStream}
+use Rattle.cutter.specs.Cutting.{located, last, allSlices, trimStart, trimmed, tokenStream}
 use Rattle.veil.specs.Veil.{flat, part, parts, pieces, shown}
 use Rattle.veil.proofs.Bare.{bare, bareAll, bare-append, side, Flat, none, some}
 use Rattle.answers.specs.declared.Why.{Why}
@@ -205,7 +205,7 @@ shown-append (p ∷ a) b = rw (shown-append a b, append-assoc)
 abbrev sight : Stream Refusal Token → List Shown
 sight s = bareAll (shownBy (items s))
 
-shown-each : (p n : ℕ) (s : Stream Why Shown) → shownBy (items (each refusal (locate p n) s)) ≡ items s
+shown-each : (p n : ℕ) (s : Stream Why Shown) → shownBy (items (each (λ (w : Why). refusalAt w p) (token p n) s)) ≡ items s
 unfolding shownBy items each
 shown-each p n end = refl
 shown-each p n (stop r) = refl
@@ -218,7 +218,7 @@ shown-located p s = shown-each p (length s) (tokens p s)
 shown-by-append : (a b : List Token) → shownBy (a ++ b) ≡ shownBy a ++ shownBy b
 unfolding shownBy
 shown-by-append [] b = refl
-shown-by-append (t ∷ a) b = ap (λ (l : List Shown). t .shows ∷ l) (shown-by-append a b)
+shown-by-append (t ∷ a) b = ap (λ (l : List Shown). shownIn t ∷ l) (shown-by-append a b)
 
 last-shows : (p : ℕ) (s : List ℕ) → whole (last p s) ≡ true → sight (last p s) ≡ bareAll (shown (part s ++ []))
 unfolding last whole
@@ -228,8 +228,8 @@ last-shows p (b ∷ []) h = go (eqb b 125) refl h
     closed : (c : ℕ) → c ≡ 125 → Shown.closing ∷ [] ≡ bareAll (shown (part (c ∷ []) ++ []))
     closed c e = rw e (unfold part shown tokens mark andThen items bareAll in refl)
 
-    go : (x : Bool) → eqb b 125 ≡ x → whole (cond x (locate p 1 Shown.closing ▸ end) (stop (refusal LastSlice))) ≡ true
-        → bareAll (shownBy (items (cond x (locate p 1 Shown.closing ▸ end) (stop (refusal LastSlice))))) ≡ bareAll (shown (part (b ∷ []) ++ []))
+    go : (x : Bool) → eqb b 125 ≡ x → whole (cond x (token p 1 Shown.closing ▸ end) (stop (refusalAt LastSlice p))) ≡ true
+        → bareAll (shownBy (items (cond x (token p 1 Shown.closing ▸ end) (stop (refusalAt LastSlice p))))) ≡ bareAll (shown (part (b ∷ []) ++ []))
     go true e h = unfold items shownBy bareAll in closed b (eqb-true b 125 e)
     go false e h = absurd (unfold whole in false≢true h)
 last-shows p (b ∷ c ∷ s) h = absurd (false≢true h)

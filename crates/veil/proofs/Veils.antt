@@ -14,12 +14,11 @@ use Rattle.walk.specs.declared.Aim.the-variants.{Nothing, Hide, Fonts, Colours}
 use Rattle.walk.specs.Walk.{aim, walk}
 use Rattle.veil.specs.Veil.{Side, up, down, flat, Mode, going, passing, reading, next, pieces, join, shown, sideOf, cover}
 use Rattle.veil.specs.Veil.{mask, veil}
-use Rattle.veil.proofs.Bare.{bareSteps, bare-walk}
+use Rattle.veil.proofs.Bare.{steps, bareSteps, bare-walk, bare-steps}
 use Rattle.veil.proofs.Pieces.{fits, Cut, none, mark, run, recut, cut-pieces}
 use Rattle.veil.proofs.Shows.{whole, stream-shows}
 use Rattle.veil.proofs.Walks.{Sorted, none as sorted-none, opens, closes, stays, sorted, Seen, goes, reads, run-side}
 use Rattle.veil.proofs.Walks.{walk-mask}
-use Rattle.tokens.specs.Tokens.{shownBy}
 
 -- where a run ends depends on the next byte alone
 fits-head : (b : ℕ) (t : List ℕ) (c : ℕ) (r s : List ℕ) → fits b t (c ∷ r) ≡ fits b t (c ∷ s)
@@ -89,16 +88,16 @@ pieces-veil src = recut (cut-mask (cut-pieces (trimmed src)) going)
 
 -- the steps of a letter that is cut without refusal are those of its veil, but for places
 walk-veil : (src : List ℕ) → whole (tokenStream src) ≡ true
-    → bareSteps (walk (shownBy (items (tokenStream src)))) ≡ bareSteps (walk (shown (pieces (veil src))))
+    → bareSteps (walk (items (tokenStream src))) ≡ bareSteps (steps (shown (pieces (veil src))))
 walk-veil src w =
     let ps : List (List ℕ) = pieces (trimmed src) in
-    bare-walk (shownBy (items (tokenStream src)))
-    ∙ ap walk (stream-shows src w)
-    ∙ sym (bare-walk (shown ps))
+    bare-walk (items (tokenStream src))
+    ∙ ap steps (stream-shows src w)
+    ∙ sym (bare-steps (shown ps))
     ∙ ap bareSteps (sym (walk-mask (sorted (cut-pieces (trimmed src)))))
-    ∙ ap (λ (qs : List (List ℕ)). bareSteps (walk (shown qs))) (sym (pieces-veil src))
+    ∙ ap (λ (qs : List (List ℕ)). bareSteps (steps (shown qs))) (sym (pieces-veil src))
 
 -- two letters with one veil
 pub walk-same : (a b : List ℕ) → whole (tokenStream a) ≡ true → whole (tokenStream b) ≡ true → veil a ≡ veil b
-    → bareSteps (walk (shownBy (items (tokenStream a)))) ≡ bareSteps (walk (shownBy (items (tokenStream b))))
-walk-same a b u v e = walk-veil a u ∙ ap (λ (s : List ℕ). bareSteps (walk (shown (pieces s)))) e ∙ sym (walk-veil b v)
+    → bareSteps (walk (items (tokenStream a))) ≡ bareSteps (walk (items (tokenStream b)))
+walk-same a b u v e = walk-veil a u ∙ ap (λ (s : List ℕ). bareSteps (steps (shown (pieces s)))) e ∙ sym (walk-veil b v)

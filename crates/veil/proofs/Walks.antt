@@ -12,16 +12,16 @@ use lib.ListN.{take, drop}
 use lib.Dec.{eqb}
 use borrow.Author.Tests.{eqb-true, ne-eqb}
 use Rattle.rooms.specs.Streams.{andThen, items}
-use Rattle.tokens.specs.Tokens.{Shown}
+use Rattle.tokens.specs.Tokens.{Shown, Token, shownBy}
 use Rattle.tokens.specs.Tokens
 use Rattle.tokenize.specs.Tokenize.{isMark, mark, escaped, tokens}
 use Rattle.walk.specs.declared.Aim.{Aim}
 use Rattle.walk.specs.declared.Aim.the-variants.{Nothing, Hide, Fonts, Colours}
-use Rattle.walk.specs.Walk.{aimAt, aimFrom, aim, level, extent, Step, kept, hidden, fontTable, colourTable, entered}
+use Rattle.walk.specs.Walk.{aimAt, aimFrom, aim, level, extent, Step, kept, hidden, fontTable, colourTable, group, entered}
 use Rattle.walk.specs.Walk.{enteredLength, walkFrom, walk}
 use Rattle.walk.proofs.Walk.{walk-one}
 use Rattle.veil.specs.Veil.{up, down, flat, Mode, going, passing, reading, enter, shown, sideOf, cover, mask}
-use Rattle.veil.proofs.Bare.{side, Flat, none as flat-none, some as flat-some}
+use Rattle.veil.proofs.Bare.{lone, seen, steps, shown-seen, take-seen, drop-seen, side, Flat, none as flat-none, some as flat-some}
 use Rattle.veil.proofs.Pieces.{Cut, none as cut-none, mark as cut-mark, run as cut-run}
 use Rattle.veil.proofs.Shows.{calm-flat, calm-tokens}
 
@@ -114,20 +114,27 @@ flat-level (Shown.text p bs) d e = refl
 flat-level (Shown.word w num) d e = refl
 flat-level (Shown.unknown p bs num) d e = refl
 
-flat-step : (t : Shown) (ts : List Shown) → side t ≡ flat → walk (t ∷ ts) ≡ kept t ∷ walk ts
-unfolding walkFrom
-flat-step Shown.opening ts e = absurd (let z : _≡_ {A = ℕ} 0 1 = cc in omega arith)
-flat-step Shown.closing ts e = absurd (let z : _≡_ {A = ℕ} 0 1 = cc in omega arith)
-flat-step Shown.lineBreak ts e = refl
-flat-step Shown.ignorable ts e = refl
-flat-step (Shown.text p bs) ts e = refl
-flat-step (Shown.word w num) ts e = refl
-flat-step (Shown.unknown p bs num) ts e = refl
+-- a token that is no opening bracket
+steps-kept : (x : Shown) (ts : List Shown) → (side x ≡ up → ⊥) → steps (x ∷ ts) ≡ kept (lone x) ∷ steps ts
+unfolding walkFrom seen
+steps-kept Shown.opening ts e = absurd (e refl)
+steps-kept Shown.closing ts e = refl
+steps-kept Shown.lineBreak ts e = refl
+steps-kept Shown.ignorable ts e = refl
+steps-kept (Shown.text p bs) ts e = refl
+steps-kept (Shown.word w num) ts e = refl
+steps-kept (Shown.unknown p bs num) ts e = refl
 
-flat-walk : {c : List Shown} (x y : List Shown) → Flat c → walk x ≡ walk y → walk (c ++ x) ≡ walk (c ++ y)
+flat-up : (x : Shown) → side x ≡ flat → side x ≡ up → ⊥
+flat-up x e f = let z : flat ≡ up = sym e ∙ f in let y : _≡_ {A = ℕ} 0 1 = cc in omega arith
+
+flat-step : (t : Shown) (ts : List Shown) → side t ≡ flat → steps (t ∷ ts) ≡ kept (lone t) ∷ steps ts
+flat-step t ts e = steps-kept t ts (flat-up t e)
+
+flat-walk : {c : List Shown} (x y : List Shown) → Flat c → steps x ≡ steps y → steps (c ++ x) ≡ steps (c ++ y)
 flat-walk x y flat-none e = e
 flat-walk x y (flat-some {t} {ts = c} f h) e =
-    flat-step t (c ++ x) f ∙ ap (λ (ss : List Step). kept t ∷ ss) (flat-walk x y h e) ∙ sym (flat-step t (c ++ y) f)
+    flat-step t (c ++ x) f ∙ ap (λ (ss : List Step). kept (lone t) ∷ ss) (flat-walk x y h e) ∙ sym (flat-step t (c ++ y) f)
 
 -- ---- inside a group
 
@@ -160,7 +167,7 @@ extent-flat d t ts e = rw (flat-level t d e, not-zero d)
 -- two token lists whose groups, and what is behind them, are read alike
 record Same (d : ℕ) (x y : List Shown) : Type 0 where
   in-it : inside d x ≡ inside d y
-  behind-it : walk (outside d x) ≡ walk (outside d y)
+  behind-it : steps (outside d x) ≡ steps (outside d y)
 
 same-open : (d : ℕ) (x y : List Shown) → Same (suc d) x y → Same d (Shown.opening ∷ x) (Shown.opening ∷ y)
 unfolding inside outside
@@ -169,7 +176,7 @@ same-open d x y s = record {
   behind-it = rw (extent-open d x, extent-open d y) (s .behind-it);
 }
 
-same-close : (x y : List Shown) → walk x ≡ walk y → Same 0 (Shown.closing ∷ x) (Shown.closing ∷ y)
+same-close : (x y : List Shown) → steps x ≡ steps y → Same 0 (Shown.closing ∷ x) (Shown.closing ∷ y)
 unfolding inside outside
 same-close x y e = record {
   in-it = rw (extent-close x, extent-close y);
@@ -223,79 +230,96 @@ outside-flat d ts (flat-some {t} {ts = c} e h) = rw (extent-flat d t (c ++ ts) e
 
 -- what is to be shown of pieces, by where the walk is
 abbrev Masked : Mode → List (List ℕ) → Type 0
-Masked going ps = walk (shown (mask going ps)) ≡ walk (shown ps)
-Masked (passing d) ps = walk (outside 0 (shown (mask (passing d) ps))) ≡ walk (outside d (shown ps))
+Masked going ps = steps (shown (mask going ps)) ≡ steps (shown ps)
+Masked (passing d) ps = steps (outside 0 (shown (mask (passing d) ps))) ≡ steps (outside d (shown ps))
 Masked (reading d) ps = Same d (shown (mask (reading d) ps)) (shown ps)
 
-walk-none : (ts : List Shown) → aim ts ≡ Nothing → walk (Shown.opening ∷ ts) ≡ kept Shown.opening ∷ walk ts
-walk-none ts e = walk-one Shown.opening ts ∙ ap (λ (a : Aim). entered a ts ∷ walk (drop (enteredLength a ts) ts)) e
+-- an opening bracket, by what it begins
+steps-opening : (a : Aim) (ts : List Shown) → aim ts ≡ a → steps (Shown.opening ∷ ts) ≡ entered a (lone Shown.opening) (seen ts) ∷ steps (drop (enteredLength a ts) ts)
+unfolding seen
+steps-opening a ts e =
+    let q : aim (shownBy (seen ts)) ≡ a = ap aim (shown-seen ts) ∙ e in
+    walk-one (lone Shown.opening) (seen ts)
+    ∙ ap (λ (b : Aim). entered b (lone Shown.opening) (seen ts) ∷ walk (drop (enteredLength b (shownBy (seen ts))) (seen ts))) q
+    ∙ ap (λ (l : List Shown). entered a (lone Shown.opening) (seen ts) ∷ walk (drop (enteredLength a l) (seen ts))) (shown-seen ts)
+    ∙ ap (λ (l : List Token). entered a (lone Shown.opening) (seen ts) ∷ walk l) (drop-seen (enteredLength a ts) ts)
 
-walk-hide : (ts : List Shown) → aim ts ≡ Hide → walk (Shown.opening ∷ ts) ≡ hidden ∷ walk (outside 0 ts)
+group-seen : (ts : List Shown) → group (seen ts) ≡ seen (inside 0 ts)
+unfolding inside
+group-seen ts = ap (λ (l : List Shown). take (extent 1 l) (seen ts)) (shown-seen ts) ∙ take-seen (extent 1 ts) ts
+
+walk-none : (ts : List Shown) → aim ts ≡ Nothing → steps (Shown.opening ∷ ts) ≡ kept (lone Shown.opening) ∷ steps ts
+walk-none ts e = steps-opening Nothing ts e
+
+walk-hide : (ts : List Shown) → aim ts ≡ Hide → steps (Shown.opening ∷ ts) ≡ hidden ∷ steps (outside 0 ts)
 unfolding outside
-walk-hide ts e = walk-one Shown.opening ts ∙ ap (λ (a : Aim). entered a ts ∷ walk (drop (enteredLength a ts) ts)) e
+walk-hide ts e = steps-opening Hide ts e
 
 walk-fonts : (late : Bool) (ts : List Shown) → aim ts ≡ Fonts late
-    → walk (Shown.opening ∷ ts) ≡ fontTable late (inside 0 ts) ∷ walk (outside 0 ts)
-unfolding inside outside
-walk-fonts late ts e = walk-one Shown.opening ts ∙ ap (λ (a : Aim). entered a ts ∷ walk (drop (enteredLength a ts) ts)) e
+    → steps (Shown.opening ∷ ts) ≡ fontTable late (seen (inside 0 ts)) ∷ steps (outside 0 ts)
+unfolding outside
+walk-fonts late ts e = steps-opening (Fonts late) ts e ∙ ap (λ (l : List Token). fontTable late l ∷ steps (outside 0 ts)) (group-seen ts)
 
 walk-colours : (late : Bool) (ts : List Shown) → aim ts ≡ Colours late
-    → walk (Shown.opening ∷ ts) ≡ colourTable late (inside 0 ts) ∷ walk (outside 0 ts)
-unfolding inside outside
-walk-colours late ts e = walk-one Shown.opening ts ∙ ap (λ (a : Aim). entered a ts ∷ walk (drop (enteredLength a ts) ts)) e
+    → steps (Shown.opening ∷ ts) ≡ colourTable late (seen (inside 0 ts)) ∷ steps (outside 0 ts)
+unfolding outside
+walk-colours late ts e = steps-opening (Colours late) ts e ∙ ap (λ (l : List Token). colourTable late l ∷ steps (outside 0 ts)) (group-seen ts)
 
 -- an opening bracket
 module _ {ps : List (List ℕ)} (h : Sorted ps) where
   opened : (a : Aim) → aim (shown ps) ≡ a → ((m : Mode) → Masked m ps)
-      → walk (shown (cover going up a (123 ∷ []) ++ mask (enter a) ps)) ≡ walk (Shown.opening ∷ shown ps)
+      → steps (shown (cover going up a (123 ∷ []) ++ mask (enter a) ps)) ≡ steps (Shown.opening ∷ shown ps)
   unfolding shown tokens mark escaped andThen items
   opened Nothing e ih =
       let ms : List Shown = shown (mask going ps) in
-      walk-none ms (aim-mask h goes false ∙ e) ∙ ap (λ (ss : List Step). kept Shown.opening ∷ ss) (ih going) ∙ sym (walk-none (shown ps) e)
+      walk-none ms (aim-mask h goes false ∙ e) ∙ ap (λ (ss : List Step). kept (lone Shown.opening) ∷ ss) (ih going) ∙ sym (walk-none (shown ps) e)
   opened Hide e ih =
       let ms : List Shown = shown (mask (passing 0) ps) in
       let f : aim (Shown.ignorable ∷ ms) ≡ Hide = (unfold aimFrom in refl) in
       let g : outside 0 (Shown.ignorable ∷ ms) ≡ outside 0 ms = outside-flat 0 {c = Shown.ignorable ∷ []} ms (flat-some refl flat-none) in
-      walk-hide (Shown.ignorable ∷ ms) f ∙ ap (λ (ts : List Shown). hidden ∷ walk ts) g ∙ ap (λ (ss : List Step). hidden ∷ ss) (ih (passing 0)) ∙ sym (walk-hide (shown ps) e)
+      walk-hide (Shown.ignorable ∷ ms) f ∙ ap (λ (ts : List Shown). hidden ∷ steps ts) g ∙ ap (λ (ss : List Step). hidden ∷ ss) (ih (passing 0)) ∙ sym (walk-hide (shown ps) e)
   opened (Fonts late) e ih =
       let ms : List Shown = shown (mask (reading 0) ps) in
       walk-fonts late ms (aim-mask h (reads {d = 0}) false ∙ e)
-      ∙ ap (λ (ts : List Shown). fontTable late ts ∷ walk (outside 0 ms)) (ih (reading 0) .in-it)
-      ∙ ap (λ (ss : List Step). fontTable late (inside 0 (shown ps)) ∷ ss) (ih (reading 0) .behind-it)
+      ∙ ap (λ (ts : List Shown). fontTable late (seen ts) ∷ steps (outside 0 ms)) (ih (reading 0) .in-it)
+      ∙ ap (λ (ss : List Step). fontTable late (seen (inside 0 (shown ps))) ∷ ss) (ih (reading 0) .behind-it)
       ∙ sym (walk-fonts late (shown ps) e)
   opened (Colours late) e ih =
       let ms : List Shown = shown (mask (reading 0) ps) in
       walk-colours late ms (aim-mask h (reads {d = 0}) false ∙ e)
-      ∙ ap (λ (ts : List Shown). colourTable late ts ∷ walk (outside 0 ms)) (ih (reading 0) .in-it)
-      ∙ ap (λ (ss : List Step). colourTable late (inside 0 (shown ps)) ∷ ss) (ih (reading 0) .behind-it)
+      ∙ ap (λ (ts : List Shown). colourTable late (seen ts) ∷ steps (outside 0 ms)) (ih (reading 0) .in-it)
+      ∙ ap (λ (ss : List Step). colourTable late (seen (inside 0 (shown ps))) ∷ ss) (ih (reading 0) .behind-it)
       ∙ sym (walk-colours late (shown ps) e)
 
-walk-close : (x y : List Shown) → walk x ≡ walk y → walk (Shown.closing ∷ x) ≡ walk (Shown.closing ∷ y)
+closing-up : side Shown.closing ≡ up → ⊥
+closing-up e = let y : _≡_ {A = ℕ} 0 1 = cc in omega arith
+
+walk-close : (x y : List Shown) → steps x ≡ steps y → steps (Shown.closing ∷ x) ≡ steps (Shown.closing ∷ y)
 walk-close x y e =
-    walk-one Shown.closing x
-    ∙ ap (λ (ss : List Step). kept Shown.closing ∷ ss) e
-    ∙ sym (walk-one Shown.closing y)
+    steps-kept Shown.closing x closing-up
+    ∙ ap (λ (ss : List Step). kept (lone Shown.closing) ∷ ss) e
+    ∙ sym (steps-kept Shown.closing y closing-up)
 
 walk-masked : {ps : List (List ℕ)} → Sorted ps → (m : Mode) → Masked m ps
 unfolding mask shown tokens mark andThen items
 walk-masked none going = refl
-walk-masked none (passing d) = ap walk (outside-none 0 ∙ sym (outside-none d))
+walk-masked none (passing d) = ap steps (outside-none 0 ∙ sym (outside-none d))
 walk-masked none (reading d) = same-none d
 walk-masked (opens {ps} h) going = opened h (aim (shown ps)) refl (walk-masked h)
-walk-masked (opens {ps} h) (passing d) = walk-masked h (passing (suc d)) ∙ ap walk (sym (outside-open d (shown ps)))
+walk-masked (opens {ps} h) (passing d) = walk-masked h (passing (suc d)) ∙ ap steps (sym (outside-open d (shown ps)))
 walk-masked (opens {ps} h) (reading d) =
     same-open d (shown (mask (reading (suc d)) ps)) (shown ps) (walk-masked h (reading (suc d)))
 walk-masked (closes {ps} h) going = walk-close (shown (mask going ps)) (shown ps) (walk-masked h going)
 walk-masked (closes {ps} h) (passing zero) =
-    ap walk (outside-close (shown (mask going ps))) ∙ walk-masked h going ∙ ap walk (sym (outside-close (shown ps)))
-walk-masked (closes {ps} h) (passing (suc d)) = walk-masked h (passing d) ∙ ap walk (sym (outside-closes d (shown ps)))
+    ap steps (outside-close (shown (mask going ps))) ∙ walk-masked h going ∙ ap steps (sym (outside-close (shown ps)))
+walk-masked (closes {ps} h) (passing (suc d)) = walk-masked h (passing d) ∙ ap steps (sym (outside-closes d (shown ps)))
 walk-masked (closes {ps} h) (reading zero) = same-close (shown (mask going ps)) (shown ps) (walk-masked h going)
 walk-masked (closes {ps} h) (reading (suc d)) =
     same-closes d (shown (mask (reading d) ps)) (shown ps) (walk-masked h (reading d))
 walk-masked (stays {p} {ps} e l h) going = rw e (flat-walk (shown (mask going ps)) (shown ps) l (walk-masked h going))
-walk-masked (stays {p} {ps} e l h) (passing d) = rw e (walk-masked h (passing d) ∙ ap walk (sym (outside-flat d (shown ps) l)))
+walk-masked (stays {p} {ps} e l h) (passing d) = rw e (walk-masked h (passing d) ∙ ap steps (sym (outside-flat d (shown ps) l)))
 walk-masked (stays {p} {ps} e l h) (reading d) =
     rw e (same-flat d (shown (mask (reading d) ps)) (shown ps) l (walk-masked h (reading d)))
 
-pub walk-mask : {ps : List (List ℕ)} → Sorted ps → walk (shown (mask going ps)) ≡ walk (shown ps)
+pub walk-mask : {ps : List (List ℕ)} → Sorted ps → steps (shown (mask going ps)) ≡ steps (shown ps)
 walk-mask h = walk-masked h going

@@ -27,6 +27,9 @@ pub record Cut (a b : List ℕ) (z y : Sizes) : Type 0 where
 -- - not reached: in `{{\fonttbl{\f0 A;}{\*\f1 B;}}t}` the `\*` group is a part of the table, and names a font;
 -- - not passed over: `{a{\b x}b}` has the text axb, `{a{x\*}b}` is refused by 13. A line break may stand before the mark.
 -- And the group itself stays: `{\u8212 {\*x}\u65 }` has two units, of `{\u8212 \u65 }` the second is skipped
+--
+-- Of a refusal its number is the same, "and no longer places" (02, A4): what is hidden moves what comes behind it. `{a{\*x}\fs-1}` is
+-- refused by 12 at byte 7, `{a{\*xyz}\fs-1}` by 12 at byte 9
 abbrev pub Promise : Type 0
 Promise = (rd : Reading) (a b : List ℕ) (z y : Sizes) → Cut a b z y → veil a ≡ veil b → said rd a z ≡ said rd b y
 

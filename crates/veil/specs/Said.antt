@@ -1,10 +1,10 @@
--- 01, Header walk and Body: what a reading says, without the places that it says it by: a refusal; or the font keys with the
+-- 01, Header walk and Body: what a reading says, without the places that it says it by: which refusal; or the font keys with the
 -- names' bytes, the colours, the blocks and the text. Assumes nothing: these are definitions.
 use Prim.Native.Nat.{ℕ, zero, suc}
 use mathlib.Core.Path.{_≡_}
 use mathlib.Core.List.{List, [], _∷_}
 use lib.ListN.{length, getD, drop}
-use Rattle.answers.specs.declared.Refusal.{Refusal}
+use Rattle.answers.specs.declared.Why.{Why}
 use Rattle.answers.specs.Answers.{Found, found, refused}
 use Rattle.tokens.specs.Items.{part}
 use Rattle.fonts.specs.Rows.{Font, fontWords}
@@ -34,7 +34,7 @@ pub record Content : Type 0 where
   pub text : List ℕ
 
 pub data Said : Type 0 where
-  refuses : Refusal → Said
+  refuses : Why → Said
   says : Content → Said
 
 abbrev pub saidBy : List ℕ → Found Letter → Said
@@ -45,7 +45,7 @@ saidBy src (found l) =
       blocks = blocks (l .pieces);
       text = textOf (l .pieces);
     })
-saidBy src (refused r) = refuses r
+saidBy src (refused r) = refuses (r .why)
 
 -- what a source says, read into rooms of such sizes
 unfoldable pub said : Reading → List ℕ → Sizes → Said

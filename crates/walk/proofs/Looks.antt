@@ -1,6 +1,7 @@
--- The two loops that look behind a bracket.
+-- The loops that look behind a bracket.
 --     Looking, look-start, -more, -none, -found   for the first token that is no line break
 --     Measuring, measure-start, -more, -end, -none   for the bracket that matches
+--     Seeking, seek-start, -more, -none, -found      for the place of a table's word
 -- Assumes nothing.
 use mathlib.Core.Path.{_≡_, refl, sym, ap, _∙_}
 use mathlib.Core.List.{List, []}
@@ -15,11 +16,11 @@ use Rattle.tokens.specs.Tokens.{Shown, tokenWords}
 use Rattle.tokens.specs.Tokens
 use Rattle.tokens.specs.declared.item.Item.{Item}
 use Rattle.tokens.specs.declared.item.Item.the-variants.{LineBreak, Word}
-use Rattle.tokens.specs.Items.{itemAt, shownOf, shownAll}
-use Rattle.tokens.proofs.Items.{rest, words-less, shown-none, shown-some}
+use Rattle.tokens.specs.Items.{itemAt, shownOf, shownAll, sliceAt, tokensAll}
+use Rattle.tokens.proofs.Items.{rest, words-less, shown-none, shown-some, tokens-none, tokens-some}
 use Rattle.walk.specs.declared.Aim.{Aim}
 use Rattle.walk.specs.declared.Aim.the-variants.{Nothing}
-use Rattle.walk.specs.Walk.{wordAim, aimAt, isBreak, aimFrom, aim, level, extent}
+use Rattle.walk.specs.Walk.{wordAim, aimAt, isBreak, aimFrom, aim, level, extent, tableWord}
 
 -- what is left, from here, gives the whole result
 pub record Looking (s : List ℕ) (count : ℕ) (t : List ℕ) (n : ℕ) (late : Bool) : Type 0 where
@@ -136,3 +137,27 @@ module _ {s : List ℕ} {count : ℕ} {t : List ℕ} {n d : ℕ} (m : Measuring 
               let b : count - (n - 1) ≡ count - n + 1 = omega arith in
               rw b (omega arith);
         }
+
+-- for the table's word: what is left, from here, has it
+pub record Seeking (s : List ℕ) (count : ℕ) (t : List ℕ) (n : ℕ) : Type 0 where
+  pub words : n * tokenWords ≤ length t
+  pub left : (src : List ℕ) → tableWord (tokensAll src n t) ≡ tableWord (tokensAll src count s)
+
+pub seek-start : (s : List ℕ) (count : ℕ) → count * tokenWords ≤ length s → Seeking s count s count
+seek-start s count h = record { words = h; left = λ src. refl }
+
+module _ {s : List ℕ} {count : ℕ} {t : List ℕ} {n : ℕ} (l : Seeking s count t n) where
+  pub seek-none : n ≤ 0 → (src : List ℕ) → 0 ≡ tableWord (tokensAll src count s)
+  unfolding tableWord
+  seek-none z src = rw (tokens-none src n t z) at (l .left src)
+
+  module _ (z : 0 < n) {i : Item} (e : i ≡ itemAt t) {b : Bool} (q : (src : List ℕ) → b ≡ isBreak (shownOf src i)) where
+    seek-one : (src : List ℕ) → cond b (tableWord (tokensAll src (n - 1) (rest t tokenWords))) (sliceAt t) ≡ tableWord (tokensAll src count s)
+    unfolding tableWord
+    seek-one src = rw (q src, e) (rw (tokens-some src n t z) at (l .left src))
+
+    pub seek-found : not b ≡ true → {r : ℕ} → r ≡ sliceAt t → (src : List ℕ) → r ≡ tableWord (tokensAll src count s)
+    seek-found f h src = h ∙ (rw (not-true b f) at (seek-one src))
+
+    pub seek-more : not b ≡ false → Seeking s count (rest t tokenWords) (n - 1)
+    seek-more f = record { words = words-less n t (l .words); left = λ src. rw (not-false b f) at (seek-one src) }

@@ -1,4 +1,4 @@
--- 01, Header walk: what the tokens of a letter are to the reader: a kept token, a hidden group, a font table, a colour table.
+-- 01, Header walk, and 02, A4: what the tokens of a letter are to the reader: a kept token, a hidden group, a font table, a colour table.
 -- Assumes nothing: these are definitions.
 use Prim.Native.Nat.{ℕ, zero, suc, _-_}
 use mathlib.Core.List.{List, [], _∷_, _++_}
@@ -7,7 +7,7 @@ use lib.ListN.{take}
 use lib.Dec.{eqb}
 use Rattle.tokens.specs.declared.Property.{Property}
 use Rattle.tokens.specs.declared.Property.the-variants.{None, Value}
-use Rattle.tokens.specs.Tokens.{Shown}
+use Rattle.tokens.specs.Tokens.{Shown, Token, sliceOf, shownIn, shownBy}
 use Rattle.tokens.specs.Tokens
 use Rattle.walk.specs.declared.Aim.{Aim}
 use Rattle.walk.specs.declared.Aim.the-variants.{Nothing, Hide, Fonts, Colours}
@@ -61,23 +61,30 @@ unfoldable pub extent : ℕ → List Shown → ℕ
 extent d [] = 0
 extent d (t ∷ ts) = cond (eqb (level t d) 0) 1 (suc (extent (level t d) ts))
 
+-- 02, A4, "for 10, the table word": the place of the slice of the first token that is no line break
+unfoldable pub tableWord : List Token → ℕ
+tableWord [] = 0
+tableWord (t ∷ ts) =
+    let later = tableWord ts in
+    cond (isBreak (shownIn t)) later (sliceOf t)
+
 -- what the walk makes of the tokens. A table is read from the tokens behind its bracket; late: a line break is the first
 pub data Step : Type 0 where
-  kept : Shown → Step
+  kept : Token → Step
   hidden : Step
-  fontTable : Bool → List Shown → Step
-  colourTable : Bool → List Shown → Step
+  fontTable : Bool → List Token → Step
+  colourTable : Bool → List Token → Step
 
 -- the tokens of a group, behind its bracket
-abbrev pub group : List Shown → List Shown
-group ts = take (extent 1 ts) ts
+abbrev pub group : List Token → List Token
+group ts = take (extent 1 (shownBy ts)) ts
 
 -- an opening bracket, by what it begins
-abbrev pub entered : Aim → List Shown → Step
-entered Nothing ts = kept Shown.opening
-entered Hide ts = hidden
-entered (Fonts late) ts = fontTable late (group ts)
-entered (Colours late) ts = colourTable late (group ts)
+abbrev pub entered : Aim → Token → List Token → Step
+entered Nothing t ts = kept t
+entered Hide t ts = hidden
+entered (Fonts late) t ts = fontTable late (group ts)
+entered (Colours late) t ts = colourTable late (group ts)
 
 abbrev pub enteredLength : Aim → List Shown → ℕ
 enteredLength Nothing ts = 0
@@ -86,14 +93,17 @@ enteredLength (Fonts late) ts = extent 1 ts
 enteredLength (Colours late) ts = extent 1 ts
 
 -- a token of the walk, and how many tokens behind it the walk passes over
-abbrev pub stepOf : Shown → List Shown → Step
-stepOf Shown.opening ts = entered (aim ts) ts
-stepOf Shown.closing ts = kept Shown.closing
-stepOf Shown.lineBreak ts = kept Shown.lineBreak
-stepOf Shown.ignorable ts = kept Shown.ignorable
-stepOf (Shown.text p bs) ts = kept (Shown.text p bs)
-stepOf (Shown.word w num) ts = kept (Shown.word w num)
-stepOf (Shown.unknown p bs num) ts = kept (Shown.unknown p bs num)
+abbrev pub stepBy : Shown → Token → List Token → Step
+stepBy Shown.opening t ts = entered (aim (shownBy ts)) t ts
+stepBy Shown.closing t ts = kept t
+stepBy Shown.lineBreak t ts = kept t
+stepBy Shown.ignorable t ts = kept t
+stepBy (Shown.text p bs) t ts = kept t
+stepBy (Shown.word w num) t ts = kept t
+stepBy (Shown.unknown p bs num) t ts = kept t
+
+abbrev pub stepOf : Token → List Token → Step
+stepOf t ts = stepBy (shownIn t) t ts
 
 abbrev pub passedBy : Shown → List Shown → ℕ
 passedBy Shown.opening ts = enteredLength (aim ts) ts
@@ -105,7 +115,7 @@ passedBy (Shown.word w num) ts = 0
 passedBy (Shown.unknown p bs num) ts = 0
 
 -- the same, where w tokens are still to be passed over
-abbrev pub stepsAt : ℕ → Shown → List Shown → List Step
+abbrev pub stepsAt : ℕ → Token → List Token → List Step
 stepsAt zero t ts = stepOf t ts ∷ []
 stepsAt (suc w) t ts = []
 
@@ -114,9 +124,9 @@ leftAt zero t ts = passedBy t ts
 leftAt (suc w) t ts = w
 
 -- "From the first token while a next one exists."; the first w tokens are passed over
-unfoldable pub walkFrom : ℕ → List Shown → List Step
+unfoldable pub walkFrom : ℕ → List Token → List Step
 walkFrom w [] = []
-walkFrom w (t ∷ ts) = stepsAt w t ts ++ walkFrom (leftAt w t ts) ts
+walkFrom w (t ∷ ts) = stepsAt w t ts ++ walkFrom (leftAt w (shownIn t) (shownBy ts)) ts
 
-abbrev pub walk : List Shown → List Step
+abbrev pub walk : List Token → List Step
 walk ts = walkFrom 0 ts

@@ -4,6 +4,7 @@
 //   Aim      nothing, a group to pass over, a table to read; the flag says that line breaks stand before the table's word
 //   aim_of   looks behind an opening bracket
 //   extent   how many tokens there are to the bracket that matches, or to the end
+//   table_word   the place of a late table's word, for its refusal
 //
 // Header and body both walk by these two, and so agree on what is passed over. Each token is looked at once by `aim_of` for
 // the bracket before it and once by `extent`: the walk is linear, as the crate's is not.
@@ -11,13 +12,14 @@ use tokens::Property;
 use tokens::TOKEN_WORDS;
 use tokens::item::Item;
 use tokens::item::item_at;
+use tokens::item::slice_at;
 use tokens::words;
 ghost use mathlib.Core.Path.{_≡_};
 ghost use mathlib.Core.List.{List};
 ghost use Prim.Native.Nat.{ℕ, _*_, _≤_, _<_};
 ghost use lib.ListN.{length};
-ghost use Rattle.tokens.specs.Items.{shownOf, shownAll};
-ghost use Rattle.walk.specs.Walk.{wordAim, aimAt, isBreak, aim as aimOf, level as levelOf, extent as extentOf};
+ghost use Rattle.tokens.specs.Items.{shownOf, shownAll, tokensAll};
+ghost use Rattle.walk.specs.Walk.{wordAim, aimAt, isBreak, aim as aimOf, level as levelOf, extent as extentOf, tableWord};
 ghost use Rattle.tokens.specs.Tokens.{tokenWords};
 
 pub enum Aim {
@@ -96,6 +98,24 @@ pub fn aim_of(s: &[u32], count: usize) -> Aim
         late = true;
     };
     aim_at(first, late)
+}
+
+// Where the slice of the first token that is no line break stands.
+pub fn table_word(s: &[u32], count: usize) -> u32
+    requires { ⌜ count * tokenWords ≤ length (now s) ⌝ }
+    ensures { λ r. ⌜ ((src : List ℕ) → r ≡ tableWord (tokensAll src count (now (s .entry)))) ⌝ }
+{
+    let mut t = s;
+    let mut n = count;
+    while 0 < n {
+        let i = item_at(t);
+        if !is_break(i) {
+            return slice_at(t);
+        }
+        t = &t[TOKEN_WORDS..];
+        n -= 1;
+    }
+    0
 }
 
 // How many groups are open behind a token.

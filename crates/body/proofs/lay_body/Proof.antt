@@ -11,12 +11,13 @@ use Rattle.body.proofs.lay_body.Statement.{statement}
 use Rattle.body.proofs.lay_body.Tie as tie
 use Rattle.body.proofs.lay_body.Reads as reads
 use Rattle.body.proofs.lay_body.Lts as lts
-use Rattle.answers.proofs.Refusal.of.Reads as of-reads
+use Rattle.answers.proofs.Refusal.at.Reads as at-reads
 use Rattle.body.proofs.finish.Reads as finish-reads
 use Rattle.body.proofs.group.passed.Reads as passed-reads
 use Rattle.deeds.proofs.turn.Reads as turn-reads
 use Rattle.settings.proofs.State.fresh.Reads as fresh-reads
 use Rattle.settings.proofs.State.row.Reads as row-reads
+use Rattle.tokens.proofs.item.slice_at.Reads as slice-at-reads
 
 abbrev Inv-loop : tie.InvT-loop
 Inv-loop source reading tokens count blocks₀ text₀ states₀ depth₀ run₀ page₀ t₀ n₀ blocks text states depth run page t n =
@@ -73,17 +74,20 @@ sub-n c = let u = c .before .before .before .before .before .before .before .bef
 enum-known-moved : tie.Need-enum-known-moved Inv-loop μ-loop
 enum-known-moved c = search needs
 
-of-requires : tie.Need-of-requires Inv-loop μ-loop
-of-requires c κs = search needs
+slice-at-requires : tie.Need-slice-at-requires Inv-loop μ-loop
+slice-at-requires c κs = omega (arith, c .before .before .before .before .before .before .before .before .before .before .before .before .before .before .before .loop-test .taken, c .before .before .before .before .before .before .before .before .before .before .before .before .before .before .before .before .loop .inv .words)
+
+at-requires : tie.Need-at-requires Inv-loop μ-loop
+at-requires c κs = search needs
 
 same-length : tie.Need-same-length Inv-loop μ-loop
-same-length c = c .before .before .before .before .before .before .before .before .before .turn .kept .1 .1 .1 .1 .1 .1 .1 .1 .0 ∙ c .before .before .before .before .before .before .before .before .before .before .before .before .before .before .before .before .before .loop .inv .long-b
+same-length c = c .before .before .before .before .before .before .before .before .before .before .turn .kept .1 .1 .1 .1 .1 .1 .1 .1 .0 ∙ c .before .before .before .before .before .before .before .before .before .before .before .before .before .before .before .before .before .before .loop .inv .long-b
 
 same-length-2 : tie.Need-same-length-2 Inv-loop μ-loop
-same-length-2 c = c .before .before .before .before .before .before .before .before .before .turn .kept .1 .1 .1 .1 .1 .1 .1 .1 .1 .0 ∙ c .before .before .before .before .before .before .before .before .before .before .before .before .before .before .before .before .before .loop .inv .long-t
+same-length-2 c = c .before .before .before .before .before .before .before .before .before .before .turn .kept .1 .1 .1 .1 .1 .1 .1 .1 .1 .0 ∙ c .before .before .before .before .before .before .before .before .before .before .before .before .before .before .before .before .before .before .loop .inv .long-t
 
 returns : tie.Need-returns Inv-loop μ-loop
-returns c = (turn-refused (c .before .before .before .before .before .before .before .before .before .before .before .before .before .before .before .before .before .loop .inv) (c .before .before .before .before .before .before .before .before .before .before .before .before .before .before .before .before .loop-test .taken) (c .before .before .before .before .before .before .before .before .before .before .before .before .before .before .before .passed .ensures) (c .before .before .before .before .before .before .before .before .before .turn .ensures .0) (c .before .before .moved .given .1) (c .of .ensures), omega arith)
+returns c = (turn-refused (c .before .before .before .before .before .before .before .before .before .before .before .before .before .before .before .before .before .before .loop .inv) (c .before .before .before .before .before .before .before .before .before .before .before .before .before .before .before .before .before .loop-test .taken) (c .before .before .before .before .before .before .before .before .before .before .before .before .before .before .before .before .passed .ensures) (c .before .before .before .before .before .before .before .before .before .before .turn .ensures .0) (c .before .before .before .moved .given .1) (c .before .slice-at .ensures) (c .at .ensures), omega arith)
 
 enum-known-moved-2 : tie.Need-enum-known-moved-2 Inv-loop μ-loop
 enum-known-moved-2 c = search needs
@@ -129,7 +133,8 @@ lay-body-spec =
     add-n
     sub-n
     enum-known-moved
-    of-requires
+    slice-at-requires
+    at-requires
     same-length
     same-length-2
     returns

@@ -7,11 +7,13 @@ use Rattle.colours.proofs.read_colours.Statement.{statement}
 use Rattle.colours.proofs.read_colours.Tie as tie
 use Rattle.colours.proofs.read_colours.Reads as reads
 use Rattle.colours.proofs.read_colours.Lts as lts
+use Rattle.answers.proofs.Refusal.at.Reads as at-reads
 use Rattle.answers.proofs.Refusal.of.Reads as of-reads
 use Rattle.colours.proofs.colour_word.Reads as colour-word-reads
 use Rattle.colours.proofs.limit_of.Reads as limit-of-reads
 use Rattle.colours.proofs.step.Reads as step-reads
 use Rattle.tokens.proofs.item.item_at.Reads as item-at-reads
+use Rattle.tokens.proofs.item.slice_at.Reads as slice-at-reads
 
 abbrev Inv-loop : tie.InvT-loop
 Inv-loop tokens count room₀ limit t₀ n₀ colour₀ stored₀ room t n colour stored = Loop tokens count room₀ limit room t n colour stored
@@ -85,14 +87,17 @@ loop-again-2 c = loop-store (c .before .before .before .before .before .before .
 enum-told : tie.Need-enum-told Inv-loop μ-loop
 enum-told c = search needs
 
-of-requires-2 : tie.Need-of-requires-2 Inv-loop μ-loop
-of-requires-2 c κs = search needs
+slice-at-requires : tie.Need-slice-at-requires Inv-loop μ-loop
+slice-at-requires c κs = omega (arith, c .before .before .before .before .before .before .loop .inv .words)
+
+at-requires : tie.Need-at-requires Inv-loop μ-loop
+at-requires c κs = search needs
 
 same-length-2 : tie.Need-same-length-2 Inv-loop μ-loop
-same-length-2 c = c .before .before .before .before .before .before .before .loop .inv .long
+same-length-2 c = c .before .before .before .before .before .before .before .before .loop .inv .long
 
 returns-2 : tie.Need-returns-2 Inv-loop μ-loop
-returns-2 c = loop-unfit (c .before .before .before .before .before .before .before .loop .inv) (c .before .before .before .before .before .before .loop-test .taken) (c .before .before .before .before .before .item-at .ensures) (c .before .before .before .before .step .ensures) _ (c .of2 .ensures) (c .before .enum-told .given .1)
+returns-2 c = loop-unfit (c .before .before .before .before .before .before .before .before .loop .inv) (c .before .before .before .before .before .before .before .loop-test .taken) (c .before .before .before .before .before .before .item-at .ensures) (c .before .before .before .before .before .step .ensures) _ (c .before .slice-at .ensures) _ (c .at .ensures) (c .before .before .enum-told .given .1)
 
 same-length-3 : tie.Need-same-length-3 Inv-loop μ-loop
 same-length-3 c = c .before .loop .inv .long
@@ -128,7 +133,8 @@ read-colours-spec =
     loop-less-2
     loop-again-2
     enum-told
-    of-requires-2
+    slice-at-requires
+    at-requires
     same-length-2
     returns-2
     same-length-3

@@ -1,19 +1,20 @@
 -- `all_slices` meets its contract. The invariant: whoever cuts what is left has cut all; the bytes left are the measure.
-use mathlib.Core.Path.{_∙_}
+use borrow.Author.Needs.{needs}
+use mathlib.Core.Path.{refl, _∙_}
 use native.Mathlib.Omega.{arith}
 use lib.ListN.{length, length-take}
-use borrow.Author.Needs.{needs}
 use Rattle.rooms.proofs.Rooms.{wrote-none}
 use Rattle.tokens.specs.Tokens.{tokenLayout}
-use Rattle.cutter.proofs.Loop.{Loop, all-none, loop-start, loop-falls, loop-stop, loop-next, loop-last}
+use Rattle.cutter.proofs.Loop.{Loop, all-none, loop-start, loop-falls, loop-stop, next-above, loop-next, loop-last}
 use Rattle.cutter.proofs.all_slices.Statement.{statement}
 use Rattle.cutter.proofs.all_slices.Tie as tie
 use Rattle.cutter.proofs.all_slices.Reads as reads
 use Rattle.cutter.proofs.all_slices.Lts as lts
-use Rattle.answers.proofs.Refusal.of.Reads as of-reads
+use Rattle.answers.proofs.Refusal.at.Reads as at-reads
 use Rattle.cutter.proofs.last.Reads as last-reads
 use Rattle.slices.proofs.slice_end.Reads as slice-end-reads
 use Rattle.tokenize.proofs.quick.slice_tokens.Reads as slice-tokens-reads
+use Rattle.tokens.proofs.seal.Reads as seal-reads
 
 abbrev Inv-loop : tie.InvT-loop
 Inv-loop s place names room₀ t₀ p₀ n₀ room t p n = Loop place s room₀ room t p n
@@ -39,20 +40,32 @@ slice-tokens-requires c κs = (simp length-take (omega (arith, c .before .before
 enum-known-one : tie.Need-enum-known-one Inv-loop μ-loop
 enum-known-one c = search needs
 
-of-requires : tie.Need-of-requires Inv-loop μ-loop
-of-requires c κs = search needs
+cast-at : tie.Need-cast-at Inv-loop μ-loop
+cast-at c = omega (arith, c .before .before .before .before .before .before .before .before .before .before .loop .inv .fits)
+
+at-requires : tie.Need-at-requires Inv-loop μ-loop
+at-requires c κs = search needs
 
 same-length : tie.Need-same-length Inv-loop μ-loop
 same-length c = c .before .before .before .before .before .before .slice-tokens .kept .1 .1 .1 .0 ∙ c .before .before .before .before .before .before .before .before .before .before .before .loop .inv .long
 
 returns-2 : tie.Need-returns-2 Inv-loop μ-loop
-returns-2 c = loop-stop (c .before .before .before .before .before .before .before .before .before .before .before .loop .inv) (c .before .before .before .before .before .before .before .before .before .before .slice-end .ensures) (c .before .before .before .before .before .before .before .before .before .if2 .left) (c .before .before .before .before .before .before .slice-tokens .ensures) (c .before .before .one .given .1) (c .of .ensures)
+returns-2 c = loop-stop (c .before .before .before .before .before .before .before .before .before .before .before .loop .inv) (c .before .before .before .before .before .before .before .before .before .before .slice-end .ensures) (c .before .before .before .before .before .before .before .before .before .if2 .left) (c .before .before .before .before .before .before .slice-tokens .ensures) (c .before .before .one .given .1) refl (c .at .ensures)
 
 enum-known-one-2 : tie.Need-enum-known-one-2 Inv-loop μ-loop
 enum-known-one-2 c = search needs
 
+cast-seal : tie.Need-cast-seal Inv-loop μ-loop
+cast-seal c = omega (arith, c .before .before .before .before .before .before .before .before .before .before .before .loop .inv .fits)
+
+cast-seal-2 : tie.Need-cast-seal-2 Inv-loop μ-loop
+cast-seal-2 c = omega (arith, c .before .before .before .before .before .before .before .before .before .before .before .loop .inv .fits, c .before .before .before .before .before .before .before .before .before .if2 .left)
+
+seal-requires : tie.Need-seal-requires Inv-loop μ-loop
+seal-requires c κs = next-above (c .before .before .before .before .before .before .before .before .before .before .before .loop .inv) (c .before .before .before .before .before .before .before .before .before .before .slice-end .ensures) (c .before .before .before .before .before .before .before .before .before .if2 .left) (c .before .before .before .before .before .before .slice-tokens .ensures) (c .before .before .one2 .given .1)
+
 sub-t : tie.Need-sub-t Inv-loop μ-loop
-sub-t c = omega (arith, c .before .before .before .before .before .before .before .before .if2 .left)
+sub-t c = omega (arith, c .before .before .before .before .before .before .before .before .before .before .before .before .if2 .left)
 
 part-t-start : tie.Need-part-t-start Inv-loop μ-loop
 part-t-start c = search needs
@@ -61,16 +74,16 @@ part-t-end : tie.Need-part-t-end Inv-loop μ-loop
 part-t-end c = search needs
 
 add-p : tie.Need-add-p Inv-loop μ-loop
-add-p c = omega (arith, c .before .before .before .before .before .before .before .before .before .before .before .loop .inv .fits, c .before .before .before .before .before .before .before .before .before .if2 .left)
+add-p c = omega (arith, c .before .before .before .before .before .before .before .before .before .before .before .before .before .before .before .loop .inv .fits, c .before .before .before .before .before .before .before .before .before .before .before .before .before .if2 .left)
 
 loop-less : tie.Need-loop-less Inv-loop μ-loop
-loop-less c = loop-falls (c .before .before .before .before .before .before .before .before .before .before .before .loop .inv) (c .before .before .before .before .before .before .before .before .before .before .slice-end .ensures) (c .before .before .before .before .before .before .before .before .before .if2 .left)
+loop-less c = loop-falls (c .before .before .before .before .before .before .before .before .before .before .before .before .before .before .before .loop .inv) (c .before .before .before .before .before .before .before .before .before .before .before .before .before .before .slice-end .ensures) (c .before .before .before .before .before .before .before .before .before .before .before .before .before .if2 .left)
 
 loop-again : tie.Need-loop-again Inv-loop μ-loop
-loop-again c = loop-next (c .before .before .before .before .before .before .before .before .before .before .before .loop .inv) (c .before .before .before .before .before .before .before .before .before .before .slice-end .ensures) (c .before .before .before .before .before .before .before .before .before .if2 .left) (c .before .before .before .before .before .before .slice-tokens .ensures) (c .before .before .one2 .given .1)
+loop-again c = loop-next (c .before .before .before .before .before .before .before .before .before .before .before .before .before .before .before .loop .inv) (c .before .before .before .before .before .before .before .before .before .before .before .before .before .before .slice-end .ensures) (c .before .before .before .before .before .before .before .before .before .before .before .before .before .if2 .left) (c .before .before .before .before .before .before .before .before .before .before .slice-tokens .ensures) (c .before .before .before .before .before .before .one2 .given .1) refl refl (c .before .before .before .seal .ensures)
 
 last-requires : tie.Need-last-requires Inv-loop μ-loop
-last-requires c κs = omega (arith, c .before .before .before .loop .inv .fits, c .before .before .before .loop .inv .some, c .before .before .before .loop .inv .below)
+last-requires c κs = (omega (arith, c .before .before .before .loop .inv .fits, c .before .before .before .loop .inv .some, c .before .before .before .loop .inv .below), omega (arith, c .before .before .before .loop .inv .fits))
 
 same-length-2 : tie.Need-same-length-2 Inv-loop μ-loop
 same-length-2 c = c .before .before .last .kept .1 .1 .0 ∙ c .before .before .before .before .before .before .loop .inv .long
@@ -90,10 +103,14 @@ all-slices-spec =
     slice-aggregate-slice-tokens
     slice-tokens-requires
     enum-known-one
-    of-requires
+    cast-at
+    at-requires
     same-length
     returns-2
     enum-known-one-2
+    cast-seal
+    cast-seal-2
+    seal-requires
     sub-t
     part-t-start
     part-t-end

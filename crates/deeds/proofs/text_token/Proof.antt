@@ -1,5 +1,5 @@
 -- `text_token` meets its contract: without a state, and with one.
-use Rattle.machine.specs.Stack.{becomes}
+use Rattle.answers.specs.Answers.{becomes}
 use Rattle.deeds.proofs.Moves.{took-none}
 use Rattle.runs.proofs.Saying.{ne-pos}
 use Rattle.deeds.proofs.Turning.{turns-bare, turns-text}

@@ -11,7 +11,7 @@ list-requires : tie.Need-list-requires
 list-requires c κs = search needs
 
 returns : tie.Need-returns
-returns c = (c .list .ensures .0, list-fits _ _ _ _ _ _ (search needs) (search needs) (search needs) (search needs) (search needs) (search needs) (c .list .ensures .1))
+returns c = (c .list .ensures .0, list-fits _ _ _ _ _ _ _ (search needs) (search needs) (search needs) (search needs) (search needs) (search needs) (c .list .ensures .1))
 
 pub list-whole-spec : {M : Type 1} → statement M
 list-whole-spec = tie.close (tie.spec list-requires returns)

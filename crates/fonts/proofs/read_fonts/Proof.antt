@@ -9,8 +9,9 @@ use Rattle.fonts.proofs.read_fonts.Tie as tie
 use Rattle.fonts.proofs.read_fonts.Reads as reads
 use Rattle.fonts.proofs.read_fonts.Lts as lts
 use Rattle.fonts.proofs.limit_of.Reads as limit-of-reads
-use Rattle.fonts.proofs.step.Reads as step-reads
+use Rattle.fonts.proofs.refuse.Reads as refuse-reads
 use Rattle.fonts.proofs.rows.store.Reads as store-reads
+use Rattle.fonts.proofs.step.Reads as step-reads
 use Rattle.fonts.proofs.unnumbered.Reads as unnumbered-reads
 use Rattle.tokens.proofs.item.item_at.Reads as item-at-reads
 
@@ -71,11 +72,14 @@ loop-again-2 c = loop-store (c .before .before .before .before .before .before .
 enum-known-o-2 : tie.Need-enum-known-o-2 Inv-loop μ-loop
 enum-known-o-2 c = search needs
 
+refuse-requires : tie.Need-refuse-requires Inv-loop μ-loop
+refuse-requires c κs = omega (arith, c .before .before .before .before .before .before .before .before .before .before .before .before .before .before .loop .inv .words)
+
 same-length : tie.Need-same-length Inv-loop μ-loop
-same-length c = c .before .before .before .before .before .store .kept .0 ∙ c .before .before .before .before .before .before .before .before .before .before .before .before .before .before .loop .inv .long
+same-length c = c .before .before .before .before .before .before .store .kept .0 ∙ c .before .before .before .before .before .before .before .before .before .before .before .before .before .before .before .loop .inv .long
 
 returns : tie.Need-returns Inv-loop μ-loop
-returns c = loop-full (c .before .before .before .before .before .before .before .before .before .before .before .before .before .before .loop .inv) (c .before .before .before .before .before .before .before .before .before .before .before .before .before .loop-test .taken) (c .before .before .before .before .before .before .before .before .before .before .before .before .item-at .ensures) (c .before .before .before .before .before .before .before .before .before .before .before .step .ensures) (c .before .before .before .before .before .store .result) _ (c .before .before .before .before .before .store .ensures) (c .before .before .before .before .before .store .kept .0) _ (c .before .before .before .before .before .before .before .before .e2 .given .1) _ (c .before .o2 .given .1)
+returns c = loop-full (c .before .before .before .before .before .before .before .before .before .before .before .before .before .before .before .loop .inv) (c .before .before .before .before .before .before .before .before .before .before .before .before .before .before .loop-test .taken) (c .before .before .before .before .before .before .before .before .before .before .before .before .before .item-at .ensures) (c .before .before .before .before .before .before .before .before .before .before .before .before .step .ensures) (c .before .before .before .before .before .before .store .result) _ (c .before .before .before .before .before .before .store .ensures) (c .before .before .before .before .before .before .store .kept .0) _ (c .refuse .ensures) _ (c .before .before .before .before .before .before .before .before .before .e2 .given .1) (c .before .before .o2 .given .1)
 
 enum-told : tie.Need-enum-told Inv-loop μ-loop
 enum-told c = search needs
@@ -86,11 +90,14 @@ store-requires-2 c κs = loop-ready (c .before .before .before .before .before .
 unnumbered-requires : tie.Need-unnumbered-requires Inv-loop μ-loop
 unnumbered-requires c κs = search needs
 
+refuse-requires-2 : tie.Need-refuse-requires-2 Inv-loop μ-loop
+refuse-requires-2 c κs = omega (arith, c .before .before .before .before .before .before .before .before .before .before .before .loop .inv .words)
+
 same-length-2 : tie.Need-same-length-2 Inv-loop μ-loop
-same-length-2 c = c .before .before .before .store2 .kept .0 ∙ c .before .before .before .before .before .before .before .before .before .before .before .loop .inv .long
+same-length-2 c = c .before .before .before .before .store2 .kept .0 ∙ c .before .before .before .before .before .before .before .before .before .before .before .before .loop .inv .long
 
 returns-2 : tie.Need-returns-2 Inv-loop μ-loop
-returns-2 c = loop-unnumbered (c .before .before .before .before .before .before .before .before .before .before .before .loop .inv) (c .before .before .before .before .before .before .before .before .before .before .loop-test .taken) (c .before .before .before .before .before .before .before .before .before .item-at .ensures) (c .before .before .before .before .before .before .before .before .step .ensures) (c .before .before .before .store2 .result) _ (c .before .before .before .store2 .ensures) (c .before .before .before .store2 .kept .0) (c .before .before .before .before .before .enum-told .given .1) _ (c .unnumbered .ensures)
+returns-2 c = loop-unnumbered (c .before .before .before .before .before .before .before .before .before .before .before .before .loop .inv) (c .before .before .before .before .before .before .before .before .before .before .before .loop-test .taken) (c .before .before .before .before .before .before .before .before .before .before .item-at .ensures) (c .before .before .before .before .before .before .before .before .before .step .ensures) (c .before .before .before .before .store2 .result) _ (c .before .before .before .before .store2 .ensures) (c .before .before .before .before .store2 .kept .0) _ (c .refuse2 .ensures) (c .before .before .before .before .before .before .enum-told .given .1) (c .before .unnumbered .ensures)
 
 same-length-3 : tie.Need-same-length-3 Inv-loop μ-loop
 same-length-3 c = c .before .loop .inv .long
@@ -121,11 +128,13 @@ read-fonts-spec =
     loop-less-2
     loop-again-2
     enum-known-o-2
+    refuse-requires
     same-length
     returns
     enum-told
     store-requires-2
     unnumbered-requires
+    refuse-requires-2
     same-length-2
     returns-2
     same-length-3

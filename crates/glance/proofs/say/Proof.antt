@@ -6,15 +6,11 @@ use Rattle.glance.proofs.say.Statement.{statement}
 use Rattle.glance.proofs.say.Tie as tie
 use Rattle.glance.proofs.say.Reads as reads
 use Rattle.glance.proofs.say.Lts as lts
-use Rattle.answers.proofs.Refusal.number.Reads as number-reads
 use Rattle.glance.proofs.refuse.Reads as refuse-reads
 use Rattle.io.proofs.write_all.Reads as write-all-reads
 
 enum-known-answer : tie.Need-enum-known-answer
 enum-known-answer c = search needs
-
-number-requires : tie.Need-number-requires
-number-requires c κs = search needs
 
 refuse-requires : tie.Need-refuse-requires
 refuse-requires c κs = search needs
@@ -42,7 +38,6 @@ say-spec =
     tie.close
     (tie.spec
     enum-known-answer
-    number-requires
     refuse-requires
     enum-known-answer-2
     slice-aggregate-write-all

@@ -2,7 +2,7 @@
 use native.Mathlib.Omega.{arith}
 use lib.ListN.{length}
 use Rattle.rooms.specs.Rooms.{tableLimit}
-use Rattle.tokens.specs.Items.{shownAll}
+use Rattle.tokens.specs.Items.{tokensAll}
 use Rattle.walk.specs.Walk.{walk}
 use Rattle.fonts.specs.Rows.{fontWords}
 use Rattle.colours.specs.Colours.{colourWords}
@@ -27,7 +27,7 @@ enum-known-header-2 c = search needs
 
 mul-clear-from : tie.Need-mul-clear-from
 mul-clear-from c =
-    let a = c .before .before .before .before .before .before .before .before .before .before .before .before .before .before .before .args in let x = tables (tableLimit fontWords (length (a .fonts .now))) (tableLimit colourWords (length (a .colours .now))) (walk (shownAll (a .source .now) (a .count) (a .tokens .now))) in
+    let a = c .before .before .before .before .before .before .before .before .before .before .before .before .before .before .before .args in let x = tables (tableLimit fontWords (length (a .fonts .now))) (tableLimit colourWords (length (a .colours .now))) (walk (tokensAll (a .source .now) (a .count) (a .tokens .now))) in
     let u = c .before .before .before .before .before .before .before .before .before .before .before .before .before .before .before .fits in
     let v = c .before .before .before .before .before .before .before .before .before .before .before .before .before .before .before .good in
     let h = header-fits x _ _ _ (c .before .before .before .before .before .before .before .before .walk-tables .ensures) (c .before .before .header2 .given .1) in
@@ -48,7 +48,7 @@ same-length-2 c = search needs
 
 returns : tie.Need-returns
 returns c =
-    let a = c .before .before .before .before .before .before .before .before .before .before .before .before .before .before .args in let x = tables (tableLimit fontWords (length (a .fonts .now))) (tableLimit colourWords (length (a .colours .now))) (walk (shownAll (a .source .now) (a .count) (a .tokens .now))) in
+    let a = c .before .before .before .before .before .before .before .before .before .before .before .before .before .before .args in let x = tables (tableLimit fontWords (length (a .fonts .now))) (tableLimit colourWords (length (a .colours .now))) (walk (tokensAll (a .source .now) (a .count) (a .tokens .now))) in
     header-refused _ _ x _ _ _ (c .before .before .before .before .before .before .before .walk-tables .ensures) (c .before .header .given .1) _ _
 
 same-length-3 : tie.Need-same-length-3
@@ -59,7 +59,7 @@ same-length-4 c = search needs
 
 returns-2 : tie.Need-returns-2
 returns-2 c =
-    let a = c .before .before .before .before .before .before .before .before .before .before .before .before .before .before .before .before .before .before .before .before .before .before .args in let x = tables (tableLimit fontWords (length (a .fonts .now))) (tableLimit colourWords (length (a .colours .now))) (walk (shownAll (a .source .now) (a .count) (a .tokens .now))) in
+    let a = c .before .before .before .before .before .before .before .before .before .before .before .before .before .before .before .before .before .before .before .before .before .before .args in let x = tables (tableLimit fontWords (length (a .fonts .now))) (tableLimit colourWords (length (a .colours .now))) (walk (tokensAll (a .source .now) (a .count) (a .tokens .now))) in
     header-read _ _ x _ _ _ (c .before .before .before .before .before .before .before .before .before .before .before .before .before .before .before .walk-tables .ensures) (c .before .before .before .before .before .before .before .before .before .header2 .given .1) _ _ (c .before .before .before .before .before .before .clear-from .ensures) (c .before .before .clear-from2 .ensures) (c .before .before .before .before .before .before .before .before .before .before .before .before .before .before .before .walk-tables .kept .1 .1 .1 .0) (c .before .before .before .before .before .before .before .before .before .before .before .before .before .before .before .walk-tables .kept .1 .1 .1 .1 .0)
 
 pub read-header-spec : {M : Type 1} → statement M

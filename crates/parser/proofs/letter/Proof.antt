@@ -2,7 +2,7 @@
 use native.Mathlib.Omega.{arith}
 use lib.ListN.{length}
 use Rattle.rooms.specs.Rooms.{tableLimit}
-use Rattle.tokens.specs.Items.{shownAll}
+use Rattle.tokens.specs.Items.{tokensAll}
 use Rattle.walk.specs.Walk.{walk}
 use Rattle.header.specs.Header.{tables}
 use Rattle.parser.proofs.Parts.{letter-refused, letter-read}
@@ -35,7 +35,7 @@ same-length-2 : tie.Need-same-length-2
 same-length-2 c = search needs
 
 returns : tie.Need-returns
-returns c = let a = c .before .before .before .before .before .before .before .before .before .before .before .before .before .before .before .before .args in let ts = shownAll (a .source .now) (a .n) (a .tokens .now) in let x = tables (tableLimit fontWords (length (a .fonts .now))) (tableLimit colourWords (length (a .colours .now))) (walk ts) in letter-refused (a .reading) (length (a .fonts .now)) (length (a .colours .now)) (length (a .blocks .now)) (length (a .text .now)) ts (a .n) x _ _ _ (c .before .before .before .before .before .before .before .read-header .ensures) (c .before .header .given .1) _ _
+returns c = let a = c .before .before .before .before .before .before .before .before .before .before .before .before .before .before .before .before .args in let ts = tokensAll (a .source .now) (a .n) (a .tokens .now) in let x = tables (tableLimit fontWords (length (a .fonts .now))) (tableLimit colourWords (length (a .colours .now))) (walk ts) in letter-refused (a .reading) (length (a .fonts .now)) (length (a .colours .now)) (length (a .blocks .now)) (length (a .text .now)) ts (a .n) x _ _ _ (c .before .before .before .before .before .before .before .read-header .ensures) (c .before .header .given .1) _ _
 
 same-length-3 : tie.Need-same-length-3
 same-length-3 c = search needs
@@ -50,7 +50,7 @@ same-length-6 : tie.Need-same-length-6
 same-length-6 c = search needs
 
 returns-2 : tie.Need-returns-2
-returns-2 c = let a = c .before .before .before .before .before .before .before .before .before .before .before .before .before .before .before .before .before .before .before .before .before .before .before .args in let ts = shownAll (a .source .now) (a .n) (a .tokens .now) in let x = tables (tableLimit fontWords (length (a .fonts .now))) (tableLimit colourWords (length (a .colours .now))) (walk ts) in letter-read (a .reading) (length (a .fonts .now)) (length (a .colours .now)) (length (a .blocks .now)) (length (a .text .now)) ts (a .n) x _ _ _ (c .before .before .before .before .before .before .before .before .before .before .before .before .before .before .read-header .ensures) (c .before .before .before .before .before .before .before .before .header2 .given .1) _ _ _ (c .before .before .before .before .read-body .ensures)
+returns-2 c = let a = c .before .before .before .before .before .before .before .before .before .before .before .before .before .before .before .before .before .before .before .before .before .before .before .args in let ts = tokensAll (a .source .now) (a .n) (a .tokens .now) in let x = tables (tableLimit fontWords (length (a .fonts .now))) (tableLimit colourWords (length (a .colours .now))) (walk ts) in letter-read (a .reading) (length (a .fonts .now)) (length (a .colours .now)) (length (a .blocks .now)) (length (a .text .now)) ts (a .n) x _ _ _ (c .before .before .before .before .before .before .before .before .before .before .before .before .before .before .read-header .ensures) (c .before .before .before .before .before .before .before .before .header2 .given .1) _ _ _ (c .before .before .before .before .read-body .ensures)
 
 pub letter-spec : {M : Type 1} → statement M
 letter-spec =

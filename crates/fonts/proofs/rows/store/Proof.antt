@@ -5,7 +5,6 @@ use Rattle.fonts.proofs.rows.store.Statement.{statement}
 use Rattle.fonts.proofs.rows.store.Tie as tie
 use Rattle.fonts.proofs.rows.store.Reads as reads
 use Rattle.fonts.proofs.rows.store.Lts as lts
-use Rattle.answers.proofs.Refusal.of.Reads as of-reads
 use Rattle.fonts.proofs.rows.put.Reads as put-reads
 use Rattle.fonts.proofs.rows.rank.Reads as rank-reads
 use Rattle.fonts.proofs.rows.shift.Reads as shift-reads
@@ -29,14 +28,11 @@ same-length c = search needs
 returns : tie.Need-returns
 returns c = store-over (c .before .before .before .before .before .before .before .before .before .before .pre) (c .before .before .before .before .before .before .before .rank .ensures) (c .before .before .before .before .before .stands .ensures) (c .before .before .before .before .if1 .taken) _ (c .before .before .put .ensures)
 
-of-requires : tie.Need-of-requires
-of-requires c κs = search needs
-
 same-length-2 : tie.Need-same-length-2
 same-length-2 c = search needs
 
 returns-2 : tie.Need-returns-2
-returns-2 c = store-full (c .before .before .before .before .before .before .before .before .pre) (c .before .before .before .before .before .rank .ensures) (c .before .before .before .stands .ensures) (c .before .before .if1 .left) (c .before .if2 .taken) _ (c .of .ensures)
+returns-2 c = store-full (c .before .before .before .before .before .before .before .pre) (c .before .before .before .before .rank .ensures) (c .before .before .stands .ensures) (c .before .if1 .left) (c .if2 .taken)
 
 mul-end : tie.Need-mul-end
 mul-end c = search needs
@@ -47,8 +43,8 @@ shift-requires c κs = search needs
 put-requires-2 : tie.Need-put-requires-2
 put-requires-2 c κs = search needs
 
-add-t25 : tie.Need-add-t25
-add-t25 c = search needs
+add-t24 : tie.Need-add-t24
+add-t24 c = search needs
 
 same-length-3 : tie.Need-same-length-3
 same-length-3 c = search needs
@@ -66,12 +62,11 @@ store-spec =
     put-requires
     same-length
     returns
-    of-requires
     same-length-2
     returns-2
     mul-end
     shift-requires
     put-requires-2
-    add-t25
+    add-t24
     same-length-3
     returns-3)

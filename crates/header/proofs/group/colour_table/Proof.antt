@@ -7,15 +7,19 @@ use Rattle.header.proofs.group.colour_table.Statement.{statement}
 use Rattle.header.proofs.group.colour_table.Tie as tie
 use Rattle.header.proofs.group.colour_table.Reads as reads
 use Rattle.header.proofs.group.colour_table.Lts as lts
-use Rattle.answers.proofs.Refusal.of.Reads as of-reads
+use Rattle.answers.proofs.Refusal.at.Reads as at-reads
 use Rattle.colours.proofs.read_colours.Reads as read-colours-reads
 use Rattle.walk.proofs.extent.Reads as extent-reads
+use Rattle.walk.proofs.table_word.Reads as table-word-reads
 
-of-requires : tie.Need-of-requires
-of-requires c κs = search needs
+table-word-requires : tie.Need-table-word-requires
+table-word-requires c κs = search needs
+
+at-requires : tie.Need-at-requires
+at-requires c κs = search needs
 
 returns : tie.Need-returns
-returns c = ((λ src. late-colours src _ _ _ _ _ (c .before .if1 .taken) (c .of .ensures)), omega arith)
+returns c = ((λ src. late-colours src _ _ _ _ _ (c .before .before .if1 .taken) (c .before .table-word .ensures src) (c .at .ensures)), omega arith)
 
 extent-requires : tie.Need-extent-requires
 extent-requires c κs = search needs
@@ -51,7 +55,8 @@ pub colour-table-spec : {M : Type 1} → statement M
 colour-table-spec =
     tie.close
     (tie.spec
-    of-requires
+    table-word-requires
+    at-requires
     returns
     extent-requires
     mul-words

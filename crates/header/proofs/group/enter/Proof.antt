@@ -35,22 +35,22 @@ colour-table-requires : tie.Need-colour-table-requires
 colour-table-requires c κs = search needs
 
 returns : tie.Need-returns
-returns c = enter-nothing _ _ _ _ _ _ _ _ (c .before .before .aim-of .ensures _) (c .enum-told .given .1)
+returns c = enter-nothing _ _ _ _ _ _ _ _ _ (c .before .before .aim-of .ensures _) (c .enum-told .given .1)
 
 returns-2 : tie.Need-returns-2
-returns-2 c = enter-hide _ _ _ _ _ _ _ _ (c .before .before .before .aim-of .ensures _) (c .before .enum-told2 .given .1) (c .extent .ensures .0 _) (c .extent .ensures .1)
+returns-2 c = enter-hide _ _ _ _ _ _ _ _ _ (c .before .before .before .aim-of .ensures _) (c .before .enum-told2 .given .1) (c .extent .ensures .0 _) (c .extent .ensures .1)
 
 same-length : tie.Need-same-length
 same-length c = search needs
 
 returns-3 : tie.Need-returns-3
-returns-3 c = enter-fonts _ _ _ _ _ _ _ _ (c .before .before .before .before .before .before .before .aim-of .ensures _) _ _ (c .before .before .before .before .before .a .given .1) (c .before .before .font-table .ensures)
+returns-3 c = enter-fonts _ _ _ _ _ _ _ _ _ (c .before .before .before .before .before .before .before .aim-of .ensures _) _ _ (c .before .before .before .before .before .a .given .1) (c .before .before .font-table .ensures)
 
 same-length-2 : tie.Need-same-length-2
 same-length-2 c = search needs
 
 returns-4 : tie.Need-returns-4
-returns-4 c = enter-colours _ _ _ _ _ _ _ _ (c .before .before .before .before .before .before .before .aim-of .ensures _) _ _ (c .before .before .before .before .before .a2 .given .1) (c .before .before .colour-table .ensures .0 _, c .before .before .colour-table .ensures .1)
+returns-4 c = enter-colours _ _ _ _ _ _ _ _ _ (c .before .before .before .before .before .before .before .aim-of .ensures _) _ _ (c .before .before .before .before .before .a2 .given .1) (c .before .before .colour-table .ensures .0 _, c .before .before .colour-table .ensures .1)
 
 pub enter-spec : {M : Type 1} → statement M
 enter-spec =

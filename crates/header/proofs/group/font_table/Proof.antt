@@ -7,15 +7,19 @@ use Rattle.header.proofs.group.font_table.Statement.{statement}
 use Rattle.header.proofs.group.font_table.Tie as tie
 use Rattle.header.proofs.group.font_table.Reads as reads
 use Rattle.header.proofs.group.font_table.Lts as lts
-use Rattle.answers.proofs.Refusal.of.Reads as of-reads
+use Rattle.answers.proofs.Refusal.at.Reads as at-reads
 use Rattle.fonts.proofs.read_fonts.Reads as read-fonts-reads
 use Rattle.walk.proofs.extent.Reads as extent-reads
+use Rattle.walk.proofs.table_word.Reads as table-word-reads
 
-of-requires : tie.Need-of-requires
-of-requires c κs = search needs
+table-word-requires : tie.Need-table-word-requires
+table-word-requires c κs = search needs
+
+at-requires : tie.Need-at-requires
+at-requires c κs = search needs
 
 returns : tie.Need-returns
-returns c = late-fonts _ _ _ _ _ _ (c .before .if1 .taken) (c .of .ensures)
+returns c = late-fonts _ _ _ _ _ _ (c .before .before .if1 .taken) (c .before .table-word .ensures _) (c .at .ensures)
 
 extent-requires : tie.Need-extent-requires
 extent-requires c κs = search needs
@@ -51,7 +55,8 @@ pub font-table-spec : {M : Type 1} → statement M
 font-table-spec =
     tie.close
     (tie.spec
-    of-requires
+    table-word-requires
+    at-requires
     returns
     extent-requires
     mul-words

@@ -1,0 +1,2 @@
+-- Promise: what a refusal's place is, said whole.
+pub mod Promise
