@@ -26,7 +26,7 @@ use Rattle.styles.specs.Styles.{styleWords}
 use Rattle.settings.specs.Fields.{Setting, _≔_, freshRow, resets, bit, flagsOf, styleOf}
 use Rattle.settings.specs.Fields as field
 use Rattle.settings.specs.Effects.{Effect, sets, says, refuses, setting, fitted, flagOf, lined, spacing, ending}
-use Rattle.settings.specs.Effects.{painterWord, paragraphWord, characterWord, endingWord, effect}
+use Rattle.settings.specs.Effects.{painterWord, paragraphWord, characterWord, endingWord, indentWord, effect}
 use Rattle.machine.specs.Machine.{settle}
 use Rattle.runs.specs.Runs.{rows}
 use Rattle.fields.specs.Fields.{inRange}

@@ -1,8 +1,9 @@
 -- Laws that the crates above cite: Fitting, of a record's tests; Putting, of a block's bytes; Lists, of the whole list; Writing, what is
--- written, and of which blocks; Tight, that one result is permitted. For this crate alone: Rows, of the loop over the records; Settling, of
+-- written, and of which blocks; Tight, that one result is permitted. For this crate alone: Rows, of the loop over the records; Indents, of 26; Settling, of
 -- the room at the end; Cases, small lists, computed.
 pub mod Lists
 mod Rows
+mod Indents
 pub mod Putting
 pub mod Fitting
 mod Settling

@@ -7,7 +7,7 @@
 -- Assumes nothing.
 use mathlib.Core.Path.{_≡_, refl, sym, ap, _∙_}
 use mathlib.Core.List.{List, [], _∷_, _++_}
-use mathlib.Core.Bool.{Bool, true, false, cond, _&&_}
+use mathlib.Core.Bool.{Bool, true, false, cond, not, _&&_}
 use Prim.Native.Nat.{ℕ, zero, suc, _+_, _*_, _/_, _%_, _≤_, _<_}
 use native.Mathlib.Omega.{arith}
 use borrow.Author.Tests.{ltb-true, lt-ltb, leb-true, le-leb, eqb-true, eq-eqb}
@@ -28,13 +28,14 @@ use Rattle.wellformed.specs.WellFormed.{isUtf8}
 use Rattle.fields.specs.Fields.{inRange}
 use Rattle.blocks.specs.Pages.{Piece, piece, Last, none, last, starts, textOf, blockRecord, records, blockWords}
 use Rattle.blocks.proofs.Blocks.{length-records}
-use Rattle.storing.specs.Fitting.{styleAt, placeAt, lengthAt, fits}
+use Rattle.styles.specs.Styles.{styleAt, flush}
+use Rattle.storing.specs.Fitting.{placeAt, lengthAt, fits}
 use Rattle.storing.proofs.Fitting.{Fit, fits-fit, fit-all}
 use Rattle.storing.specs.Bytes.{blockBytes, blocksBytes, listBytes}
 use Rattle.storing.specs.Lists.{piecesFrom, bytesOf, whole, listStream}
 use Rattle.storing.proofs.Lists.{list-is}
-use Rattle.storing.specs.Storing.{writeAnswer, writeRoom}
-use Rattle.storing.specs.Good.{Good}
+use Rattle.storing.specs.Storing.{indented, listAnswer, writeAnswer, writeRoom}
+use Rattle.storing.specs.Good.{Good, Flat}
 use Rattle.answers.specs.declared.Refusal.{Refusal}
 
 -- ---- good blocks
@@ -99,7 +100,7 @@ blocks-cons x xs = sym (streamed-append (blockBytes x) (blocksBytes xs))
 -- a block's record says its style, place and length
 module _ (x : Piece) (p : ℕ) (ws : List ℕ) where
   record-style : styleAt (blockRecord (x .style) p (length (x .bytes)) ++ ws) ≡ x .style
-  unfolding blockRecord
+  unfolding blockRecord styleAt
   record-style = refl
 
   record-place : placeAt (blockRecord (x .style) p (length (x .bytes)) ++ ws) ≡ p
@@ -176,7 +177,7 @@ items-split (suc n) i ws h =
     ∙ ap (λ (l : List ℕ). getD ws i 0 ∷ l) (items-split n (suc i) ws (omega arith) ∙ rw e)
 
 record-split : (ws : List ℕ) → blockWords ≤ length ws → ws ≡ blockRecord (styleAt ws) (placeAt ws) (lengthAt ws) ++ drop blockWords ws
-unfolding itemsFrom blockRecord
+unfolding itemsFrom blockRecord styleAt
 record-split ws h = items-split blockWords 0 ws h
 
 -- the blocks that words and a text are, behind a block l and p bytes of the text
@@ -283,18 +284,36 @@ stream-ends ws tx {n} a =
     ap (λ (i : ℕ). bytesOf (piecesFrom i none 0 ws tx)) (q .4) ∙ q .5 in
     (q .0, q .1, q .2, q .3, rw (q .4) (omega arith), list-as ws tx (q .0) w (sym (q .4)) d)
 
+-- ---- indents
+
+-- the records of blocks have an indent if a block has
+pub indented-records : (xs : List Piece) (p : ℕ) → indented (length xs) (records p xs) ≡ not (Flat xs)
+unfolding indented records Flat
+indented-records [] p = refl
+indented-records (x ∷ xs) p =
+    let rest : List ℕ = records (p + length (x .bytes)) xs in
+    rw (record-style x p rest, record-rest x p rest, indented-records xs (p + length (x .bytes))) (go (flush (x .style)) (Flat xs))
+  where
+    go : (t u : Bool) → cond t (not u) true ≡ not (cond t u false)
+    go true u = refl
+    go false u = refl
+
 -- ---- the answer and the room
 
-module _ (xs : List Piece) (total : ℕ) (h : Good none xs ≡ true) (s : length (textOf xs) ≤ 2147483647)
+module _ (xs : List Piece) (total : ℕ) (h : Good none xs ≡ true) (g : Flat xs ≡ true) (s : length (textOf xs) ≤ 2147483647)
     (f : length (listBytes xs) ≤ total) where
+  good-bare : indented (length (records 0 xs) / blockWords) (records 0 xs) ≡ false
+  good-bare =
+      let n : length (records 0 xs) / blockWords ≡ length xs = omega (arith, length-records xs 0) in
+      rw n (indented-records xs 0 ∙ ap not g)
+
   good-answer : writeAnswer total (records 0 xs) (textOf xs) ≡ Done (length (listBytes xs))
-  unfolding writeAnswer
+  unfolding writeAnswer listAnswer
   good-answer =
       let z : 0 + length (listBytes xs) ≡ length (listBytes xs) = omega arith in
-      ap (λ (y : Stream Refusal ℕ). settled byteLayout (refusal OutputRoom) total (answer 0 y)) (stream-good xs h s)
-      ∙ ap (settled byteLayout (refusal OutputRoom) total) (answer-streamed (listBytes xs) 0)
-      ∙ ap (λ (n : ℕ). settled byteLayout (refusal OutputRoom) total (Done n)) z
-      ∙ settled-fits byteLayout (refusal OutputRoom) total (length (listBytes xs)) (omega arith)
+      let a : answer 0 (listStream (records 0 xs) (textOf xs)) ≡ Done (length (listBytes xs)) =
+      ap (answer 0) (stream-good xs h s) ∙ answer-streamed (listBytes xs) 0 ∙ ap Done z in
+      rw (good-bare, a) (settled-fits byteLayout (refusal OutputRoom) total (length (listBytes xs)) (omega arith))
 
   good-room : writeRoom total (records 0 xs) (textOf xs) ≡ filled total (listBytes xs)
   unfolding writeRoom content
