@@ -25,7 +25,7 @@ use Rattle.fonts.specs.Rows.{fontRecord, tableWords, hasKey, inserted, stored, 
 use Rattle.fonts.specs.Fonts.{named as fontNamed, fontWord, fontToken, fontsFrom, fonts}
 use Rattle.colours.specs.Colours.{colourWordOf, colourToken, coloursFrom, colours, colourWords}
 use Rattle.header.specs.Header.{tablesFrom}
-use Rattle.readings.specs.declared.Reading.the-variants.{Plain}
+use Rattle.readings.specs.declared.Reading.the-variants.{Plain, Paragraphs}
 use Rattle.settings.specs.Fields.{resets, flagsOf, styleOf}
 use Rattle.settings.specs.Effects.{fitted, spacing, painterWord, paragraphWord, characterWord, endingWord, indentWord, effect}
 use Rattle.blocks.specs.Pages.{blockRecord, blocksFrom, blocks, textOf, records, roomy, blockWords}
@@ -33,7 +33,7 @@ use Rattle.body.specs.Body.{acts, body as bodyOf}
 use Rattle.parser.specs.declared.Answer.the-variants.{Read}
 use Rattle.parser.specs.Parsing.{Sizes, Letter, placed, bodied, answerNumber, answerPlace}
 use Rattle.reader.specs.Reading.{letterOf, answered, readAnswer, blockRoom, textRoom}
-use Rattle.samples.specs.Letters.{Sample, samples, telling, crowded, cramped, refusing, placing, placeless, unread, unwritten, listed, listedCounts, listedBlocks, listedText}
+use Rattle.samples.specs.Letters.{Sample, samples, telling, crowded, cramped, refusing, placing, placeless, unread, unwritten, listed, listedCounts, listedBlocks, listedText, indents, indentedBlocks, flushBlocks}
 
 -- rooms enough for each
 room : Sizes
@@ -108,3 +108,18 @@ listing-blocks = refl
 listing-text : textRoom Plain (bytesOf listed) just ≡ listedText
 unfolding textRoom listed listedText just letterOf shownBy bodied placed roomy bodyOf acts machine moved said spoken gave settle writtenAll _▸▸_ blocks blocksFrom textOf records tableWords fontRecord walkFrom extent tableWord aimFrom tablesFrom fonts fontsFrom fontToken fontWord stored inserted hasKey fontNamed colours coloursFrom colourToken colourWordOf tableLimit values step metAny met taken unitOf utf8 written effect painterWord paragraphWord characterWord endingWord indentWord fitted spacing resets styleOf flagsOf cutAnswer tokenStream trimmed allSlices last located settled ended items each andThen split slices lead body any tokens escaped other word wordTail bareLength named numbered shownWord lineBreakAnd hexEscape hexValue plain mark wordNumber placeIn sameBytes hexDigit hexPair digitsFrom digits decimal recordOf
 listing-text = refl
+
+-- 02's indents, in rooms that the blocks fill
+quoted : Sizes
+quoted = record { tokens = 12 * tokenWords; fonts = 0; colours = 0; blocks = 3 * blockWords; text = 3 }
+
+unquoted : Sizes
+unquoted = record { tokens = 12 * tokenWords; fonts = 0; colours = 0; blocks = blockWords; text = 3 }
+
+by-paragraphs : blockRoom Paragraphs (bytesOf indents) quoted ≡ indentedBlocks
+unfolding blockRoom blockRecord indents indentedBlocks quoted letterOf shownBy bodied placed roomy bodyOf acts machine moved said spoken gave settle writtenAll _▸▸_ blocks blocksFrom textOf records tableWords fontRecord walkFrom extent tableWord aimFrom tablesFrom fonts fontsFrom fontToken fontWord stored inserted hasKey fontNamed colours coloursFrom colourToken colourWordOf tableLimit values step metAny met taken unitOf utf8 written effect painterWord paragraphWord characterWord endingWord indentWord fitted spacing resets styleOf flagsOf cutAnswer tokenStream trimmed allSlices last located settled ended items each andThen split slices lead body any tokens escaped other word wordTail bareLength named numbered shownWord lineBreakAnd hexEscape hexValue plain mark wordNumber placeIn sameBytes hexDigit hexPair digitsFrom digits decimal recordOf
+by-paragraphs = refl
+
+by-plain : blockRoom Plain (bytesOf indents) unquoted ≡ flushBlocks
+unfolding blockRoom blockRecord indents flushBlocks unquoted letterOf shownBy bodied placed roomy bodyOf acts machine moved said spoken gave settle writtenAll _▸▸_ blocks blocksFrom textOf records tableWords fontRecord walkFrom extent tableWord aimFrom tablesFrom fonts fontsFrom fontToken fontWord stored inserted hasKey fontNamed colours coloursFrom colourToken colourWordOf tableLimit values step metAny met taken unitOf utf8 written effect painterWord paragraphWord characterWord endingWord indentWord fitted spacing resets styleOf flagsOf cutAnswer tokenStream trimmed allSlices last located settled ended items each andThen split slices lead body any tokens escaped other word wordTail bareLength named numbered shownWord lineBreakAnd hexEscape hexValue plain mark wordNumber placeIn sameBytes hexDigit hexPair digitsFrom digits decimal recordOf
+by-plain = refl

@@ -14,8 +14,8 @@ use borrow.Author.Tests.{ltb-true, lt-ltb, leb-true, le-leb, eqb-true, eq-eqb}
 use lib.ListN.{length, getD, take, drop, length-append, length-take, length-drop, take-append-drop}
 use lib.Seq.{take-at, drop-at, drop-drop, drop-cons, drop-length}
 use lib.Dec.{leb, ltb, eqb}
-use Rattle.answers.specs.declared.Why.the-variants.{StoredField, OutputRoom}
-use Rattle.answers.specs.declared.Outcome.the-variants.{Done}
+use Rattle.answers.specs.declared.Why.the-variants.{StoredField, OutputRoom, IndentNotZero}
+use Rattle.answers.specs.declared.Outcome.the-variants.{Done, Refused}
 use Rattle.answers.specs.Answers.{refusal}
 use Rattle.bytes.proofs.Runs.{and-left, and-right}
 use Rattle.rooms.specs.Streams.{Stream, end, stop, andThen, answer, ended}
@@ -286,6 +286,20 @@ stream-ends ws tx {n} a =
 
 -- ---- indents
 
+-- blocks without indents, one by one
+module _ (x : Piece) (xs : List Piece) where
+  pub flat-one : Flat (x ∷ xs) ≡ true → (flush (x .style) ≡ true) × (Flat xs ≡ true)
+  unfolding Flat
+  flat-one = go (flush (x .style)) refl
+    where
+      go : (t : Bool) → flush (x .style) ≡ t → cond t (Flat xs) false ≡ true → (flush (x .style) ≡ true) × (Flat xs ≡ true)
+      go true e f = (e, f)
+      go false e f = let z : _≡_ {A = Bool} true false = sym f in (cc, cc)
+
+  pub one-flat : flush (x .style) ≡ true → Flat xs ≡ true → Flat (x ∷ xs) ≡ true
+  unfolding Flat
+  one-flat e f = rw e f
+
 -- the records of blocks have an indent if a block has
 pub indented-records : (xs : List Piece) (p : ℕ) → indented (length xs) (records p xs) ≡ not (Flat xs)
 unfolding indented records Flat
@@ -300,20 +314,31 @@ indented-records (x ∷ xs) p =
 
 -- ---- the answer and the room
 
+module _ (xs : List Piece) (h : Good none xs ≡ true) (s : length (textOf xs) ≤ 2147483647) where
+  list-stream : answer 0 (listStream (records 0 xs) (textOf xs)) ≡ Done (length (listBytes xs))
+  list-stream =
+      let z : 0 + length (listBytes xs) ≡ length (listBytes xs) = omega arith in
+      ap (answer 0) (stream-good xs h s) ∙ answer-streamed (listBytes xs) 0 ∙ ap Done z
+
+  list-indents : indented (length (records 0 xs) / blockWords) (records 0 xs) ≡ not (Flat xs)
+  list-indents =
+      let n : length (records 0 xs) / blockWords ≡ length xs = omega (arith, length-records xs 0) in
+      rw n (indented-records xs 0)
+
+  pub good-list : Flat xs ≡ true → listAnswer (records 0 xs) (textOf xs) ≡ Done (length (listBytes xs))
+  unfolding listAnswer
+  good-list g = rw (list-indents, g, list-stream)
+
+  -- "its writer refuses a list that has one", whatever the room
+  pub write-indent : Flat xs ≡ false → (total : ℕ) → writeAnswer total (records 0 xs) (textOf xs) ≡ Refused (refusal IndentNotZero)
+  unfolding writeAnswer listAnswer settled
+  write-indent g total = rw (list-indents, g, list-stream)
+
 module _ (xs : List Piece) (total : ℕ) (h : Good none xs ≡ true) (g : Flat xs ≡ true) (s : length (textOf xs) ≤ 2147483647)
     (f : length (listBytes xs) ≤ total) where
-  good-bare : indented (length (records 0 xs) / blockWords) (records 0 xs) ≡ false
-  good-bare =
-      let n : length (records 0 xs) / blockWords ≡ length xs = omega (arith, length-records xs 0) in
-      rw n (indented-records xs 0 ∙ ap not g)
-
   good-answer : writeAnswer total (records 0 xs) (textOf xs) ≡ Done (length (listBytes xs))
-  unfolding writeAnswer listAnswer
-  good-answer =
-      let z : 0 + length (listBytes xs) ≡ length (listBytes xs) = omega arith in
-      let a : answer 0 (listStream (records 0 xs) (textOf xs)) ≡ Done (length (listBytes xs)) =
-      ap (answer 0) (stream-good xs h s) ∙ answer-streamed (listBytes xs) 0 ∙ ap Done z in
-      rw (good-bare, a) (settled-fits byteLayout (refusal OutputRoom) total (length (listBytes xs)) (omega arith))
+  unfolding writeAnswer
+  good-answer = rw (good-list xs h s g) (settled-fits byteLayout (refusal OutputRoom) total (length (listBytes xs)) (omega arith))
 
   good-room : writeRoom total (records 0 xs) (textOf xs) ≡ filled total (listBytes xs)
   unfolding writeRoom content
