@@ -1,4 +1,4 @@
--- 01, Stored form: one block of a stored list, its twelve numbers and its text. Assumes nothing: these are definitions.
+-- 01, Stored form: one block of a stored list, its numbers and its text. Assumes nothing: these are definitions.
 use Prim.Native.Nat.{ℕ, zero, suc, _+_, _≤_}
 use mathlib.Core.Path.{_≡_}
 use mathlib.Core.List.{List, [], _∷_, _++_}

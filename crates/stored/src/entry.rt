@@ -1,4 +1,4 @@
-// One block of a stored list (01, Stored form): its twelve numbers, and the rules for them and for its text.
+// One block of a stored list (01, Stored form): its numbers, and the rules for them and for its text.
 //
 //   Entry        a block that stands in a list: its style, how many bytes its numbers have, and how many its text; or a refusal
 //   numbers_at   numbers, one after the other

@@ -128,7 +128,7 @@ unfolding blockBytes
 block-wrote s text ws e w v =
     wrote-then byteLayout refusal-apart (streamed text) (rw (← e) (streamed-append (numbersBytes ws) text)) w refl v
 
--- the place behind twelve numbers
+-- the place behind numbers
 pub numbers-place : (ws : List ℕ) {n at : ℕ} {room room′ : List ℕ}
     → Wrote byteLayout byRefusal n room (streamed (numbersBytes ws)) (Done at) room′
     → at ≤ n + 5 * length ws
