@@ -1,66 +1,17 @@
 -- Blocks and text of pieces.
---     sameStyle-eq   styles are the same if all their words are
 --     text-blocks                    joining keeps the text
 --     length-record, length-records  the records' words
 --     blocks-differ                  blocks that stand side by side differ in style
 -- Assumes nothing.
 use mathlib.Core.Path.{_≡_, refl, _∙_}
 use mathlib.Core.List.{List, [], _∷_, _++_, append-assoc}
-use mathlib.Core.Bool.{Bool, true, false, cond, _&&_}
+use mathlib.Core.Bool.{Bool, true, false, cond}
 use Prim.Native.Nat.{ℕ, _+_, _*_}
 use native.Mathlib.Omega.{arith}
-use borrow.Author.Tests.{eq-eqb, eqb-true}
 use lib.ListN.{length, length-append}
-use lib.Dec.{eqb}
-use Rattle.bytes.proofs.Runs.{and-left, and-right}
 use Rattle.styles.specs.declared.Style.{Style}
 use Rattle.styles.specs.Styles.{sameStyle}
 use Rattle.blocks.specs.Pages.{Piece, piece, blocksFrom, blocks, textOf, blockRecord, records, blockWords}
-
-same : (n : ℕ) → eqb n n ≡ true
-same n = eq-eqb n n refl
-
-first : (n m : ℕ) (y : Bool) → (eqb n m && y) ≡ true → n ≡ m
-first n m y e = eqb-true n m (and-left (eqb n m) y e)
-
-rest : (x y : Bool) → (x && y) ≡ true → y ≡ true
-rest x y e = and-right x y e
-
-pub sameStyle-eq : (a b : Style) → sameStyle a b ≡ true → a ≡ b
-sameStyle-eq a b e =
-    let t11 : Bool = eqb (a .tab) (b .tab) in
-    let t10 : Bool = eqb (a .multiplier) (b .multiplier) && t11 in
-    let t9 : Bool = eqb (a .line) (b .line) && t10 in
-    let t8 : Bool = eqb (a .kind) (b .kind) && t9 in
-    let t7 : Bool = eqb (a .after) (b .after) && t8 in
-    let t6 : Bool = eqb (a .before) (b .before) && t7 in
-    let t5 : Bool = eqb (a .alignment) (b .alignment) && t6 in
-    let t4 : Bool = eqb (a .flags) (b .flags) && t5 in
-    let t3 : Bool = eqb (a .size) (b .size) && t4 in
-    let t2 : Bool = eqb (a .font) (b .font) && t3 in
-    let e2 : t2 ≡ true = rest (eqb (a .colour) (b .colour)) t2 e in
-    let e3 : t3 ≡ true = rest (eqb (a .font) (b .font)) t3 e2 in
-    let e4 : t4 ≡ true = rest (eqb (a .size) (b .size)) t4 e3 in
-    let e5 : t5 ≡ true = rest (eqb (a .flags) (b .flags)) t5 e4 in
-    let e6 : t6 ≡ true = rest (eqb (a .alignment) (b .alignment)) t6 e5 in
-    let e7 : t7 ≡ true = rest (eqb (a .before) (b .before)) t7 e6 in
-    let e8 : t8 ≡ true = rest (eqb (a .after) (b .after)) t8 e7 in
-    let e9 : t9 ≡ true = rest (eqb (a .kind) (b .kind)) t9 e8 in
-    let e10 : t10 ≡ true = rest (eqb (a .line) (b .line)) t10 e9 in
-    let e11 : t11 ≡ true = rest (eqb (a .multiplier) (b .multiplier)) t11 e10 in
-    λ i. record {
-      colour = first (a .colour) (b .colour) t2 e i;
-      font = first (a .font) (b .font) t3 e2 i;
-      size = first (a .size) (b .size) t4 e3 i;
-      flags = first (a .flags) (b .flags) t5 e4 i;
-      alignment = first (a .alignment) (b .alignment) t6 e5 i;
-      before = first (a .before) (b .before) t7 e6 i;
-      after = first (a .after) (b .after) t8 e7 i;
-      kind = first (a .kind) (b .kind) t9 e8 i;
-      line = first (a .line) (b .line) t10 e9 i;
-      multiplier = first (a .multiplier) (b .multiplier) t11 e10 i;
-      tab = eqb-true (a .tab) (b .tab) e11 i;
-    }
 
 text-cons : (x : Piece) (xs : List Piece) → textOf (x ∷ xs) ≡ x .bytes ++ textOf xs
 unfolding textOf

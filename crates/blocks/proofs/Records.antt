@@ -1,6 +1,6 @@
 -- A block's record in a room.
---     put-thirteen   its words, stored one by one
---     style-read     its style's words, read one by one
+--     put-record     its style's words, then the place and the length of its text
+--     style-part     the style that the words of a room from a record on say
 --     style-last     the style that a room's last record says
 --     record-grown   its last word, stored anew
 -- Assumes nothing.
@@ -8,56 +8,36 @@ use mathlib.Core.Path.{_≡_, refl, sym, ap, _∙_}
 use mathlib.Core.List.{List, [], _∷_, _++_, append-assoc}
 use Prim.Native.Nat.{ℕ, suc, _+_, _-_, _*_, _<_}
 use native.Mathlib.Nat.{add-zero, add-suc}
-use native.Mathlib.Numerals.{add-one}
 use native.Mathlib.Omega.{arith}
-use lib.ListN.{length, set, getD, take, drop, length-append, take-append-drop}
-use lib.Seq.{sets, getD-drop, drop-at, set-at, take-set-lt}
+use lib.ListN.{length, set, take, drop, length-append, length-drop, take-append-drop}
+use lib.Seq.{sets, take-all, drop-at, set-at, take-set-lt}
 use Rattle.rooms.specs.Rooms.{capacity, put}
 use Rattle.rooms.proofs.Rooms.{put-in}
 use Rattle.styles.specs.declared.Style.{Style}
 use Rattle.styles.specs.Styles.{styleWords, styleAt}
-use Rattle.blocks.specs.Pages.{blockWords, blockRecord}
+use Rattle.blocks.specs.Pages.{textPlace, textLength, blockWords, blockRecord}
 use Rattle.blocks.specs.Laying.{styleIn}
 
--- stores at places that are counted from one place on
-abbrev stores : List ℕ → ℕ → ℕ → List ℕ → List ℕ
-stores l at i [] = l
-stores l at i (a ∷ vs) = stores (set l (at + i) a) at (suc i) vs
-
-as-sets : (vs l : List ℕ) (at i : ℕ) → stores l at i vs ≡ sets l (at + i) vs
-as-sets [] l at i = refl
-as-sets (a ∷ vs) l at i = as-sets vs (set l (at + i) a) at (suc i) ∙ ap (λ (k : ℕ). sets (set l (at + i) a) k vs) (add-suc at i)
-
-stored : (a : ℕ) (vs l : List ℕ) (at : ℕ) → stores (set l at a) at 1 vs ≡ sets l at (a ∷ vs)
-stored a vs l at = as-sets vs (set l at a) at 1 ∙ ap (λ (k : ℕ). sets (set l at a) k vs) (add-one at)
+-- words stored behind words
+sets-append : (xs ys l : List ℕ) (i : ℕ) → sets (sets l i xs) (i + length xs) ys ≡ sets l i (xs ++ ys)
+sets-append [] ys l i = ap (λ (k : ℕ). sets l k ys) (add-zero i)
+sets-append (x ∷ xs) ys l i =
+    let q : i + suc (length xs) ≡ suc i + length xs = omega arith in
+    ap (λ (k : ℕ). sets (sets (set l i x) (suc i) xs) k ys) q ∙ sets-append xs ys (set l i x) (suc i)
 
 module _ (room : List ℕ) (n : ℕ) (s : Style) (place count : ℕ) where
-  pub put-thirteen : n < capacity blockWords (length room)
-      → set (set (set (set (set (set (set (set (set (set (set (set (set room (n * blockWords) (s .colour)) (n * blockWords + 1) (s .font)) (n * blockWords + 2) (s .size))
-      (n * blockWords + 3) (s .flags)) (n * blockWords + 4) (s .alignment)) (n * blockWords + 5) (s .before)) (n * blockWords + 6) (s .after)) (n * blockWords + 7) (s .kind))
-      (n * blockWords + 8) (s .line)) (n * blockWords + 9) (s .multiplier)) (n * blockWords + 10) (s .tab)) (n * blockWords + 11) place) (n * blockWords + 12) count
-      ≡ put blockWords room n (styleWords s ++ (place ∷ count ∷ []))
-  put-thirteen h =
-      stored (s .colour) (s .font ∷ s .size ∷ s .flags ∷ s .alignment ∷ s .before ∷ s .after ∷ s .kind ∷ s .line ∷ s .multiplier ∷ s .tab ∷ place ∷ count ∷ [])
-      room (n * blockWords)
+  pub put-record : n < capacity blockWords (length room) → {l : List ℕ} → l ≡ sets room (n * blockWords) (styleWords s)
+      → set (set l (n * blockWords + textPlace) place) (n * blockWords + textLength) count ≡ put blockWords room n (styleWords s ++ (place ∷ count ∷ []))
+  put-record h {l} e =
+      let at : ℕ = n * blockWords in
+      ap (λ (k : ℕ). set (set l (at + textPlace) place) k count) (add-suc at textPlace)
+      ∙ ap (λ (r : List ℕ). sets r (at + textPlace) (place ∷ count ∷ [])) e
+      ∙ sets-append (styleWords s) (place ∷ count ∷ []) room at
       ∙ put-in blockWords room n (styleWords s ++ (place ∷ count ∷ [])) h
 
-module _ (room : List ℕ) (n : ℕ) where
-  pub style-read : record {
-    colour = getD room (n * blockWords) 0;
-    font = getD room (n * blockWords + 1) 0;
-    size = getD room (n * blockWords + 2) 0;
-    flags = getD room (n * blockWords + 3) 0;
-    alignment = getD room (n * blockWords + 4) 0;
-    before = getD room (n * blockWords + 5) 0;
-    after = getD room (n * blockWords + 6) 0;
-    kind = getD room (n * blockWords + 7) 0;
-    line = getD room (n * blockWords + 8) 0;
-    multiplier = getD room (n * blockWords + 9) 0;
-    tab = getD room (n * blockWords + 10) 0;
-  } ≡ styleIn room n
-  unfolding styleIn styleAt
-  style-read = simp (getD-drop, add-zero)
+pub style-part : (room : List ℕ) (n : ℕ) → styleAt (take (length room - n * blockWords) (drop (n * blockWords) room)) ≡ styleIn room n
+unfolding styleIn
+style-part room n = ap styleAt (take-all (length room - n * blockWords) (drop (n * blockWords) room) (simp length-drop (omega arith)))
 
 -- a room whose n + 1 records end in one of a style
 module _ (W b : List ℕ) (n : ℕ) (s : Style) (place count : ℕ) (before : length W ≡ n * blockWords)

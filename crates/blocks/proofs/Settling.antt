@@ -32,7 +32,8 @@ use Rattle.blocks.specs.declared.Page.{Page}
 use Rattle.blocks.specs.Pages.{Piece, blockWords, blockRecord, records, textCapacity, textOf, blocks, blocksFrom, none, last, starts, roomy}
 use Rattle.blocks.specs.Laying.{Laying, on, off, blank, lastIn, longer, measured, startOf, addOf, layAll, Ready}
 use Rattle.blocks.proofs.Writing.{twice, cap-le, start-same, start-new, start-full, append-full, append-more}
-use Rattle.blocks.proofs.Blocks.{sameStyle-eq, length-record, length-records}
+use Rattle.styles.proofs.Styles.{sameStyle-eq}
+use Rattle.blocks.proofs.Blocks.{length-record, length-records}
 use Rattle.blocks.proofs.Records.{style-last, record-grown}
 use Rattle.blocks.proofs.Laying.{lay-off}
 

@@ -9,7 +9,7 @@ use Rattle.answers.specs.declared.Why.the-variants.{BlockRoom, TextRoom}
 use Rattle.answers.specs.Answers.{refusal}
 use Rattle.rooms.specs.Streams.{Stream, end, stop, _▸_}
 use Rattle.styles.specs.declared.Style.{Style}
-use Rattle.styles.specs.Styles.{styleWords, sameStyle}
+use Rattle.styles.specs.Styles.{styleWidth, styleWords, sameStyle}
 use Rattle.answers.specs.declared.Refusal.{Refusal}
 
 -- text of a style
@@ -36,9 +36,15 @@ unfoldable pub textOf : List Piece → List ℕ
 textOf [] = []
 textOf (x ∷ xs) = x .bytes ++ textOf xs
 
--- "Block, 13 signed 32-bit words: .. text place, text length."
+-- "Block, .. signed 32-bit words: .. text place, text length."; 02, A5: "sixteen words"
+abbrev pub textPlace : ℕ
+textPlace = styleWidth
+
+abbrev pub textLength : ℕ
+textLength = styleWidth + 1
+
 abbrev pub blockWords : ℕ
-blockWords = 13
+blockWords = styleWidth + 2
 
 unfoldable pub blockRecord : Style → ℕ → ℕ → List ℕ
 blockRecord s place count = styleWords s ++ (place ∷ count ∷ [])

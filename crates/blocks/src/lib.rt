@@ -13,6 +13,7 @@ use crate::copy::copy;
 use crate::record::put;
 use crate::record::style_in;
 use answers::Refusal;
+use styles::STYLE_WORDS;
 use styles::Style;
 use styles::same_style;
 ghost use mathlib.Core.Path.{_≡_};
@@ -25,8 +26,12 @@ ghost use Rattle.blocks.specs.Pages.{blockWords, textCapacity, starts};
 ghost use Rattle.answers.specs.declared.Why.the-variants.{BlockRoom, TextRoom};
 ghost use Rattle.blocks.specs.Laying.{pageWords, pageOf, lastIn, laidIf, roomed, startOf, appendOf, addOf, ReadyBlocks, Held};
 
-// How many words a block's record has.
-pub const BLOCK_WORDS: usize = 13;
+// A block's record: the words of its style, the place of its text, and its length.
+pub const TEXT_PLACE: usize = STYLE_WORDS;
+
+pub const TEXT_LENGTH: usize = STYLE_WORDS + 1;
+
+pub const BLOCK_WORDS: usize = STYLE_WORDS + 2;
 
 // A page in an array, as functions hand it on: its words by name.
 pub const BLOCKS: usize = 0;

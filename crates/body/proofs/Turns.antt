@@ -18,7 +18,7 @@ use Rattle.rooms.specs.Streams.{Stream, end}
 use Rattle.tokens.specs.Tokens.{Token, shownIn, tokenWords, shownBy}
 use Rattle.tokens.specs.Items.{itemAt, shownOf, shownAll, sliceAt, tokenAt, tokensAll}
 use Rattle.tokens.proofs.Items.{rest, tokens-none, tokens-some, tokens-drop, tokens-shown}
-use Rattle.settings.specs.Fields.{freshRow, Setting}
+use Rattle.settings.specs.Fields.{width, freshRow, Setting}
 use Rattle.walk.specs.Walk.{Step, stepOf, passedBy, walk}
 use Rattle.walk.proofs.Walk.{walk-one, walk-end}
 use Rattle.units.specs.declared.Run.{Run}
@@ -57,7 +57,7 @@ pub record Loop (rd : Reading) (src b₀ t₀ tokens : List ℕ) (count : ℕ) (
   pub left : layAll (on (pageOf page) b t) (from rd (held [] states depth) (runOf run) (tokensAll src n ws)) ≡ whole rd src b₀ t₀ tokens count
 
 pub loop-start : (rd : Reading) (src b t tokens : List ℕ) (count : ℕ) {row : List ℕ} → row ≡ freshRow → (count * tokenWords ≤ length tokens) × (count ≤ 65536)
-    → Loop rd src b t tokens count b t (set (replicate 64 (replicate 18 0)) 0 row) 1 (0 ∷ 0 ∷ 0 ∷ []) (0 ∷ 0 ∷ 0 ∷ []) tokens count
+    → Loop rd src b t tokens count b t (set (replicate 64 (replicate width 0)) 0 row) 1 (0 ∷ 0 ∷ 0 ∷ []) (0 ∷ 0 ∷ 0 ∷ []) tokens count
 unfolding held body
 loop-start rd src b t tokens count e h = record {
   deep = omega arith;

@@ -21,7 +21,7 @@ use Rattle.tokens.specs.Items.{numberAt}
 use Rattle.settings.specs.Fields.{Setting, freshRow, styleOf}
 use Rattle.settings.specs.Fields as field
 use Rattle.settings.specs.declared.Act.{Act}
-use Rattle.settings.specs.Effects.{Effect, effect, meaning, painterWord, paragraphWord, characterWord, endingWord}
+use Rattle.settings.specs.Effects.{Effect, effect, meaning, painterWord, paragraphWord, characterWord, endingWord, indentWord}
 use Rattle.settings.specs.Effects as does
 use Rattle.utf8.specs.Utf8.{written, utf8}
 use Rattle.units.specs.declared.Run.{Run}
@@ -188,7 +188,7 @@ unit-turn (top ∷ rest) p b t num = refl
 
 word-turn : (rd : Reading) (st : List (List ℕ)) (p : Page) (b t : List ℕ) (w : ℕ) (num : Property) (u : Bool) → eqb w 2 ≡ u
     → turnOf st p b t (ended before) (doing (effect rd w num)) ≡ turnOf st p b t (ended before) (cond u (Deed.unit num) (doing (effect rd w num)))
-unfolding effect painterWord paragraphWord characterWord endingWord
+unfolding effect painterWord paragraphWord characterWord endingWord indentWord
 word-turn rd st p b t w num true q = rw (eqb-true w 2 q) (unit-turn st p b t num)
 word-turn rd st p b t w num false q = refl
 

@@ -17,7 +17,7 @@ use Rattle.tokens.specs.declared.Property.{Property}
 use Rattle.tokens.specs.declared.item.Item.the-variants.{Text, Opening, Closing, LineBreak, Ignorable, Word, Unknown}
 use Rattle.tokens.specs.Items.{itemAt, itemOf, wordItem, numberAt, shownOf, part}
 use Rattle.settings.specs.Fields.{Setting}
-use Rattle.settings.specs.Effects.{Effect, effect, painterWord, paragraphWord, characterWord, endingWord}
+use Rattle.settings.specs.Effects.{Effect, effect, painterWord, paragraphWord, characterWord, endingWord, indentWord}
 use Rattle.settings.specs.Effects as does
 use Rattle.units.specs.declared.Run.{Run}
 use Rattle.machine.specs.Machine.{Deed, parts, ended, gave}
@@ -61,7 +61,7 @@ module _ (rd : Reading) (src ws : List ℕ) where
 
   -- a word's item: an unknown one does nothing, as words that are none of 01's effects
   word-item : (w p n : ℕ) (num : Property) → (b : Bool) → eqb w 49 ≡ b → cond (eqb w 2) (Deed.unit num) (doing (effect rd w num)) ≡ tokenDeed rd (shownOf src (cond b (Unknown p n num) (Word w num)))
-  unfolding effect painterWord paragraphWord characterWord endingWord
+  unfolding effect painterWord paragraphWord characterWord endingWord indentWord
   word-item w p n num true q = rw (eqb-true w 49 q)
   word-item w p n num false q = refl
 

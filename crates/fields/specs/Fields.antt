@@ -1,10 +1,11 @@
 -- 01, Stored form: the rules of a block's fields, for reading and for writing. Assumes nothing: these are definitions.
-use Prim.Native.Nat.{ℕ, _+_, _-_, _*_, _/_, _%_}
+use Prim.Native.Nat.{ℕ, suc, _+_, _-_, _*_, _/_, _%_}
 use mathlib.Core.List.{List, [], _∷_}
 use mathlib.Core.Bool.{Bool, true, false, cond, _&&_, _||_}
-use lib.ListN.{getD}
+use lib.ListN.{take}
 use lib.Dec.{leb, ltb, eqb}
 use Rattle.styles.specs.declared.Style.{Style}
+use Rattle.styles.specs.Styles.{bareWidth, styleWords, styleAt}
 use Rattle.blocks.specs.Pages.{Last, none, last}
 
 -- "n≥0 as 2n, n<0 as -2n-1", where n below zero stands as n + 2^32
@@ -21,27 +22,32 @@ inRange s =
     leb (s .colour) 65535 && (leb (s .font) 65535 && (leb (s .size) 65535 && (leb (s .flags) 127 && (leb (s .alignment) 3
     && (leb (s .kind) 1 && (leb (s .line) 2147483647 && (eqb (s .kind) 1 || eqb (s .line) 0)))))))
 
--- the numbers of a style: "Before, after, multiplier and tab are folded"
-unfoldable pub styleNumbers : Style → List ℕ
-styleNumbers s =
-    s .colour ∷ s .font ∷ s .size ∷ s .flags ∷ s .alignment ∷ folded (s .before) ∷ folded (s .after) ∷ s .kind ∷ s .line
-    ∷ folded (s .multiplier) ∷ folded (s .tab) ∷ []
+-- "Before, after, multiplier and tab are folded"; 02, A6, "indents folded as the other signed words": by the word's place in a style
+abbrev pub isSigned : ℕ → Bool
+isSigned i = eqb i 5 || (eqb i 6 || leb 9 i)
 
--- and back
+-- a word of a style, by its place, as a number, and back
+abbrev pub numberAt : ℕ → ℕ → ℕ
+numberAt i w = cond (isSigned i) (folded w) w
+
+abbrev pub wordAt : ℕ → ℕ → ℕ
+wordAt i n = cond (isSigned i) (unfolded n) n
+
+-- the same of items one after the other, the first at place i
+unfoldable pub byPlace : (ℕ → ℕ → ℕ) → ℕ → List ℕ → List ℕ
+byPlace f i [] = []
+byPlace f i (x ∷ xs) = f i x ∷ byPlace f (suc i) xs
+
+-- "the eleven style words" of a style as numbers, and the style that they say: "The old stored form cannot hold" indents (02, A5), and says 0
+abbrev pub styleNumbers : Style → List ℕ
+styleNumbers s = byPlace numberAt 0 (take bareWidth (styleWords s))
+
 abbrev pub styleFrom : List ℕ → Style
-styleFrom ns = record {
-  colour = getD ns 0 0;
-  font = getD ns 1 0;
-  size = getD ns 2 0;
-  flags = getD ns 3 0;
-  alignment = getD ns 4 0;
-  before = unfolded (getD ns 5 0);
-  after = unfolded (getD ns 6 0);
-  kind = getD ns 7 0;
-  line = getD ns 8 0;
-  multiplier = unfolded (getD ns 9 0);
-  tab = unfolded (getD ns 10 0);
-}
+styleFrom ns = styleAt (byPlace wordAt 0 (take bareWidth ns))
+
+-- "per block the eleven style words, text length, text": how many numbers that is
+abbrev pub blockNumbers : ℕ
+blockNumbers = bareWidth + 1
 
 -- the block before, if there is one
 abbrev pub lastOf : Bool → Style → Last

@@ -29,14 +29,15 @@ use Rattle.parser.specs.Parsing.{Sizes, placed, bodied}
 use Rattle.reader.specs.Reading.{letterOf, readAnswer, blockRoom, textRoom}
 use Rattle.sevens.specs.Sevens.{groups, streamed, high, sumFrom, valueOf, isLong, numberOf}
 use Rattle.wellformed.specs.WellFormed.{behind, goesOn}
-use Rattle.fields.specs.Fields.{folded, unfolded, inRange, styleNumbers}
+use Rattle.styles.specs.Styles.{styleAt}
+use Rattle.fields.specs.Fields.{folded, unfolded, byPlace, inRange}
 use Rattle.stored.specs.Entries.{numbersFrom, ruled, entry}
 use Rattle.stored.specs.declared.Answer.the-variants.{Read as ReadList, Refuses as RefusesList}
 use Rattle.stored.specs.Stored.{stored, storedAnswer, blocksFrom as listFrom, placed as listPlaced}
 use Rattle.storing.specs.Fitting.{fits}
 use Rattle.storing.specs.Bytes.{numbersBytes, blockBytes}
 use Rattle.storing.specs.Lists.{piecesFrom, listStream, bytesOf as listBytesOf}
-use Rattle.storing.specs.Storing.{writeAnswer, writeRoom}
+use Rattle.storing.specs.Storing.{indented, listAnswer, writeAnswer, writeRoom}
 use Rattle.previews.specs.Promise.{blocksRead, textRead}
 
 -- rooms for three tokens, a block and a byte
@@ -47,7 +48,7 @@ counts : Counts
 counts = record { tokens = 3; fonts = 0; colours = 0; blocks = 1; text = 1 }
 
 block : List ℕ
-block = 0 ∷ 0 ∷ 12 ∷ 0 ∷ 0 ∷ 0 ∷ 0 ∷ 0 ∷ 0 ∷ 0 ∷ 0 ∷ 0 ∷ 1 ∷ []
+block = 0 ∷ 0 ∷ 12 ∷ 0 ∷ 0 ∷ 0 ∷ 0 ∷ 0 ∷ 0 ∷ 0 ∷ 0 ∷ 0 ∷ 0 ∷ 0 ∷ 0 ∷ 1 ∷ []
 
 text : List ℕ
 text = 97 ∷ []
@@ -66,13 +67,13 @@ reading = (refl, refl, refl, refl)
 
 -- 25 in a room of a byte less
 storing : (writeAnswer 14 block text ≡ Done 14) × (writeRoom 14 block text ≡ list)
-    × (writeAnswer blockWords block text ≡ Refused (refusal OutputRoom))
-unfolding block text list writeAnswer writeRoom listStream piecesFrom listBytesOf fits blockBytes numbersBytes styleNumbers inRange folded groups streamed behind goesOn settled content encode ended andThen
+    × (writeAnswer 13 block text ≡ Refused (refusal OutputRoom))
+unfolding block text list writeAnswer listAnswer indented writeRoom listStream piecesFrom listBytesOf fits blockBytes numbersBytes byPlace styleAt inRange folded groups streamed behind goesOn settled content encode ended andThen
 storing = (refl, refl, refl)
 
 -- 19 in a room of a word less, 20 in one of a byte less
 reading-back : (storedAnswer blockWords 1 list ≡ ReadList (record { blocks = 1; text = 1 }))
-    × (storedAnswer 12 1 list ≡ RefusesList (refusal BlockRoom))
+    × (storedAnswer 15 1 list ≡ RefusesList (refusal BlockRoom))
     × (storedAnswer blockWords 0 list ≡ RefusesList (refusal TextRoom))
-unfolding list storedAnswer listPlaced stored listFrom entry ruled numbersFrom numberOf isLong valueOf sumFrom high inRange unfolded behind goesOn roomy blocks blocksFrom textOf items ended
+unfolding list storedAnswer listPlaced stored listFrom entry ruled numbersFrom numberOf isLong valueOf sumFrom high inRange byPlace styleAt unfolded behind goesOn roomy blocks blocksFrom textOf items ended
 reading-back = (refl, refl, refl)

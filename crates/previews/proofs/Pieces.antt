@@ -30,7 +30,8 @@ use Rattle.units.specs.Units.{before, values}
 use Rattle.wellformed.specs.WellFormed.{isUtf8}
 use Rattle.wellformed.proofs.WellFormed.{utf8-empty, utf8-ascii, utf8-one}
 use Rattle.readings.specs.declared.Reading.{Reading}
-use Rattle.styles.specs.Styles.{styleWords}
+use Rattle.readings.specs.declared.Reading.the-variants.{Plain}
+use Rattle.styles.specs.Styles.{styleWords, flush}
 use Rattle.fields.specs.Fields.{inRange}
 use Rattle.blocks.specs.Pages.{Piece}
 use Rattle.walk.specs.declared.Aim.{Aim}
@@ -48,7 +49,7 @@ use Rattle.deeds.specs.Deeds.{doing, tokenDeed}
 use Rattle.body.specs.Body.{actOf, acts, body}
 use Rattle.roundtrips.specs.Trips.{Words}
 use Rattle.previews.proofs.Tokens.{All, Fine, FineIn}
-use Rattle.previews.proofs.States.{Sound, SoundEffect, fresh-sound, all-sound, effect-sound, sound-range, sound-words}
+use Rattle.previews.proofs.States.{Sound, SoundEffect, fresh-sound, all-sound, effect-sound, sound-range, sound-words, sound-flush}
 
 -- ---- the walk
 
@@ -114,39 +115,39 @@ both-whole : (a b : List (List ℕ)) → All Whole a → All Whole b → All Who
 both-whole [] b h k = k
 both-whole (x ∷ a) b h k = (h .0, both-whole a b (h .1) k)
 
--- ---- what a token does
-
--- settings that keep the ranges of a row, text that is whole
-abbrev FineDeed : Deed Setting → Type 0
-FineDeed (sets ss) = (r : List ℕ) → Sound r → Sound (settle rows ss r)
-FineDeed (says bs) = Whole bs
-FineDeed opens = Unit {0}
-FineDeed closes = Unit {0}
-FineDeed (unit num) = Unit {0}
-FineDeed (refuses why) = Unit {0}
-FineDeed parts = Unit {0}
-FineDeed (stops why) = Unit {0}
-
--- at whatever place
-abbrev FineAct : Act Setting → Type 0
-FineAct (at p d) = FineDeed d
-
-doing-fine : (e : Effect) → SoundEffect e → FineDeed (doing e)
-doing-fine (does.sets ss) h = h
-doing-fine (does.says c) h = written-whole c
-doing-fine (does.refuses why) h = tt
-
-line-low : any isHigh (10 ∷ []) ≡ false
-unfolding any
-line-low = refl
-
 module _ (rd : Reading) where
+  -- ---- what a token does
+
+  -- settings that keep the ranges of a row, text that is whole
+  abbrev FineDeed : Deed Setting → Type 0
+  FineDeed (sets ss) = (r : List ℕ) → Sound rd r → Sound rd (settle rows ss r)
+  FineDeed (says bs) = Whole bs
+  FineDeed opens = Unit {0}
+  FineDeed closes = Unit {0}
+  FineDeed (unit num) = Unit {0}
+  FineDeed (refuses why) = Unit {0}
+  FineDeed parts = Unit {0}
+  FineDeed (stops why) = Unit {0}
+
+  -- at whatever place
+  abbrev FineAct : Act Setting → Type 0
+  FineAct (at p d) = FineDeed d
+
+  doing-fine : (e : Effect) → SoundEffect rd e → FineDeed (doing e)
+  doing-fine (does.sets ss) h = h
+  doing-fine (does.says c) h = written-whole c
+  doing-fine (does.refuses why) h = tt
+
+  line-low : any isHigh (10 ∷ []) ≡ false
+  unfolding any
+  line-low = refl
+
   word-fine : (w : ℕ) (num : Property) → valueOf num < 4294967296 → FineDeed (tokenDeed rd (Shown.word w num))
   word-fine w num h = go (eqb w words.unicode)
     where
       go : (t : Bool) → FineDeed (cond t (unit num) (doing (effect rd w num)))
       go true = tt
-      go false = doing-fine (effect rd w num) (effect-sound w num rd h)
+      go false = doing-fine (effect rd w num) (effect-sound rd w num h)
 
   token-fine : (t : Shown) → Fine t → FineDeed (tokenDeed rd t)
   token-fine Shown.opening h = tt
@@ -155,7 +156,7 @@ module _ (rd : Reading) where
   token-fine Shown.ignorable h = tt
   token-fine (Shown.text p bs) h = record { some = h .0; utf8 = utf8-ascii bs (h .1) }
   token-fine (Shown.word w num) h = word-fine w num h
-  token-fine (Shown.unknown p bs num) h = all-sound [] tt
+  token-fine (Shown.unknown p bs num) h = all-sound rd [] tt
 
   act-fine : (s : Step) → FineStep s → FineAct (actOf rd s)
   act-fine (kept t) h = token-fine (shownIn t) h
@@ -168,88 +169,89 @@ module _ (rd : Reading) where
   acts-fine [] h = tt
   acts-fine (s ∷ ss) h = (act-fine s (h .0), acts-fine ss (h .1))
 
--- ---- the stack
+  -- ---- the stack
 
-opened-sound : (top : List ℕ) (rest : List (List ℕ)) → Sound top → All Sound rest
-    → All Sound (stackOf (moved freshRow (top ∷ rest) (moveOf rows opens)))
-unfolding moved
-opened-sound top rest h k = go (eqb (suc (length rest)) stackLimit)
-  where
-    go : (t : Bool) → All Sound (stackOf (cond t (fails TooDeep) (becomes (top ∷ top ∷ rest))))
-    go true = tt
-    go false = (h, (h, k))
+  opened-sound : (top : List ℕ) (rest : List (List ℕ)) → Sound rd top → All (Sound rd) rest
+      → All (Sound rd) (stackOf (moved freshRow (top ∷ rest) (moveOf rows opens)))
+  unfolding moved
+  opened-sound top rest h k = go (eqb (suc (length rest)) stackLimit)
+    where
+      go : (t : Bool) → All (Sound rd) (stackOf (cond t (fails TooDeep) (becomes (top ∷ top ∷ rest))))
+      go true = tt
+      go false = (h, (h, k))
 
-moved-sound : (st : List (List ℕ)) (d : Deed Setting) → All Sound st → FineDeed d → All Sound (stackOf (moved freshRow st (moveOf rows d)))
-unfolding moved
-moved-sound [] opens h g = (fresh-sound, tt)
-moved-sound [] closes h g = tt
-moved-sound [] (sets ss) h g = tt
-moved-sound [] (says bs) h g = tt
-moved-sound [] (unit num) h g = tt
-moved-sound [] (refuses why) h g = tt
-moved-sound [] parts h g = tt
-moved-sound [] (stops why) h g = tt
-moved-sound (top ∷ rest) opens h g = opened-sound top rest (h .0) (h .1)
-moved-sound (top ∷ rest) closes h g = h .1
-moved-sound (top ∷ rest) (sets ss) h g = (g top (h .0), h .1)
-moved-sound (top ∷ rest) (says bs) h g = h
-moved-sound (top ∷ rest) (unit num) h g = h
-moved-sound (top ∷ rest) (refuses why) h g = tt
-moved-sound (top ∷ rest) parts h g = h
-moved-sound (top ∷ rest) (stops why) h g = tt
+  moved-sound : (st : List (List ℕ)) (d : Deed Setting) → All (Sound rd) st → FineDeed d → All (Sound rd) (stackOf (moved freshRow st (moveOf rows d)))
+  unfolding moved
+  moved-sound [] opens h g = (fresh-sound rd, tt)
+  moved-sound [] closes h g = tt
+  moved-sound [] (sets ss) h g = tt
+  moved-sound [] (says bs) h g = tt
+  moved-sound [] (unit num) h g = tt
+  moved-sound [] (refuses why) h g = tt
+  moved-sound [] parts h g = tt
+  moved-sound [] (stops why) h g = tt
+  moved-sound (top ∷ rest) opens h g = opened-sound top rest (h .0) (h .1)
+  moved-sound (top ∷ rest) closes h g = h .1
+  moved-sound (top ∷ rest) (sets ss) h g = (g top (h .0), h .1)
+  moved-sound (top ∷ rest) (says bs) h g = h
+  moved-sound (top ∷ rest) (unit num) h g = h
+  moved-sound (top ∷ rest) (refuses why) h g = tt
+  moved-sound (top ∷ rest) parts h g = h
+  moved-sound (top ∷ rest) (stops why) h g = tt
 
--- ---- what is said
+  -- ---- what is said
 
--- a piece that a stored block can be made of
-pub record Storable (x : Piece) : Type 0 where
-  pub range : inRange (x .style) ≡ true
-  pub words : Words (styleWords (x .style))
-  pub text : Whole (x .bytes)
+  -- a piece that a stored block can be made of
+  pub record Storable (x : Piece) : Type 0 where
+    pub range : inRange (x .style) ≡ true
+    pub words : Words (styleWords (x .style))
+    pub text : Whole (x .bytes)
+    pub bare : rd ≡ Plain → flush (x .style) ≡ true
 
-spoken-storable : (top : List ℕ) (texts : List (List ℕ)) → Sound top → All Whole texts → All Storable (spoken rows top texts)
-unfolding spoken
-spoken-storable top [] h k = tt
-spoken-storable top (bs ∷ texts) h k =
-    (record { range = sound-range top h; words = sound-words top h; text = k .0 }, spoken-storable top texts h (k .1))
+  spoken-storable : (top : List ℕ) (texts : List (List ℕ)) → Sound rd top → All Whole texts → All Storable (spoken rows top texts)
+  unfolding spoken
+  spoken-storable top [] h k = tt
+  spoken-storable top (bs ∷ texts) h k =
+      (record { range = sound-range rd top h; words = sound-words rd top h; bare = sound-flush rd top h; text = k .0 }, spoken-storable top texts h (k .1))
 
-own-whole : (d : Deed Setting) → FineDeed d → All Whole (textsOf d)
-own-whole (says bs) h = (h, tt)
-own-whole opens h = tt
-own-whole closes h = tt
-own-whole (sets ss) h = tt
-own-whole (unit num) h = tt
-own-whole (refuses why) h = tt
-own-whole parts h = tt
-own-whole (stops why) h = tt
+  own-whole : (d : Deed Setting) → FineDeed d → All Whole (textsOf d)
+  own-whole (says bs) h = (h, tt)
+  own-whole opens h = tt
+  own-whole closes h = tt
+  own-whole (sets ss) h = tt
+  own-whole (unit num) h = tt
+  own-whole (refuses why) h = tt
+  own-whole parts h = tt
+  own-whole (stops why) h = tt
 
-said-storable : (st : List (List ℕ)) (g : Gave) (d : Deed Setting) → All Sound st → FineDeed d → All Storable (said rows st g d)
-unfolding said
-said-storable [] g d h k = tt
-said-storable (top ∷ rest) g d h k =
-    spoken-storable top (writtenAll (values g) ++ textsOf d) (h .0)
-    (both-whole (writtenAll (values g)) (textsOf d) (writtenAll-whole (values g)) (own-whole d k))
+  said-storable : (st : List (List ℕ)) (g : Gave) (d : Deed Setting) → All (Sound rd) st → FineDeed d → All Storable (said rows st g d)
+  unfolding said
+  said-storable [] g d h k = tt
+  said-storable (top ∷ rest) g d h k =
+      spoken-storable top (writtenAll (values g) ++ textsOf d) (h .0)
+      (both-whole (writtenAll (values g)) (textsOf d) (writtenAll-whole (values g)) (own-whole d k))
 
-front-storable : (xs : List Piece) (more : Stream Refusal Piece) → All Storable xs → Each Storable more → Each Storable (xs ▸▸ more)
-unfolding _▸▸_
-front-storable [] more h k = k
-front-storable (x ∷ xs) more h k = (h .0, front-storable xs more (h .1) k)
+  front-storable : (xs : List Piece) (more : Stream Refusal Piece) → All Storable xs → Each Storable more → Each Storable (xs ▸▸ more)
+  unfolding _▸▸_
+  front-storable [] more h k = k
+  front-storable (x ∷ xs) more h k = (h .0, front-storable xs more (h .1) k)
 
-onward-storable : (p : ℕ) (m : Fate (List (List ℕ))) (more : Stream Refusal Piece) → Each Storable more → Each Storable (onward p m more)
-onward-storable p (becomes st) more h = h
-onward-storable p (fails why) more h = tt
+  onward-storable : (p : ℕ) (m : Fate (List (List ℕ))) (more : Stream Refusal Piece) → Each Storable more → Each Storable (onward p m more)
+  onward-storable p (becomes st) more h = h
+  onward-storable p (fails why) more h = tt
 
-machine-storable : (st : List (List ℕ)) (run : Run) (ds : List (Act Setting)) → All Sound st → All FineAct ds
-    → Each Storable (machine rows st run ds)
-unfolding machine
-machine-storable st run [] h k = front-storable (said rows st (ended run) parts) end (said-storable st (ended run) parts h tt) tt
-machine-storable st run (at p d ∷ ds) h k =
-    let g : Gave = gave (skipOf rows st) run d in
-    let m : Fate (List (List ℕ)) = moved freshRow st (moveOf rows d) in
-    let more : Stream Refusal Piece = machine rows (stackOf m) (g .run) ds in
-    front-storable (said rows st g d) (onward p m more) (said-storable st g d h (k .0))
-    (onward-storable p m more (machine-storable (stackOf m) (g .run) ds (moved-sound st d h (k .0)) (k .1)))
+  machine-storable : (st : List (List ℕ)) (run : Run) (ds : List (Act Setting)) → All (Sound rd) st → All FineAct ds
+      → Each Storable (machine rows st run ds)
+  unfolding machine
+  machine-storable st run [] h k = front-storable (said rows st (ended run) parts) end (said-storable st (ended run) parts h tt) tt
+  machine-storable st run (at p d ∷ ds) h k =
+      let g : Gave = gave (skipOf rows st) run d in
+      let m : Fate (List (List ℕ)) = moved freshRow st (moveOf rows d) in
+      let more : Stream Refusal Piece = machine rows (stackOf m) (g .run) ds in
+      front-storable (said rows st g d) (onward p m more) (said-storable st g d h (k .0))
+      (onward-storable p m more (machine-storable (stackOf m) (g .run) ds (moved-sound st d h (k .0)) (k .1)))
 
-pub body-storable : (rd : Reading) (ts : List Token) → All FineIn ts → Each Storable (body rd (walk ts))
-unfolding body
-body-storable rd ts h =
-    machine-storable (freshRow ∷ []) before (acts rd (walk ts)) (fresh-sound, tt) (acts-fine rd (walk ts) (walk-fine ts 0 h))
+  pub body-storable : (ts : List Token) → All FineIn ts → Each Storable (body rd (walk ts))
+  unfolding body
+  body-storable ts h =
+      machine-storable (freshRow ∷ []) before (acts rd (walk ts)) (fresh-sound rd, tt) (acts-fine (walk ts) (walk-fine ts 0 h))

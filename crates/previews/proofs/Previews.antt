@@ -1,11 +1,11 @@
--- What any letter reads to, stored, is read back as the same blocks and text:
+-- What any letter reads to without indents, stored, is read back as the same blocks and text:
 --     read-back   the promise of specs/Promise
 -- The pieces of a letter that was read are all those of the body; the blocks that they are joined to are good and small, so the
 -- writer writes them as one list (storing/proofs/Writing), and that list is read as them (roundtrips/proofs/RoundTrips). Assumes
 -- nothing.
 use mathlib.Core.Path.{_≡_, refl, sym, ap, subst, _∙_}
 use mathlib.Core.List.{List, [], _∷_}
-use mathlib.Core.Bool.{Bool, true, false, cond}
+use mathlib.Core.Bool.{Bool, true, false, cond, not}
 use Prim.Native.Nat.{ℕ, _+_, _*_, _≤_, _<_}
 use native.Mathlib.Omega.{arith}
 use borrow.Author.Tests.{ltb-true}
@@ -19,7 +19,6 @@ use Rattle.rooms.specs.Streams.{Stream, items, answer}
 use Rattle.rooms.specs.Rooms.{capacity, filled, tableLimit, settled}
 use Rattle.rooms.proofs.Rooms.{settled-over}
 use Rattle.sevens.specs.Sevens.{byteLayout}
-use Rattle.sevens.proofs.Streamed.{answer-streamed}
 use Rattle.tokens.specs.Tokens.{Shown, Token, token}
 use Rattle.tokens.specs.Tokens
 use Rattle.cutter.specs.Cutting.{tokenStream, cutAnswer}
@@ -27,6 +26,7 @@ use Rattle.walk.specs.Walk.{walk}
 use Rattle.header.specs.Entering.{Tables}
 use Rattle.header.specs.Header.{tables}
 use Rattle.readings.specs.declared.Reading.{Reading}
+use Rattle.readings.specs.declared.Reading.the-variants.{Plain}
 use Rattle.blocks.specs.Pages.{Piece, none, blocks, textOf, records, blockWords, textCapacity, roomy}
 use Rattle.blocks.proofs.Blocks.{text-blocks, length-records}
 use Rattle.body.specs.Body.{body}
@@ -39,16 +39,16 @@ use Rattle.storing.specs.Bytes.{listBytes}
 use Rattle.stored.specs.Stored.{answerNumber}
 use Rattle.stored.specs.Checks.{checked}
 use Rattle.stored.proofs.Ample.{check-reads}
-use Rattle.storing.specs.Good.{Good}
+use Rattle.storing.specs.Good.{Good, Flat}
 use Rattle.storing.specs.Storing.{writeAnswer}
-use Rattle.storing.proofs.Writing.{good-count, stream-good, write-good}
+use Rattle.storing.proofs.Writing.{good-count, indented-records, good-list, write-indent, write-good}
 use Rattle.roundtrips.specs.Trips.{Small}
 use Rattle.roundtrips.proofs.Ample.{roomy-whole, roomy-text, take-filled, Reads}
 use Rattle.roundtrips.proofs.RoundTrips.{list-reads}
-use Rattle.previews.specs.Promise.{blocksRead, textRead, StoredAs, ReadBack, Kept, Promise}
+use Rattle.previews.specs.Promise.{blocksRead, textRead, StoredAs, ReadBack, Kept, hasIndent, Promise}
 use Rattle.previews.proofs.Tokens.{All, FineIn, tokens-fine}
 use Rattle.previews.proofs.Pieces.{Storable, body-storable}
-use Rattle.previews.proofs.Joining.{items-storable, blocks-storable, storable-good, storable-small}
+use Rattle.previews.proofs.Joining.{items-storable, blocks-storable, storable-good, storable-flat, storable-small}
 use Rattle.fonts.specs.Rows.{fontWords}
 use Rattle.colours.specs.Colours.{colourWords}
 use Rattle.answers.specs.declared.Refusal.{Refusal}
@@ -96,12 +96,12 @@ module _ (rd : Reading) (z : Sizes) where
 -- ---- pieces that found room
 
 module _ (rd : Reading) (b t : ℕ) (ts : List Token) {n : ℕ} (d : answer 0 (placed rd b t ts) ≡ Done n) where
-  placed-storable : All FineIn ts → All Storable (items (placed rd b t ts))
+  placed-storable : All FineIn ts → All (Storable rd) (items (placed rd b t ts))
   unfolding placed
   placed-storable h =
       let e : roomy (capacity blockWords b) (textCapacity t) none (body rd (walk ts)) ≡ body rd (walk ts) =
       roomy-whole (body rd (walk ts)) (capacity blockWords b) (textCapacity t) none 0 d in
-      subst (λ (s : Stream Refusal Piece). All Storable (items s)) (sym e) (items-storable (body rd (walk ts)) (body-storable rd ts h))
+      subst (λ (s : Stream Refusal Piece). All (Storable rd) (items s)) (sym e) (items-storable rd (body rd (walk ts)) (body-storable rd ts h))
 
   placed-text : length (textOf (items (placed rd b t ts))) ≤ textCapacity t
   unfolding placed
@@ -128,27 +128,24 @@ module _ (rd : Reading) (src : List ℕ) (z : Sizes) {l : Letter} (e : letterOf 
 
 -- ---- blocks, stored and read back
 
-module _ (xs : List Piece) (good : Good none xs ≡ true) (short : length (textOf xs) ≤ 2147483647) where
+module _ (xs : List Piece) (good : Good none xs ≡ true) (flat : Flat xs ≡ true) (short : length (textOf xs) ≤ 2147483647) where
   -- a room that is too small
   write-full : (total : ℕ) → total < length (listBytes xs)
       → writeAnswer total (records 0 xs) (textOf xs) ≡ Refused (refusal OutputRoom)
   unfolding writeAnswer
-  write-full total h =
-      ap (λ (y : Stream Refusal ℕ). settled byteLayout (refusal OutputRoom) total (answer 0 y)) (stream-good xs good short)
-      ∙ ap (settled byteLayout (refusal OutputRoom) total) (answer-streamed (listBytes xs) 0)
-      ∙ settled-over byteLayout (refusal OutputRoom) total (0 + length (listBytes xs)) (omega arith)
+  write-full total h = rw (good-list xs good short flat) (settled-over byteLayout (refusal OutputRoom) total (length (listBytes xs)) (omega arith))
 
   good-stored : StoredAs (records 0 xs) (textOf xs) (listBytes xs)
   good-stored = record {
-    answer = λ total f. write-good xs total good short f .0;
-    room = λ total f. write-good xs total good short f .1;
+    answer = λ total f. write-good xs total good flat short f .0;
+    room = λ total f. write-good xs total good flat short f .1;
     full = write-full;
   }
 
   good-back : Small xs → (b t : ℕ) → length xs * blockWords ≤ b → length (textOf xs) ≤ t → Reads (listBytes xs) xs b t
   good-back small b t h k =
       let few : length xs < 4294967296 = omega (arith, good-count xs none good) in
-      list-reads xs good small few b t (record { blocks = rw (length-records xs 0) h; text = k; counts = short })
+      list-reads xs good flat small few b t (record { blocks = rw (length-records xs 0) h; text = k; counts = short })
 
 -- what is read back in ample rooms, the check accepts
 back-checked : (c : Counts) (ws tx s : List ℕ) → ReadBack c ws tx s → outcomeNumber (checked s) ≡ 0
@@ -157,37 +154,87 @@ back-checked c ws tx s h =
     let t : ℕ = 2147483647 + c .text in
     sym (check-reads s b t (omega arith) (omega arith)) ∙ ap answerNumber (h b t (omega arith) (omega arith) .answer)
 
--- ---- the promise
+-- ---- a letter that was read
+
+-- its blocks xs: what the rooms hold, by the counts c, is their records and their text
+record Blocks (rd : Reading) (src : List ℕ) (z : Sizes) (c : Counts) : Type 0 where
+  xs : List Piece
+  storable : All (Storable rd) xs
+  good : Good none xs ≡ true
+  small : Small xs
+  short : length (textOf xs) ≤ 2147483647
+  blocks : c .blocks ≡ length xs
+  text : c .text ≡ length (textOf xs)
+  words : blocksRead rd src z c ≡ records 0 xs
+  bytes : textRead rd src z c ≡ textOf xs
 
 module _ (rd : Reading) (src : List ℕ) (z : Sizes) where
-  letter-kept : (l : Letter) → letterOf rd src z ≡ found l
-      → Laid rd (z .blocks) (z .text) (items (tokenStream src)) (found l)
-      → Kept (countsOf src l) (blocksRead rd src z (countsOf src l)) (textRead rd src z (countsOf src l))
-  letter-kept l e (n, d, p) =
+  letter-blocks : (l : Letter) → letterOf rd src z ≡ found l
+      → Laid rd (z .blocks) (z .text) (items (tokenStream src)) (found l) → Blocks rd src z (countsOf src l)
+  letter-blocks l e (n, d, p) =
       let xs : List Piece = blocks (l .pieces) in
       let ts : List Token = items (tokenStream src) in
       let c : Counts = countsOf src l in
-      let h : All Storable (l .pieces) =
-      subst (All Storable) (sym p) (placed-storable rd (z .blocks) (z .text) ts d (tokens-fine src)) in
+      let h : All (Storable rd) (l .pieces) =
+      subst (All (Storable rd)) (sym p) (placed-storable rd (z .blocks) (z .text) ts d (tokens-fine src)) in
       let same : textOf xs ≡ textOf (l .pieces) = text-blocks (l .pieces) in
       let short : length (textOf xs) ≤ 2147483647 = rw (same, p) (placed-short rd (z .blocks) (z .text) ts d) in
-      let good : Good none xs ≡ true = storable-good (l .pieces) h in
-      let small : Small xs = storable-small xs (blocks-storable (l .pieces) h) short in
-      let ws : blocksRead rd src z c ≡ records 0 xs =
-      ap (take (c .blocks * blockWords)) (block-room rd src z e)
-      ∙ take-filled (z .blocks) (records 0 xs) (c .blocks * blockWords) (length-records xs 0) in
-      let tx : textRead rd src z c ≡ textOf xs =
-      ap (take (c .text)) (text-room rd src z e) ∙ take-filled (z .text) (textOf (l .pieces)) (c .text) refl ∙ sym same in
-      let back : ReadBack c (records 0 xs) (textOf xs) (listBytes xs) = rw (← same) (good-back xs good short small) in
-      rw (ws, tx) (listBytes xs, good-stored xs good short, back, back-checked c (records 0 xs) (textOf xs) (listBytes xs) back)
+      record {
+        xs = xs;
+        storable = blocks-storable rd (l .pieces) h;
+        good = storable-good rd (l .pieces) h;
+        small = storable-small rd xs (blocks-storable rd (l .pieces) h) short;
+        short = short;
+        blocks = refl;
+        text = ap length (sym same);
+        words = ap (take (c .blocks * blockWords)) (block-room rd src z e)
+            ∙ take-filled (z .blocks) (records 0 xs) (c .blocks * blockWords) (length-records xs 0);
+        bytes = ap (take (c .text)) (text-room rd src z e) ∙ take-filled (z .text) (textOf (l .pieces)) (c .text) refl ∙ sym same;
+      }
+
+  read-blocks : (c : Counts) → readAnswer rd src z ≡ Read c → Blocks rd src z c
+  unfolding readAnswer
+  read-blocks c a = go (letterOf rd src z) refl (letter-laid rd z src) a
+    where
+      go : (x : Found Letter) → letterOf rd src z ≡ x → Laid rd (z .blocks) (z .text) (items (tokenStream src)) x
+          → answered src x ≡ Read c → Blocks rd src z c
+      go (found l) e d b =
+          let same : countsOf src l ≡ c = cc in
+          subst (λ (k : Counts). Blocks rd src z k) same (letter-blocks l e d)
+      go (refused r) e d b = let w : _≡_ {A = ℕ} 0 1 = cc in absurd (omega arith)
+
+  module _ (c : Counts) (r : Blocks rd src z c) where
+    -- a block of the letter has an indent, if one of these has
+    indents-are : hasIndent rd src z c ≡ not (Flat (r .xs))
+    indents-are = rw (r .words, r .blocks) (indented-records (r .xs) 0)
+
+    blocks-kept : Flat (r .xs) ≡ true → Kept c (blocksRead rd src z c) (textRead rd src z c)
+    blocks-kept flat =
+        let xs : List Piece = r .xs in
+        let back : ReadBack c (records 0 xs) (textOf xs) (listBytes xs) = rw (r .blocks, r .text) (good-back xs (r .good) flat (r .short) (r .small)) in
+        rw (r .words, r .bytes)
+        (listBytes xs, good-stored xs (r .good) flat (r .short), back, back-checked c (records 0 xs) (textOf xs) (listBytes xs) back)
+
+-- ---- the promise
+
+not-false : (b : Bool) → not b ≡ false → b ≡ true
+not-false true e = refl
+not-false false e = sym e
+
+not-true : (b : Bool) → not b ≡ true → b ≡ false
+not-true true e = sym e
+not-true false e = refl
 
 pub read-back : Promise
-unfolding readAnswer
-read-back rd src z c a = go (letterOf rd src z) refl (letter-laid rd z src) a
-  where
-    go : (x : Found Letter) → letterOf rd src z ≡ x → Laid rd (z .blocks) (z .text) (items (tokenStream src)) x
-        → answered src x ≡ Read c → Kept c (blocksRead rd src z c) (textRead rd src z c)
-    go (found l) e d b =
-        let same : countsOf src l ≡ c = cc in
-        subst (λ (k : Counts). Kept k (blocksRead rd src z k) (textRead rd src z k)) same (letter-kept rd src z l e d)
-    go (refused r) e d b = let w : _≡_ {A = ℕ} 0 1 = cc in absurd (omega arith)
+read-back = record {
+  plain = λ src z c a.
+      let r = read-blocks Plain src z c a in
+      indents-are Plain src z c r ∙ ap not (storable-flat Plain refl (r .xs) (r .storable));
+  kept = λ rd src z c a e.
+      let r = read-blocks rd src z c a in
+      blocks-kept rd src z c r (not-false (Flat (r .xs)) (sym (indents-are rd src z c r) ∙ e));
+  indent = λ rd src z c a e total.
+      let r = read-blocks rd src z c a in
+      rw (r .words, r .bytes)
+      (write-indent (r .xs) (r .good) (r .short) (not-true (Flat (r .xs)) (sym (indents-are rd src z c r) ∙ e)) total);
+}

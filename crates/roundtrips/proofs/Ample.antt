@@ -22,7 +22,7 @@ use Rattle.rooms.specs.Streams.{Stream, end, stop, _▸_, items, answer, ended}
 use Rattle.styles.specs.declared.Style.{Style}
 use Rattle.rooms.specs.Rooms.{filled}
 use Rattle.styles.specs.Styles.{sameStyle, styleWords}
-use Rattle.blocks.specs.Pages.{Piece, piece, Last, none, last, starts, roomy, blocks, blocksFrom, textOf, records, blockRecord}
+use Rattle.blocks.specs.Pages.{Piece, piece, Last, none, last, starts, roomy, blocks, blocksFrom, textOf, records, blockRecord, textLength}
 use Rattle.stored.specs.Stored.{placed, storedAnswer, storedBlocks, storedText}
 use Rattle.storing.specs.Good.{Good}
 use Rattle.roundtrips.specs.Trips.{Words, Small, all, ReadsAs}
@@ -120,7 +120,7 @@ small-records [] p w = omega arith
 small-records (x ∷ xs) p w =
     let f : Words (styleWords (x .style) ++ (p ∷ length (x .bytes) ∷ [])) = words-front (styleWords (x .style) ++ (p ∷ length (x .bytes) ∷ [])) (records (p + length (x .bytes)) xs) w in
     let b : Words (records (p + length (x .bytes)) xs) = words-back (styleWords (x .style) ++ (p ∷ length (x .bytes) ∷ [])) (records (p + length (x .bytes)) xs) w in
-    (words-front (styleWords (x .style)) (p ∷ length (x .bytes) ∷ []) f, f 12, small-records xs (p + length (x .bytes)) b)
+    (words-front (styleWords (x .style)) (p ∷ length (x .bytes) ∷ []) f, f textLength, small-records xs (p + length (x .bytes)) b)
 
 -- the front of a filled room
 pub take-filled : (total : ℕ) (ws : List ℕ) (n : ℕ) → length ws ≡ n → take n (filled total ws) ≡ ws

@@ -13,15 +13,15 @@ use Rattle.answers.specs.declared.Why.the-variants.{StoredShort, StoredField}
 use Rattle.answers.specs.Answers.{refusal, Found, found, refused}
 use Rattle.wellformed.specs.WellFormed.{isUtf8}
 use Rattle.styles.specs.declared.Style.{Style}
-use Rattle.styles.specs.Styles.{styleWords}
+use Rattle.styles.specs.Styles.{bareWidth, styleWords, flush}
 use Rattle.blocks.specs.Pages.{Piece, piece, Last, starts}
-use Rattle.fields.specs.Fields.{inRange, styleNumbers, styleFrom}
-use Rattle.fields.proofs.Styles.{style-there, style-back, numbers-small, style-small}
+use Rattle.fields.specs.Fields.{inRange, byPlace, styleNumbers, styleFrom, blockNumbers}
+use Rattle.fields.proofs.Styles.{style-there, style-back, style-flush, numbers-small, style-small}
 use Rattle.stored.specs.declared.entry.Entry.{Entry}
 use Rattle.stored.specs.declared.entry.Entry.the-variants.{Is, Bad}
 use Rattle.stored.specs.Entries.{Numbers, numbersFrom, ruled, entryOf, entry}
 use Rattle.stored.proofs.Entries.{Entered, entry-is, Sized, numbers-sized}
-use Rattle.storing.specs.Bytes.{numbersBytes, blockNumbers, blockBytes}
+use Rattle.storing.specs.Bytes.{numbersBytes, numbersIn, blockBytes}
 use Rattle.roundtrips.specs.Trips.{Bytes, Words}
 use Rattle.roundtrips.proofs.Numbers.{numbers-written, numbers-read, ReadBack}
 
@@ -33,6 +33,7 @@ pub record Fit (l : Last) (x : Piece) : Type 0 where
   pub utf8 : isUtf8 (x .bytes) ≡ true
   pub words : Words (styleWords (x .style))
   pub short : length (x .bytes) < 4294967296
+  pub bare : flush (x .style) ≡ true
 
 words-last : (ns : List ℕ) (n : ℕ) → Words ns → n < 4294967296 → Words (ns ++ (n ∷ []))
 words-last [] n w h zero = h
@@ -40,8 +41,8 @@ words-last [] n w h (suc i) = w i
 words-last (m ∷ ns) n w h zero = w 0
 words-last (m ∷ ns) n w h (suc i) = words-last ns n (λ j. w (suc j)) h i
 
-last-number : (st : Style) (n : ℕ) → (getD (styleNumbers st ++ (n ∷ [])) 11 0 ≡ n) × (length (styleNumbers st ++ (n ∷ [])) ≡ 12)
-unfolding styleNumbers
+last-number : (st : Style) (n : ℕ) → (getD (styleNumbers st ++ (n ∷ [])) bareWidth 0 ≡ n) × (length (styleNumbers st ++ (n ∷ [])) ≡ blockNumbers)
+unfolding byPlace
 last-number st n = (refl, refl)
 
 ruled-fit : (l : Last) (x : Piece) (m : ℕ) (t : List ℕ) → Fit l x → ruled l (x .style) (length (x .bytes)) m (x .bytes ++ t) ≡ Is (x .style) m (length (x .bytes))
@@ -51,18 +52,18 @@ ruled-fit l x m t f =
     rw (f .range, lt-ltb 0 (length (x .bytes)) (f .some), f .differs, le-leb (length (x .bytes)) (length (x .bytes ++ t)) h, take-append-seam (x .bytes) t, f .utf8)
 
 pub entry-written : (l : Last) (x : Piece) (t : List ℕ) → Fit l x
-    → entry l (blockBytes x ++ t) ≡ Is (x .style) (length (numbersBytes (blockNumbers x))) (length (x .bytes))
+    → entry l (blockBytes x ++ t) ≡ Is (x .style) (length (numbersBytes (numbersIn x))) (length (x .bytes))
 unfolding entry blockBytes
 entry-written l x t f =
-    let ns : List ℕ = blockNumbers x in
+    let ns : List ℕ = numbersIn x in
     let nb : List ℕ = numbersBytes ns in
     let n : ℕ = length (x .bytes) in
     let ws : Words ns = words-last (styleNumbers (x .style)) n (numbers-small (x .style) (f .words)) (f .short) in
-    let e : numbersFrom 12 (nb ++ (x .bytes ++ t)) ≡ found (record { values = ns; size = length nb }) =
+    let e : numbersFrom blockNumbers (nb ++ (x .bytes ++ t)) ≡ found (record { values = ns; size = length nb }) =
     ap (λ (k : ℕ). numbersFrom k (nb ++ (x .bytes ++ t))) (sym (last-number (x .style) n .1)) ∙ numbers-written ns (x .bytes ++ t) ws in
     let d : drop (length nb) (nb ++ (x .bytes ++ t)) ≡ x .bytes ++ t = drop-append-seam nb (x .bytes ++ t) in
     ap (entry l) (append-assoc nb (x .bytes) t)
-    ∙ rw (e, d, style-there (x .style) (n ∷ []) (f .words), last-number (x .style) n .0) (ruled-fit l x (length nb) t f)
+    ∙ rw (e, d, style-there (x .style) (n ∷ []) (f .words) (f .bare), last-number (x .style) n .0) (ruled-fit l x (length nb) t f)
 
 -- what an accepted block was made of
 ruled-parts : (l : Last) (st : Style) (n m : ℕ) (s : List ℕ) {st′ : Style} {m′ n′ : ℕ} → ruled l st n m s ≡ Is st′ m′ n′ → (st ≡ st′) × (m ≡ m′) × (n ≡ n′)
@@ -76,11 +77,11 @@ ruled-parts l st n m s {st′} {m′} {n′} = go (inRange st && (ltb 0 n && sta
     go true false c e = let z : _≡_ {A = ℕ} 0 1 = cc in absurd (omega arith)
     go false b c e = let z : _≡_ {A = ℕ} 0 1 = cc in absurd (omega arith)
 
--- twelve numbers are those of the style that they say, and the last
-twelve : (ns : List ℕ) → length ns ≡ 12 → Words ns → ns ≡ styleNumbers (styleFrom ns) ++ (getD ns 11 0 ∷ [])
-twelve ns h w =
-    sym (take-all 12 ns (omega (arith, h))) ∙ take-suc ns 11 0 (omega (arith, h))
-    ∙ ap (λ (l : List ℕ). l ++ (getD ns 11 0 ∷ [])) (sym (style-back ns (omega (arith, h)) w))
+-- a block's numbers are those of the style that they say, and the last
+numbers-back : (ns : List ℕ) → length ns ≡ blockNumbers → Words ns → ns ≡ styleNumbers (styleFrom ns) ++ (getD ns bareWidth 0 ∷ [])
+numbers-back ns h w =
+    sym (take-all blockNumbers ns (omega (arith, h))) ∙ take-suc ns bareWidth 0 (omega (arith, h))
+    ∙ ap (λ (l : List ℕ). l ++ (getD ns bareWidth 0 ∷ [])) (sym (style-back ns (omega (arith, h)) w))
 
 -- and so is a block that was read
 pub record Back (l : Last) (s : List ℕ) (st : Style) (m n : ℕ) : Type 0 where
@@ -97,12 +98,12 @@ module _ (l : Last) (s : List ℕ) (b : Bytes s) {st : Style} {m n : ℕ} (e : e
   length-text : length (take n (drop m s)) ≡ n
   length-text = length-take-le n (drop m s) (rw (length-drop m s) (omega (arith, facts .within)))
 
-  parts : (q : Numbers) → (12 ≤ q .size) × (q .size ≤ length s) × (length (q .values) ≡ 12) → (take (q .size) s ≡ numbersBytes (q .values)) × Words (q .values)
-      → ruled l (styleFrom (q .values)) (getD (q .values) 11 0) (q .size) (drop (q .size) s) ≡ Is st m n → Back l s st m n
+  parts : (q : Numbers) → (blockNumbers ≤ q .size) × (q .size ≤ length s) × (length (q .values) ≡ blockNumbers) → (take (q .size) s ≡ numbersBytes (q .values)) × Words (q .values)
+      → ruled l (styleFrom (q .values)) (getD (q .values) bareWidth 0) (q .size) (drop (q .size) s) ≡ Is st m n → Back l s st m n
   unfolding blockBytes
   parts q (i, j, k) (t, w) d =
-      let r = ruled-parts l (styleFrom (q .values)) (getD (q .values) 11 0) (q .size) (drop (q .size) s) d in
-      let v : q .values ≡ styleNumbers st ++ (length (take n (drop m s)) ∷ []) = twelve (q .values) k w ∙ rw (r .0, r .2, length-text) refl in
+      let r = ruled-parts l (styleFrom (q .values)) (getD (q .values) bareWidth 0) (q .size) (drop (q .size) s) d in
+      let v : q .values ≡ styleNumbers st ++ (length (take n (drop m s)) ∷ []) = numbers-back (q .values) k w ∙ rw (r .0, r .2, length-text) refl in
       let u : take m s ≡ numbersBytes (q .values) = rw (r .1) at t in
       record {
         bytes = take-add m n s ∙ ap (λ (x : List ℕ). x ++ take n (drop m s)) (u ∙ ap numbersBytes v);
@@ -112,14 +113,15 @@ module _ (l : Last) (s : List ℕ) (b : Bytes s) {st : Style} {m n : ℕ} (e : e
           differs = facts .differs;
           utf8 = facts .utf8;
           words = subst (λ (z : Style). Words (styleWords z)) (r .0) (style-small (q .values) w);
-          short = rw (length-text, ← r .2) (w 11);
+          short = rw (length-text, ← r .2) (w bareWidth);
+          bare = subst (λ (z : Style). flush z ≡ true) (r .0) (style-flush (q .values));
         };
       }
 
   pub entry-read : Back l s st m n
   unfolding entry
-  entry-read = go (numbersFrom 12 s) (numbers-sized 12 s) (numbers-read 12 s b) e
+  entry-read = go (numbersFrom blockNumbers s) (numbers-sized blockNumbers s) (numbers-read blockNumbers s b) e
     where
-      go : (x : Found Numbers) → Sized 12 (length s) x → ReadBack s x → entryOf l s x ≡ Is st m n → Back l s st m n
+      go : (x : Found Numbers) → Sized blockNumbers (length s) x → ReadBack s x → entryOf l s x ≡ Is st m n → Back l s st m n
       go (found q) i j d = parts q i j d
       go (refused r) i j d = let z : _≡_ {A = ℕ} 0 1 = cc in absurd (omega arith)

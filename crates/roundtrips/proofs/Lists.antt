@@ -23,18 +23,18 @@ use Rattle.stored.specs.declared.entry.Entry.{Entry}
 use Rattle.stored.specs.declared.entry.Entry.the-variants.{Is, Bad}
 use Rattle.stored.specs.Entries.{entry}
 use Rattle.stored.specs.Stored.{over, entered, blocksFrom, counted, stored}
-use Rattle.storing.specs.Bytes.{numbersBytes, blockNumbers, blockBytes, blocksBytes, listBytes}
-use Rattle.storing.specs.Good.{Good}
-use Rattle.storing.proofs.Writing.{good-one, one-good}
+use Rattle.storing.specs.Bytes.{numbersBytes, numbersIn, blockBytes, blocksBytes, listBytes}
+use Rattle.storing.specs.Good.{Good, Flat}
+use Rattle.storing.proofs.Writing.{good-one, one-good, flat-one, one-flat}
 use Rattle.roundtrips.specs.Trips.{Bytes, Small, all}
 use Rattle.roundtrips.proofs.Numbers.{bytes-drop}
 use Rattle.roundtrips.proofs.Blocks.{Fit, entry-written, Back, entry-read}
 use Rattle.answers.specs.declared.Refusal.{Refusal}
 
-pub good-fit : (l : Last) (x : Piece) (xs : List Piece) → Good l (x ∷ xs) ≡ true → Small (x ∷ xs) → Fit l x
-good-fit l x xs g (w, h, more) =
+pub good-fit : (l : Last) (x : Piece) (xs : List Piece) → Good l (x ∷ xs) ≡ true → Flat (x ∷ xs) ≡ true → Small (x ∷ xs) → Fit l x
+good-fit l x xs g e (w, h, more) =
     let o = good-one l x xs g in
-    record { range = o .range; some = o .some; differs = o .change; utf8 = o .whole; words = w; short = h }
+    record { range = o .range; some = o .some; differs = o .change; utf8 = o .whole; words = w; short = h; bare = flat-one x xs e .0 }
 
 good-more : (l : Last) (x : Piece) (xs : List Piece) → Fit l x → Good (last (x .style)) xs ≡ true → Good l (x ∷ xs) ≡ true
 good-more l x xs f g = one-good l x xs (record { range = f .range; some = f .some; change = f .differs; whole = f .utf8; rest = g })
@@ -43,11 +43,11 @@ good-more l x xs f g = one-good l x xs (record { range = f .range; some = f .som
 
 module _ (x : Piece) (t : List ℕ) where
   m : ℕ
-  m = length (numbersBytes (blockNumbers x))
+  m = length (numbersBytes (numbersIn x))
 
   behind-numbers : drop m (blockBytes x ++ t) ≡ x .bytes ++ t
   unfolding m blockBytes
-  behind-numbers = ap (drop m) (append-assoc (numbersBytes (blockNumbers x)) (x .bytes) t) ∙ drop-append-seam (numbersBytes (blockNumbers x)) (x .bytes ++ t)
+  behind-numbers = ap (drop m) (append-assoc (numbersBytes (numbersIn x)) (x .bytes) t) ∙ drop-append-seam (numbersBytes (numbersIn x)) (x .bytes ++ t)
 
   pub entered-written : (l : Last) (more : Last → List ℕ → Stream Refusal Piece) → Fit l x
       → entered (entry l (blockBytes x ++ t)) (blockBytes x ++ t) more ≡ x ▸ more (last (x .style)) t
@@ -58,17 +58,17 @@ module _ (x : Piece) (t : List ℕ) where
       sym (drop-drop (length (x .bytes)) m (blockBytes x ++ t)) ∙ rw behind-numbers (drop-append-seam (x .bytes) t) in
       rw (entry-written l x t f, b, behind-numbers, a) refl
 
-pub blocks-written : (xs : List Piece) (l : Last) → Good l xs ≡ true → Small xs → blocksFrom (length xs) l (blocksBytes xs) ≡ all xs
+pub blocks-written : (xs : List Piece) (l : Last) → Good l xs ≡ true → Flat xs ≡ true → Small xs → blocksFrom (length xs) l (blocksBytes xs) ≡ all xs
 unfolding blocksFrom blocksBytes all
-blocks-written [] l g s = refl
-blocks-written (x ∷ xs) l g s =
-    entered-written x (blocksBytes xs) l (blocksFrom (length xs)) (good-fit l x xs g s)
-    ∙ ap (λ (z : Stream Refusal Piece). x ▸ z) (blocks-written xs (last (x .style)) (good-one l x xs g .rest) (s .2))
+blocks-written [] l g e s = refl
+blocks-written (x ∷ xs) l g e s =
+    entered-written x (blocksBytes xs) l (blocksFrom (length xs)) (good-fit l x xs g e s)
+    ∙ ap (λ (z : Stream Refusal Piece). x ▸ z) (blocks-written xs (last (x .style)) (good-one l x xs g .rest) (flat-one x xs e .1) (s .2))
 
-pub list-written : (xs : List Piece) → Good none xs ≡ true → Small xs → length xs < 4294967296 → stored (listBytes xs) ≡ all xs
+pub list-written : (xs : List Piece) → Good none xs ≡ true → Flat xs ≡ true → Small xs → length xs < 4294967296 → stored (listBytes xs) ≡ all xs
 unfolding stored listBytes
-list-written xs g s h =
-    rw (read-written (length xs) (blocksBytes xs) h, drop-append-seam (written (length xs)) (blocksBytes xs)) (blocks-written xs none g s)
+list-written xs g e s h =
+    rw (read-written (length xs) (blocksBytes xs) h, drop-append-seam (written (length xs)) (blocksBytes xs)) (blocks-written xs none g e s)
 
 -- ---- read, then written
 
@@ -76,12 +76,13 @@ pub record Read (k : ℕ) (l : Last) (s : List ℕ) (q : Stream Refusal Piece) :
   pub whole : q ≡ all (items q)
   pub bytes : s ≡ blocksBytes (items q)
   pub good : Good l (items q) ≡ true
+  pub flat : Flat (items q) ≡ true
   pub small : Small (items q)
   pub counted : length (items q) ≡ k
 
 read-over : (l : Last) (s : List ℕ) (j : ℕ) {r : ℕ} → answer j (over s) ≡ Done r → Read 0 l s (over s)
-unfolding ended items all blocksBytes Good
-read-over l [] j e = record { whole = refl; bytes = refl; good = refl; small = omega arith; counted = refl }
+unfolding ended items all blocksBytes Good Flat
+read-over l [] j e = record { whole = refl; bytes = refl; good = refl; flat = refl; small = omega arith; counted = refl }
 read-over l (b ∷ s) j e = absurd (done-refused (sym e))
 
 read-more : (k : ℕ) (l : Last) (s : List ℕ) (st : Style) (m n : ℕ) (q : Stream Refusal Piece) → Back l s st m n → Read k (last st) (drop (m + n) s) q
@@ -91,6 +92,7 @@ read-more k l s st m n q b r = record {
   whole = ap (λ (z : Stream Refusal Piece). piece st (take n (drop m s)) ▸ z) (r .whole);
   bytes = sym (take-append-drop (m + n) s) ∙ rw (b .bytes, ← r .bytes);
   good = good-more l (piece st (take n (drop m s))) (items q) (b .fit) (r .good);
+  flat = one-flat (piece st (take n (drop m s))) (items q) (b .fit .bare) (r .flat);
   small = (b .fit .words, b .fit .short, r .small);
   counted = ap suc (r .counted);
 }
@@ -111,6 +113,7 @@ pub record Accepted (s : List ℕ) (q : Stream Refusal Piece) : Type 0 where
   pub whole : q ≡ all (items q)
   pub bytes : s ≡ listBytes (items q)
   pub good : Good none (items q) ≡ true
+  pub flat : Flat (items q) ≡ true
   pub small : Small (items q)
   pub few : length (items q) < 4294967296
 
@@ -126,6 +129,7 @@ list-read s b j {r} e = go (numberOf s) refl e
           whole = i .whole;
           bytes = sym (take-append-drop m s) ∙ rw (w .0, ← i .bytes, i .counted);
           good = i .good;
+          flat = i .flat;
           small = i .small;
           few = rw (i .counted) (w .1);
         }

@@ -1,25 +1,22 @@
 -- The round trips of the stored form (01, Stored form):
---     list-reads      the list of good blocks, whose numbers have 32 bits, the reader reads as those blocks, given room
+--     list-reads      the list of good blocks without indents, whose numbers have 32 bits, the reader reads as those blocks, given room
 --     written-reads   so what the writer writes, it reads back as the same blocks and text
 --     read-writes     what the reader accepts, the writer writes back as the same bytes, given room
 --     one-form        so two lists that read as the same blocks and text are the same bytes
 -- All are about the definitions that the contracts of `stored::read_list` and `storing::write_list` cite. Assumes nothing.
 use mathlib.Core.Path.{_≡_, refl, sym, ap, subst, _∙_}
 use mathlib.Core.List.{List}
-use mathlib.Core.Bool.{Bool, true, false, cond}
+use mathlib.Core.Bool.{Bool, true, false, cond, not}
 use Prim.Native.Nat.{ℕ, _+_, _*_, _/_, _≤_, _<_}
 use native.Mathlib.Omega.{arith}
 use borrow.Author.Tests.{ltb-true}
 use lib.ListN.{length, take}
-use lib.Dec.{leb, ltb}
+use lib.Dec.{ltb}
 use Rattle.answers.specs.declared.Refusal.{Refusal}
 use Rattle.answers.specs.declared.Outcome.{Outcome}
 use Rattle.answers.specs.declared.Outcome.the-variants.{Done, Refused}
-use Rattle.answers.specs.declared.Why.the-variants.{OutputRoom}
-use Rattle.answers.specs.Answers.{refusal}
 use Rattle.rooms.specs.Streams.{Stream, items, answer}
-use Rattle.rooms.specs.Rooms.{capacity, filled, settled, content}
-use Rattle.rooms.proofs.Streams.{done-refused}
+use Rattle.rooms.specs.Rooms.{capacity, filled, content}
 use Rattle.sevens.specs.Sevens.{byteLayout, streamed}
 use Rattle.sevens.proofs.Streamed.{answer-streamed, encode-streamed}
 use Rattle.blocks.specs.Pages.{Piece, none, blocks, textOf, records, blockWords, roomy, textCapacity}
@@ -28,30 +25,22 @@ use Rattle.stored.specs.declared.Counts.{Counts}
 use Rattle.stored.specs.declared.Answer.the-variants.{Read}
 use Rattle.stored.specs.Stored.{stored, placed, answered, storedAnswer, storedBlocks, storedText}
 use Rattle.storing.specs.Bytes.{listBytes}
-use Rattle.storing.specs.Good.{Good}
+use Rattle.storing.specs.Good.{Good, Flat}
 use Rattle.storing.specs.Lists.{listStream}
-use Rattle.storing.specs.Storing.{writeAnswer, writeRoom}
-use Rattle.storing.proofs.Writing.{stream-ends, write-good}
+use Rattle.storing.specs.Storing.{indented, writeAnswer, writeRoom}
+use Rattle.storing.proofs.Writing.{stream-ends, indented-records, write-good}
+use Rattle.storing.proofs.Settling.{written-done}
 use Rattle.roundtrips.specs.Trips.{Bytes, Words, Small, all, Room, countsIn, ReadsAs}
 use Rattle.roundtrips.proofs.Lists.{list-written, Accepted, list-read}
 use Rattle.roundtrips.proofs.Ample.{roomy-all, roomy-whole, roomy-text, small-records, take-filled, Reads, stored-reads}
 
 -- ---- what the writer writes
 
--- a room that holds all was large enough
-settled-done : (full : Refusal) (total : ℕ) (o : Outcome) {n : ℕ} → settled byteLayout full total o ≡ Done n → o ≡ Done n
-unfolding settled
-settled-done full total (Done m) {n} e = go (leb m (capacity 1 total)) e
-  where
-    go : (t : Bool) → cond t (Done m) (Refused full) ≡ Done n → Done m ≡ Done n
-    go true d = d
-    go false d = absurd (done-refused (sym d))
-settled-done full total (Refused r) e = absurd (done-refused (sym e))
-
 -- the blocks that were written
 record Wrote (total : ℕ) (ws tx : List ℕ) (n : ℕ) : Type 0 where
   xs : List Piece
   good : Good none xs ≡ true
+  flat : Flat xs ≡ true
   words : ws ≡ records 0 xs
   text : tx ≡ textOf xs
   few : length xs < 4294967296
@@ -64,10 +53,20 @@ room-is total ws tx bytes {n} e s =
     ∙ ap (content byteLayout total (Done n)) s
     ∙ ap (filled total) (encode-streamed bytes)
 
+not-false : (b : Bool) → not b ≡ false → b ≡ true
+not-false true e = refl
+not-false false e = sym e
+
+-- blocks whose records have no indent have none
+pub flat-records : (xs : List Piece) (ws : List ℕ) → ws ≡ records 0 xs → indented (length ws / blockWords) ws ≡ false → Flat xs ≡ true
+flat-records xs ws e i =
+    let n : length (records 0 xs) / blockWords ≡ length xs = omega (arith, length-records xs 0) in
+    not-false (Flat xs) (sym (indented-records xs 0) ∙ ap (λ (k : ℕ). indented k (records 0 xs)) (sym n) ∙ rw e at i)
+
 wrote : (total : ℕ) (ws tx : List ℕ) {n : ℕ} → writeAnswer total ws tx ≡ Done n → Wrote total ws tx n
-unfolding writeAnswer
 wrote total ws tx {n} e =
-    let a : answer 0 (listStream ws tx) ≡ Done n = settled-done (refusal OutputRoom) total (answer 0 (listStream ws tx)) e in
+    let done = written-done total ws tx e in
+    let a : answer 0 (listStream ws tx) ≡ Done n = done .0 in
     let w = stream-ends ws tx a in
     let bytes : List ℕ = listBytes (w .0) in
     let s : listStream ws tx ≡ streamed bytes = w .5 in
@@ -76,6 +75,7 @@ wrote total ws tx {n} e =
     record {
       xs = w .0;
       good = w .1;
+      flat = flat-records (w .0) ws (w .2) (done .1);
       words = w .2;
       text = w .3;
       few = w .4;
@@ -89,14 +89,14 @@ capacity-text n t h k = go (ltb t 2147483647)
     go true = h
     go false = k
 
-module _ (xs : List Piece) (good : Good none xs ≡ true) (small : Small xs) (few : length xs < 4294967296) (b t : ℕ) (room : Room (records 0 xs) (textOf xs) b t) where
+module _ (xs : List Piece) (good : Good none xs ≡ true) (flat : Flat xs ≡ true) (small : Small xs) (few : length xs < 4294967296) (b t : ℕ) (room : Room (records 0 xs) (textOf xs) b t) where
   l : length (records 0 xs) ≡ length xs * blockWords
   l = length-records xs 0
 
   all-placed : placed b t (listBytes xs) ≡ all xs
   unfolding placed
   all-placed =
-      ap (roomy (capacity blockWords b) (textCapacity t) none) (list-written xs good small few)
+      ap (roomy (capacity blockWords b) (textCapacity t) none) (list-written xs good flat small few)
       ∙ roomy-all xs (capacity blockWords b) (textCapacity t) none good (omega (arith, l, room .blocks)) (capacity-text (length (textOf xs)) t (room .text) (room .counts))
 
   pub list-reads : Reads (listBytes xs) xs b t
@@ -113,7 +113,7 @@ written-reads total ws tx {n} small e b t room =
     let w = wrote total ws tx e in
     let sm : Small (w .xs) = small-records (w .xs) 0 (subst Words (w .words) small) in
     let ro : Room (records 0 (w .xs)) (textOf (w .xs)) b t = subst (λ (v : List ℕ). Room v (textOf (w .xs)) b t) (w .words) (subst (λ (v : List ℕ). Room ws v b t) (w .text) room) in
-    let r = reads-back (w .xs) (w .good) sm (w .few) b t ro in
+    let r = reads-back (w .xs) (w .good) (w .flat) sm (w .few) b t ro in
     subst (λ (v : List ℕ). ReadsAs v (countsIn ws tx) ws tx b t) (sym (w .front))
     (subst (λ (v : List ℕ). ReadsAs (listBytes (w .xs)) (countsIn v tx) v tx b t) (sym (w .words))
     (subst (λ (v : List ℕ). ReadsAs (listBytes (w .xs)) (countsIn (records 0 (w .xs)) v) (records 0 (w .xs)) v b t) (sym (w .text)) r))
@@ -179,7 +179,7 @@ module _ (s : List ℕ) (b t : ℕ) (bytes : Bytes s) {c : Counts} (e : storedAn
   unfolding xs
   read-writes total h =
       let k : length (listBytes xs) ≤ total = subst (λ (z : List ℕ). length z ≤ total) (accepted .bytes) h in
-      let w = write-good xs total (accepted .good) short-text k in
+      let w = write-good xs total (accepted .good) (accepted .flat) short-text k in
       record {
         answer = rw (words, texts) (w .0 ∙ ap (λ (z : List ℕ). Done (length z)) (sym (accepted .bytes)));
         room = rw (words, texts) (w .1 ∙ ap (filled total) (sym (accepted .bytes)));

@@ -118,7 +118,7 @@ unread = refusing " {{\\fonttbl\\f1}}" 17 0 ∷ refusing " {{\\colortbl\\blue1}}
 unfoldable pub unwritten : List Sample
 unwritten = refusing " {a}" 20 0 ∷ []
 
--- "For `{\rtf1 a\b b}`": "0 6 0 0 2 2", the answer and five counts; two blocks, of thirteen words each; the text "ab"
+-- "For `{\rtf1 a\b b}`": "0 6 0 0 2 2", the answer and five counts; two blocks, of sixteen words each (02, A5); the text "ab"
 unfoldable pub listed : String
 listed = "{\\rtf1 a\\b b}"
 
@@ -126,7 +126,21 @@ unfoldable pub listedCounts : Counts
 listedCounts = record { tokens = 6; fonts = 0; colours = 0; blocks = 2; text = 2 }
 
 unfoldable pub listedBlocks : List ℕ
-listedBlocks = 0 ∷ 0 ∷ 12 ∷ 0 ∷ 0 ∷ 0 ∷ 0 ∷ 0 ∷ 0 ∷ 0 ∷ 0 ∷ 0 ∷ 1 ∷ 0 ∷ 0 ∷ 12 ∷ 1 ∷ 0 ∷ 0 ∷ 0 ∷ 0 ∷ 0 ∷ 0 ∷ 0 ∷ 1 ∷ 1 ∷ []
+listedBlocks = 0 ∷ 0 ∷ 12 ∷ 0 ∷ 0 ∷ 0 ∷ 0 ∷ 0 ∷ 0 ∷ 0 ∷ 0 ∷ 0 ∷ 0 ∷ 0 ∷ 0 ∷ 1 ∷ 0 ∷ 0 ∷ 12 ∷ 1 ∷ 0 ∷ 0 ∷ 0 ∷ 0 ∷ 0 ∷ 0 ∷ 0 ∷ 0 ∷ 0 ∷ 0 ∷ 1 ∷ 1 ∷ []
 
 unfoldable pub listedText : List ℕ
 listedText = bytesOf "ab"
+
+-- 02, A5: "`li`, `ri` and `fi` set them (no number is 0) in paragraph .. reading and `pard` clears them; in plain reading they stay 0". By paragraphs
+-- three blocks, since "Indents belong to the style": left 1, right 0, first line -1; inside the group right 2 too; none. In plain reading one
+unfoldable pub indents : String
+indents = "{\\li1\\ri\\fi-1 a{\\ri2 b}\\pard c}"
+
+unfoldable pub indentedBlocks : List ℕ
+indentedBlocks =
+    0 ∷ 0 ∷ 12 ∷ 0 ∷ 0 ∷ 0 ∷ 0 ∷ 0 ∷ 0 ∷ 0 ∷ 0 ∷ 1 ∷ 0 ∷ 4294967295 ∷ 0 ∷ 1
+    ∷ 0 ∷ 0 ∷ 12 ∷ 0 ∷ 0 ∷ 0 ∷ 0 ∷ 0 ∷ 0 ∷ 0 ∷ 0 ∷ 1 ∷ 2 ∷ 4294967295 ∷ 1 ∷ 1
+    ∷ 0 ∷ 0 ∷ 12 ∷ 0 ∷ 0 ∷ 0 ∷ 0 ∷ 0 ∷ 0 ∷ 0 ∷ 0 ∷ 0 ∷ 0 ∷ 0 ∷ 2 ∷ 1 ∷ []
+
+unfoldable pub flushBlocks : List ℕ
+flushBlocks = 0 ∷ 0 ∷ 12 ∷ 0 ∷ 0 ∷ 0 ∷ 0 ∷ 0 ∷ 0 ∷ 0 ∷ 0 ∷ 0 ∷ 0 ∷ 0 ∷ 0 ∷ 3 ∷ []

@@ -9,7 +9,7 @@ use Prim.Native.Nat.{ℕ}
 use borrow.Author.Tests.{ne-eqb}
 use Rattle.readings.specs.declared.Reading.{Reading}
 use Rattle.tokens.specs.declared.Property.{Property}
-use Rattle.settings.specs.Effects.{Effect, sets, painterWord, paragraphWord, characterWord, endingWord, effect}
+use Rattle.settings.specs.Effects.{Effect, sets, painterWord, paragraphWord, characterWord, endingWord, indentWord, effect}
 
 pub by-word : (rd : Reading) {w : ℕ} (num : Property) (k : ℕ) {x : Effect} → w ≡ k → x ≡ effect rd k num → x ≡ effect rd w num
 by-word rd num k e q = q ∙ sym (ap (λ (u : ℕ). effect rd u num) e)
@@ -75,8 +75,13 @@ module _ (w : ℕ) where
   unfolding endingWord
   no-ending rd x a = rw (ne-eqb w 20 a)
 
+  pub no-indent : (rd : Reading) (num : Property) (x : Effect) → Not w 32 → Not w 31 → Not w 30 → indentWord rd w num x ≡ x
+  unfolding indentWord
+  no-indent rd num x a b c = rw (ne-eqb w 32 a, ne-eqb w 31 b, ne-eqb w 30 c)
+
 pub other-word : (rd : Reading) (w : ℕ) (num : Property) → painterWord w num (sets []) ≡ sets [] → paragraphWord w num (sets []) ≡ sets []
-    → characterWord w (sets []) ≡ sets [] → endingWord rd w (sets []) ≡ sets [] → sets [] ≡ effect rd w num
+    → characterWord w (sets []) ≡ sets [] → endingWord rd w (sets []) ≡ sets [] → indentWord rd w num (sets []) ≡ sets [] → sets [] ≡ effect rd w num
 unfolding effect
-other-word rd w num p q r s = sym (ap (λ (x : Effect). painterWord w num (paragraphWord w num (characterWord w x))) s
+other-word rd w num p q r s t = sym (ap (λ (x : Effect). painterWord w num (paragraphWord w num (characterWord w (endingWord rd w x)))) t
+    ∙ ap (λ (x : Effect). painterWord w num (paragraphWord w num (characterWord w x))) s
     ∙ ap (λ (x : Effect). painterWord w num (paragraphWord w num x)) r ∙ ap (painterWord w num) q ∙ p)

@@ -105,9 +105,21 @@ characterWord w next =
 unfoldable pub endingWord : Reading → ℕ → Effect → Effect
 endingWord rd w next = cond (eqb w words.par) (ending rd) next
 
+-- 02, A5: "`li`, `ri` and `fi` set them (no number is 0) in paragraph .. reading ..; in plain reading they stay 0"
+abbrev pub indenting : Reading → ℕ → ℕ → Effect
+indenting Plain f v = sets []
+indenting Paragraphs f v = setting f v
+
+unfoldable pub indentWord : Reading → ℕ → Property → Effect → Effect
+indentWord rd w num next =
+    cond (eqb w words.leftIndent) (indenting rd field.left (valueOf num))
+    (cond (eqb w words.rightIndent) (indenting rd field.right (valueOf num))
+    (cond (eqb w words.firstLineIndent) (indenting rd field.first (valueOf num))
+    next))
+
 -- "Other words do nothing."
 unfoldable pub effect : Reading → ℕ → Property → Effect
-effect rd w num = painterWord w num (paragraphWord w num (characterWord w (endingWord rd w (sets []))))
+effect rd w num = painterWord w num (paragraphWord w num (characterWord w (endingWord rd w (indentWord rd w num (sets [])))))
 
 -- what the code's answer says
 unfoldable pub meaning : Act → Effect

@@ -64,19 +64,29 @@ multiplier = 15
 abbrev pub tab : ℕ
 tab = 16
 
+-- 02, A5: the indents, "left, right and first line"
+abbrev pub left : ℕ
+left = 17
+
+abbrev pub right : ℕ
+right = 18
+
+abbrev pub first : ℕ
+first = 19
+
 -- how many units are skipped behind a `u` word
 abbrev pub skip : ℕ
-skip = 17
+skip = 20
 
 -- how many fields there are: the painter's, the paragraph's, all of them
 abbrev pub painterWidth : ℕ
 painterWidth = 10
 
 abbrev pub paragraphWidth : ℕ
-paragraphWidth = 7
+paragraphWidth = 10
 
 abbrev pub width : ℕ
-width = 18
+width = 21
 
 -- "A fresh state has size 12, everything else zero or off, and skip count 1."
 abbrev pub freshPainter : Painter
@@ -94,7 +104,7 @@ freshPainter = record {
 }
 
 abbrev pub freshParagraph : Paragraph
-freshParagraph = record { alignment = 0; before = 0; after = 0; kind = 0; line = 0; multiplier = 0; tab = 0 }
+freshParagraph = record { alignment = 0; before = 0; after = 0; kind = 0; line = 0; multiplier = 0; tab = 0; left = 0; right = 0; first = 0 }
 
 abbrev pub freshState : State
 freshState = record { painter = freshPainter; paragraph = freshParagraph; skip = 1 }
@@ -105,6 +115,7 @@ rowOf s =
     s .painter .colour ∷ s .painter .font ∷ s .painter .size
     ∷ s .painter .bold ∷ s .painter .italic ∷ s .painter .underline ∷ s .painter .superscript ∷ s .painter .subscript ∷ s .painter .smallcaps ∷ s .painter .strike
     ∷ s .paragraph .alignment ∷ s .paragraph .before ∷ s .paragraph .after ∷ s .paragraph .kind ∷ s .paragraph .line ∷ s .paragraph .multiplier ∷ s .paragraph .tab
+    ∷ s .paragraph .left ∷ s .paragraph .right ∷ s .paragraph .first
     ∷ s .skip ∷ []
 
 abbrev pub freshRow : List ℕ
@@ -147,4 +158,7 @@ styleOf r = record {
   line = getD r line 0;
   multiplier = getD r multiplier 0;
   tab = getD r tab 0;
+  left = getD r left 0;
+  right = getD r right 0;
+  first = getD r first 0;
 }

@@ -16,7 +16,7 @@ use tokens::words;
 ghost use mathlib.Core.Path.{_≡_};
 ghost use Prim.Native.Nat.{_<_};
 ghost use Rattle.settings.specs.Fields.{width, freshPainter, freshParagraph, freshState, rowOf};
-ghost use Rattle.settings.specs.Effects.{flagOf, fitted, spacing, ending as endingOf, effect, meaning, Within};
+ghost use Rattle.settings.specs.Effects.{flagOf, fitted, spacing, ending as endingOf, indenting, effect, meaning, Within};
 
 pub const COLOUR: usize = 0;
 
@@ -52,9 +52,15 @@ pub const MULTIPLIER: usize = 15;
 
 pub const TAB: usize = 16;
 
-pub const SKIP: usize = 17;
+pub const LEFT: usize = 17;
 
-pub const WIDTH: usize = 18;
+pub const RIGHT: usize = 18;
+
+pub const FIRST: usize = 19;
+
+pub const SKIP: usize = 20;
+
+pub const WIDTH: usize = 21;
 
 // Colour and font by key; the size in half points.
 pub struct Painter {
@@ -70,7 +76,7 @@ pub struct Painter {
     pub strike: u32,
 }
 
-// The space between lines: kind 0 automatic, 1 the value `line`.
+// The space between lines: kind 0 automatic, 1 the value `line`. The indents, `Indentation` in the crate, which never fills it.
 pub struct Paragraph {
     pub alignment: u32,
     pub before: u32,
@@ -79,6 +85,9 @@ pub struct Paragraph {
     pub line: u32,
     pub multiplier: u32,
     pub tab: u32,
+    pub left: u32,
+    pub right: u32,
+    pub first: u32,
 }
 
 // What a bracket saves: style, paragraph, and how many units are skipped behind a `u` word.
@@ -142,6 +151,9 @@ impl Paragraph {
             line: 0,
             multiplier: 0,
             tab: 0,
+            left: 0,
+            right: 0,
+            first: 0,
         }
     }
 }
@@ -185,6 +197,9 @@ impl State {
             q.line,
             q.multiplier,
             q.tab,
+            q.left,
+            q.right,
+            q.first,
             self.skip,
         ]
     }
@@ -242,6 +257,17 @@ fn ending(reading: Reading) -> Act
     }
 }
 
+// An indent: plain reading has none.
+fn indent(reading: Reading, f: usize, v: u32) -> Act
+    requires { ⌜ f < width ⌝ }
+    ensures { λ r. ⌜ (meaning r ≡ indenting reading f v) × Within r ⌝ }
+{
+    match reading {
+        Reading::Plain => Act::Nothing,
+        Reading::Paragraphs => Act::Sets(f, v),
+    }
+}
+
 // A word of the body but `u`.
 pub fn act_of(reading: Reading, w: u32, number: Property) -> Act
     ensures { λ r. ⌜ (meaning r ≡ effect reading w number) × Within r ⌝ }
@@ -281,6 +307,9 @@ pub fn act_of(reading: Reading, w: u32, number: Property) -> Act
         words::TAB => Act::Says(0x9),
         words::LINE => Act::Says(0xA),
         words::PAR => ending(reading),
+        words::LEFT_INDENT => indent(reading, LEFT, v),
+        words::RIGHT_INDENT => indent(reading, RIGHT, v),
+        words::FIRST_LINE_INDENT => indent(reading, FIRST, v),
         _ => Act::Nothing,
     }
 }

@@ -10,13 +10,16 @@ use crate::ALIGNMENT;
 use crate::BEFORE;
 use crate::BOLD;
 use crate::COLOUR;
+use crate::FIRST;
 use crate::FONT;
 use crate::ITALIC;
 use crate::KIND;
+use crate::LEFT;
 use crate::LINE;
 use crate::MULTIPLIER;
 use crate::Painter;
 use crate::Paragraph;
+use crate::RIGHT;
 use crate::SIZE;
 use crate::SMALLCAPS;
 use crate::STRIKE;
@@ -87,6 +90,9 @@ pub fn reset_paragraph(states: &mut [[u32; WIDTH]; STATES], d: usize)
     row[LINE] = 0;
     row[MULTIPLIER] = 0;
     row[TAB] = 0;
+    row[LEFT] = 0;
+    row[RIGHT] = 0;
+    row[FIRST] = 0;
     states[d] = row;
 }
 
@@ -132,5 +138,8 @@ pub fn style_of(states: &[[u32; WIDTH]; STATES], d: usize) -> Style
         line: states[d][LINE],
         multiplier: states[d][MULTIPLIER],
         tab: states[d][TAB],
+        left: states[d][LEFT],
+        right: states[d][RIGHT],
+        first: states[d][FIRST],
     }
 }

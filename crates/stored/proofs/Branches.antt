@@ -1,6 +1,5 @@
 -- Each way through the code of one block, as the definition has it.
 --     ruled-..   by the rules
---     style-is   the style of a block's numbers
 --     block-..   by what came of the numbers
 -- Assumes nothing.
 use mathlib.Core.Path.{_≡_, refl, sym, _∙_}
@@ -19,8 +18,9 @@ use Rattle.answers.specs.Answers.{refusal, Found, found, refused}
 use Rattle.rooms.proofs.Streams.{done-refused}
 use Rattle.wellformed.specs.WellFormed.{isUtf8}
 use Rattle.styles.specs.declared.Style.{Style}
+use Rattle.styles.specs.Styles.{bareWidth}
 use Rattle.blocks.specs.Pages.{Last, starts}
-use Rattle.fields.specs.Fields.{inRange, unfolded, styleFrom}
+use Rattle.fields.specs.Fields.{inRange, styleFrom, blockNumbers}
 use Rattle.stored.specs.declared.entry.Entry.{Entry}
 use Rattle.stored.specs.declared.entry.Entry.the-variants.{Is, Bad}
 use Rattle.stored.specs.Entries.{Numbers, numbersFrom, NumbersIn, ruled, entryOf, entry}
@@ -53,48 +53,30 @@ module _ (l : Last) (st : Style) (n m : ℕ) (s : List ℕ) {a d : Bool} (p : a 
       unfolding ruled
       ruled-bytes t f = rw (f, ← p, ← q, not-false (a && (ltb 0 n && d)) e, le-leb n (length s) h, ← k, t)
 
--- the style that numbers say, as the code puts it together
-pub style-is : (ws : List ℕ) {b a m t : ℕ} → b ≡ unfolded (getD ws 5 0) → a ≡ unfolded (getD ws 6 0)
-    → m ≡ unfolded (getD ws 9 0) → t ≡ unfolded (getD ws 10 0)
-    → record {
-      colour = getD ws 0 0;
-      font = getD ws 1 0;
-      size = getD ws 2 0;
-      flags = getD ws 3 0;
-      alignment = getD ws 4 0;
-      before = b;
-      after = a;
-      kind = getD ws 7 0;
-      line = getD ws 8 0;
-      multiplier = m;
-      tab = t;
-    } ≡ styleFrom ws
-style-is ws eb ea em et = rw (eb, ea, em, et)
-
 -- by what came of the numbers
-module _ (l : Last) (s ws : List ℕ) {k : ℕ} (r : Outcome) (z : k ≡ 12) (h : NumbersIn (numbersFrom k s) (length s) r ws) where
-  numbers : NumbersIn (numbersFrom 12 s) (length s) r ws
+module _ (l : Last) (s ws : List ℕ) {k : ℕ} (r : Outcome) (z : k ≡ blockNumbers) (h : NumbersIn (numbersFrom k s) (length s) r ws) where
+  numbers : NumbersIn (numbersFrom blockNumbers s) (length s) r ws
   numbers = rw z at h
 
   pub block-refused : {f : Refusal} → r ≡ Refused f → Bad f ≡ entry l s
   unfolding entry
-  block-refused {f} e = go (numbersFrom 12 s) numbers
+  block-refused {f} e = go (numbersFrom blockNumbers s) numbers
     where
       go : (x : Found Numbers) → NumbersIn x (length s) r ws → Bad f ≡ entryOf l s x
       go (found q) (a, b, c) = absurd (done-refused (sym a ∙ e))
       go (refused g) a = let w : Refused f ≡ Refused g = sym e ∙ a in let v : f ≡ g = cc in rw v
 
   pub block-within : {m : ℕ} → r ≡ Done m → m ≤ length s
-  block-within {m} e = go (numbersFrom 12 s) numbers
+  block-within {m} e = go (numbersFrom blockNumbers s) numbers
     where
       go : (x : Found Numbers) → NumbersIn x (length s) r ws → m ≤ length s
       go (found q) (a, b, c) = let w : Done m ≡ Done (q .size) = sym e ∙ a in let v : m ≡ q .size = cc in omega (arith, v, c)
       go (refused g) a = absurd (done-refused (sym e ∙ a))
 
-  pub block-entry : {m n : ℕ} {st : Style} {x : Entry} → r ≡ Done m → st ≡ styleFrom ws → n ≡ getD ws 11 0
+  pub block-entry : {m n : ℕ} {st : Style} {x : Entry} → r ≡ Done m → st ≡ styleFrom ws → n ≡ getD ws bareWidth 0
       → x ≡ ruled l st n m (take (length s - m) (drop m s)) → x ≡ entry l s
   unfolding entry
-  block-entry {m} {n} {st} {x} e i j d = go (numbersFrom 12 s) numbers
+  block-entry {m} {n} {st} {x} e i j d = go (numbersFrom blockNumbers s) numbers
     where
       go : (y : Found Numbers) → NumbersIn y (length s) r ws → x ≡ entryOf l s y
       go (found q) (a, b, c) =

@@ -21,8 +21,9 @@ use Rattle.sevens.specs.Sevens.{numberOf}
 use Rattle.sevens.proofs.Sevens.{number-within}
 use Rattle.wellformed.specs.WellFormed.{isUtf8}
 use Rattle.styles.specs.declared.Style.{Style}
+use Rattle.styles.specs.Styles.{bareWidth}
 use Rattle.blocks.specs.Pages.{Last, starts}
-use Rattle.fields.specs.Fields.{inRange, styleFrom}
+use Rattle.fields.specs.Fields.{inRange, styleFrom, blockNumbers}
 use Rattle.stored.specs.declared.entry.Entry.{Entry}
 use Rattle.stored.specs.declared.entry.Entry.the-variants.{Is, Bad}
 use Rattle.stored.specs.Entries.{Numbers, behind, andMore, numbersFrom, ruled, entryOf, entry}
@@ -58,11 +59,11 @@ pub record Entered (l : Last) (s : List ℕ) (st : Style) (m n : ℕ) : Type 0 w
   pub range : inRange st ≡ true
   pub some : 0 < n
   pub differs : starts l st ≡ true
-  pub numbers : 12 ≤ m
+  pub numbers : blockNumbers ≤ m
   pub within : m + n ≤ length s
   pub utf8 : isUtf8 (take n (drop m s)) ≡ true
 
-module _ (l : Last) (s : List ℕ) (st : Style) (n m : ℕ) (low : 12 ≤ m) (high : m ≤ length s) where
+module _ (l : Last) (s : List ℕ) (st : Style) (n m : ℕ) (low : blockNumbers ≤ m) (high : m ≤ length s) where
   accepted : {st′ : Style} {m′ n′ : ℕ} → inRange st && (ltb 0 n && starts l st) ≡ true → leb n (length (drop m s)) ≡ true
       → isUtf8 (take n (drop m s)) ≡ true
       → Is st m n ≡ Is st′ m′ n′ → Entered l s st′ m′ n′
@@ -95,8 +96,8 @@ module _ (l : Last) (s : List ℕ) (st : Style) (n m : ℕ) (low : 12 ≤ m) (hi
 
 pub entry-is : (l : Last) (s : List ℕ) {st : Style} {m n : ℕ} → entry l s ≡ Is st m n → Entered l s st m n
 unfolding entry
-entry-is l s {st} {m} {n} = go (numbersFrom 12 s) (numbers-sized 12 s)
+entry-is l s {st} {m} {n} = go (numbersFrom blockNumbers s) (numbers-sized blockNumbers s)
   where
-    go : (x : Found Numbers) → Sized 12 (length s) x → entryOf l s x ≡ Is st m n → Entered l s st m n
-    go (found q) (a, b, c) e = ruled-is l s (styleFrom (q .values)) (getD (q .values) 11 0) (q .size) a b e
+    go : (x : Found Numbers) → Sized blockNumbers (length s) x → entryOf l s x ≡ Is st m n → Entered l s st m n
+    go (found q) (a, b, c) e = ruled-is l s (styleFrom (q .values)) (getD (q .values) bareWidth 0) (q .size) a b e
     go (refused r) h e = let z : _≡_ {A = ℕ} 0 1 = cc in absurd (omega arith)

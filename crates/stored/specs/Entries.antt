@@ -1,4 +1,4 @@
--- 01, Stored form: one block of a stored list, its twelve numbers and its text. Assumes nothing: these are definitions.
+-- 01, Stored form: one block of a stored list, its numbers and its text. Assumes nothing: these are definitions.
 use Prim.Native.Nat.{ℕ, zero, suc, _+_, _≤_}
 use mathlib.Core.Path.{_≡_}
 use mathlib.Core.List.{List, [], _∷_, _++_}
@@ -14,8 +14,9 @@ use Rattle.sevens.specs.declared.Numeral.the-variants.{Is as Numbered, Bad as B
 use Rattle.sevens.specs.Sevens.{numberOf}
 use Rattle.wellformed.specs.WellFormed.{isUtf8}
 use Rattle.styles.specs.declared.Style.{Style}
+use Rattle.styles.specs.Styles.{bareWidth}
 use Rattle.blocks.specs.Pages.{Last, starts}
-use Rattle.fields.specs.Fields.{inRange, styleFrom}
+use Rattle.fields.specs.Fields.{inRange, styleFrom, blockNumbers}
 use Rattle.stored.specs.declared.entry.Entry.{Entry}
 use Rattle.stored.specs.declared.entry.Entry.the-variants.{Is, Bad}
 
@@ -48,12 +49,12 @@ ruled l st n m s =
     (Bad (refusal StoredField))
 
 abbrev pub entryOf : Last → List ℕ → Found Numbers → Entry
-entryOf l s (found q) = ruled l (styleFrom (q .values)) (getD (q .values) 11 0) (q .size) (drop (q .size) s)
+entryOf l s (found q) = ruled l (styleFrom (q .values)) (getD (q .values) bareWidth 0) (q .size) (drop (q .size) s)
 entryOf l s (refused r) = Bad r
 
 -- the block that a list starts with: its style, how many bytes its numbers have, and how many its text
 unfoldable pub entry : Last → List ℕ → Entry
-entry l s = entryOf l s (numbersFrom 12 s)
+entry l s = entryOf l s (numbersFrom blockNumbers s)
 
 -- what a function answers that reads numbers from k bytes into words
 abbrev pub NumbersIn : Found Numbers → ℕ → Outcome → List ℕ → Type 0

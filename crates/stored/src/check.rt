@@ -8,13 +8,15 @@
 use crate::entry::Entry;
 use crate::entry::numbers_at;
 use crate::entry::ruled;
-use crate::entry::style_of;
 use answers::Outcome;
 use answers::Refusal;
 use answers::Why;
+use fields::BLOCK_NUMBERS;
+use fields::style_from;
 use rooms::wide;
 use sevens::Numeral;
 use sevens::number_at;
+use styles::BARE_WORDS;
 use styles::Style;
 ghost use mathlib.Core.Path.{_≡_};
 ghost use Prim.Native.Nat.{ℕ, _≤_};
@@ -31,13 +33,13 @@ ghost use Rattle.stored.specs.Checks.{Checks};
 fn block_at(s: &[u8], begun: bool, before: Style) -> Entry
     ensures { λ r. ⌜ r ≡ entry (lastOf begun before) (now (s .entry)) ⌝ }
 {
-    let mut words = [0u32; 12];
+    let mut words = [0u32; BLOCK_NUMBERS];
     let numbers = numbers_at(s, &mut words);
     match numbers {
         Outcome::Refused(refusal) => Entry::Bad(refusal),
         Outcome::Done(m) => {
-            let style = style_of(&words);
-            let n = wide(words[11]);
+            let style = style_from(&words[..BARE_WORDS]);
+            let n = wide(words[BARE_WORDS]);
             ruled(&s[m..], begun, before, style, n, m)
         }
     }

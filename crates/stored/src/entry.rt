@@ -1,27 +1,27 @@
-// One block of a stored list (01, Stored form): its twelve numbers, and the rules for them and for its text.
+// One block of a stored list (01, Stored form): its numbers, and the rules for them and for its text.
 //
 //   Entry        a block that stands in a list: its style, how many bytes its numbers have, and how many its text; or a refusal
 //   numbers_at   numbers, one after the other
-//   style_of     the style that they say
 //   ruled        the rules for ranges, length, style and text
-//   block_at     the block that a list starts with, by the three
+//   block_at     the block that a list starts with, by the two
 //
-// All are total but `style_of`. Whoever reads a list reads its blocks by `block_at`, and whoever checks one by the three.
+// All are total. Whoever reads a list reads its blocks by `block_at`, and whoever checks one by the two.
 use answers::Outcome;
 use answers::Refusal;
 use answers::Why;
+use fields::BLOCK_NUMBERS;
 use fields::follows;
 use fields::in_range;
-use fields::unfold;
+use fields::style_from;
 use rooms::wide;
 use sevens::Numeral;
 use sevens::number_at;
+use styles::BARE_WORDS;
 use styles::Style;
 use wellformed::is_utf8;
 ghost use mathlib.Core.Path.{_≡_};
-ghost use Prim.Native.Nat.{_≤_};
 ghost use lib.ListN.{length};
-ghost use Rattle.fields.specs.Fields.{styleFrom, lastOf};
+ghost use Rattle.fields.specs.Fields.{lastOf};
 ghost use Rattle.stored.specs.Entries.{numbersFrom, ruled as ruledOf, entry, NumbersIn};
 
 pub enum Entry {
@@ -55,30 +55,6 @@ pub fn numbers_at(s: &[u8], words: &mut [u32]) -> Outcome
     Outcome::Done(s.len() - t.len())
 }
 
-// The style that a block's numbers say.
-pub fn style_of(words: &[u32]) -> Style
-    requires { ⌜ 12 ≤ length (now words) ⌝ }
-    ensures { λ r. ⌜ r ≡ styleFrom (now (words .entry)) ⌝ }
-{
-    let before = unfold(words[5]);
-    let after = unfold(words[6]);
-    let multiplier = unfold(words[9]);
-    let tab = unfold(words[10]);
-    Style {
-        colour: words[0],
-        font: words[1],
-        size: words[2],
-        flags: words[3],
-        alignment: words[4],
-        before: before,
-        after: after,
-        kind: words[7],
-        line: words[8],
-        multiplier: multiplier,
-        tab: tab,
-    }
-}
-
 // A block of a style with n bytes of text, whose numbers have m bytes and are followed by t.
 pub fn ruled(t: &[u8], begun: bool, before: Style, s: Style, n: usize, m: usize) -> Entry
     ensures { λ r. ⌜ r ≡ ruledOf (lastOf begun before) s n m (now (t .entry)) ⌝ }
@@ -99,13 +75,13 @@ pub fn ruled(t: &[u8], begun: bool, before: Style, s: Style, n: usize, m: usize)
 pub fn block_at(s: &[u8], begun: bool, before: Style) -> Entry
     ensures { λ r. ⌜ r ≡ entry (lastOf begun before) (now (s .entry)) ⌝ }
 {
-    let mut words = [0u32; 12];
+    let mut words = [0u32; BLOCK_NUMBERS];
     let numbers = numbers_at(s, &mut words);
     match numbers {
         Outcome::Refused(refusal) => Entry::Bad(refusal),
         Outcome::Done(m) => {
-            let style = style_of(&words);
-            let n = wide(words[11]);
+            let style = style_from(&words[..BARE_WORDS]);
+            let n = wide(words[BARE_WORDS]);
             ruled(&s[m..], begun, before, style, n, m)
         }
     }

@@ -15,7 +15,8 @@ use Rattle.wellformed.specs.WellFormed.{isUtf8}
 use Rattle.styles.specs.declared.Style.{Style}
 use Rattle.fields.specs.Fields.{inRange}
 use Rattle.blocks.specs.Pages.{Last, starts}
-use Rattle.storing.specs.Fitting.{styleAt, placeAt, lengthAt, signs, says, fits}
+use Rattle.styles.specs.Styles.{styleAt}
+use Rattle.storing.specs.Fitting.{placeAt, lengthAt, signs, says, fits}
 
 module _ (l : Last) (p : ℕ) (ws tx : List ℕ) {s : Style} {place count : ℕ} {a f : Bool}
     (es : s ≡ styleAt ws) (ep : place ≡ placeAt ws) (ec : count ≡ lengthAt ws) (ea : a ≡ inRange s) (ef : f ≡ starts l s) where

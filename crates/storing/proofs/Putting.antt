@@ -10,7 +10,7 @@ use mathlib.Core.List.{List, [], _∷_, _++_}
 use Prim.Native.Nat.{ℕ, suc, _+_, _*_, _≤_, _<_}
 use native.Mathlib.Numerals.{add-one}
 use native.Mathlib.Omega.{arith}
-use lib.ListN.{length, getD, drop, length-append, drop-of-length-le}
+use lib.ListN.{length, getD, take, drop, length-append, drop-of-length-le}
 use lib.Seq.{drop-cons}
 use Rattle.answers.specs.declared.Outcome.{Outcome}
 use Rattle.answers.specs.declared.Outcome.the-variants.{Done}
@@ -21,9 +21,11 @@ use Rattle.sevens.specs.Sevens.{written, byteLayout, streamed}
 use Rattle.sevens.proofs.Sevens.{written-length}
 use Rattle.sevens.proofs.Streamed.{streamed-append, place-after}
 use Rattle.styles.specs.declared.Style.{Style}
-use Rattle.fields.specs.Fields.{folded, styleNumbers}
+use Rattle.styles.specs.Styles.{bareWidth, styleWords}
+use Rattle.fields.specs.Fields.{numberAt, styleNumbers, blockNumbers}
+use Rattle.fields.proofs.Styles.{length-byPlace}
 use Rattle.blocks.specs.Pages.{Piece, piece}
-use Rattle.storing.specs.Bytes.{numbersBytes, blockNumbers, blockBytes}
+use Rattle.storing.specs.Bytes.{numbersBytes, numbersIn, blockBytes}
 use Rattle.answers.specs.declared.Refusal.{Refusal}
 use Rattle.rooms.proofs.Streams.{refusal-apart}
 
@@ -108,9 +110,14 @@ module _ {bs : List ℕ} {n : ℕ} {room₀ room : List ℕ} {at i : ℕ} (l : B
 
 -- ---- a block
 
+length-in : (x : Piece) → length (numbersIn x) ≡ blockNumbers
+length-in x =
+    length-append (styleNumbers (x .style)) (length (x .bytes) ∷ [])
+    ∙ rw (length-byPlace numberAt 0 (take bareWidth (styleWords (x .style))))
+
 pub length-block : (x : Piece) → length (blockBytes x) ≤ 60 + length (x .bytes)
-unfolding blockBytes styleNumbers
-length-block x = omega (arith, length-append (numbersBytes (blockNumbers x)) (x .bytes), length-numbers (blockNumbers x))
+unfolding blockBytes
+length-block x = omega (arith, length-append (numbersBytes (numbersIn x)) (x .bytes), length-numbers (numbersIn x), length-in x)
 
 pub block-wrote : (s : Style) (text ws : List ℕ) → ws ≡ styleNumbers s ++ (length text ∷ [])
     → {n at r : ℕ} {room room′ room″ : List ℕ}
@@ -121,16 +128,8 @@ unfolding blockBytes
 block-wrote s text ws e w v =
     wrote-then byteLayout refusal-apart (streamed text) (rw (← e) (streamed-append (numbersBytes ws) text)) w refl v
 
--- the place behind twelve numbers
+-- the place behind numbers
 pub numbers-place : (ws : List ℕ) {n at : ℕ} {room room′ : List ℕ}
     → Wrote byteLayout byRefusal n room (streamed (numbersBytes ws)) (Done at) room′
     → at ≤ n + 5 * length ws
 numbers-place ws w = omega (arith, place-after (numbersBytes ws) w, length-numbers ws)
-
--- a block's numbers, as the code lists them
-pub block-numbers : (s : Style) (count : ℕ) {b a m t : ℕ} → b ≡ folded (s .before) → a ≡ folded (s .after)
-    → m ≡ folded (s .multiplier) → t ≡ folded (s .tab)
-    → s .colour ∷ s .font ∷ s .size ∷ s .flags ∷ s .alignment ∷ b ∷ a ∷ s .kind ∷ s .line ∷ m ∷ t ∷ count ∷ []
-    ≡ styleNumbers s ++ (count ∷ [])
-unfolding styleNumbers
-block-numbers s count eb ea em et = rw (eb, ea, em, et)

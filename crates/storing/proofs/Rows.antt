@@ -21,7 +21,8 @@ use Rattle.sevens.proofs.Streamed.{place-after}
 use Rattle.styles.specs.declared.Style.{Style}
 use Rattle.fields.specs.Fields.{lastOf}
 use Rattle.blocks.specs.Pages.{Piece, piece, Last, none, last, blockWords}
-use Rattle.storing.specs.Fitting.{styleAt, lengthAt, fits}
+use Rattle.styles.specs.Styles.{styleAt}
+use Rattle.storing.specs.Fitting.{lengthAt, fits}
 use Rattle.storing.proofs.Fitting.{Fit, fits-fit}
 use Rattle.storing.specs.Bytes.{blockBytes}
 use Rattle.storing.proofs.Putting.{Ahead, wrote-length, length-block}

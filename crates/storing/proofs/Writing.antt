@@ -7,15 +7,15 @@
 -- Assumes nothing.
 use mathlib.Core.Path.{_≡_, refl, sym, ap, _∙_}
 use mathlib.Core.List.{List, [], _∷_, _++_}
-use mathlib.Core.Bool.{Bool, true, false, cond, _&&_}
+use mathlib.Core.Bool.{Bool, true, false, cond, not, _&&_}
 use Prim.Native.Nat.{ℕ, zero, suc, _+_, _*_, _/_, _%_, _≤_, _<_}
 use native.Mathlib.Omega.{arith}
 use borrow.Author.Tests.{ltb-true, lt-ltb, leb-true, le-leb, eqb-true, eq-eqb}
 use lib.ListN.{length, getD, take, drop, length-append, length-take, length-drop, take-append-drop}
 use lib.Seq.{take-at, drop-at, drop-drop, drop-cons, drop-length}
 use lib.Dec.{leb, ltb, eqb}
-use Rattle.answers.specs.declared.Why.the-variants.{StoredField, OutputRoom}
-use Rattle.answers.specs.declared.Outcome.the-variants.{Done}
+use Rattle.answers.specs.declared.Why.the-variants.{StoredField, OutputRoom, IndentNotZero}
+use Rattle.answers.specs.declared.Outcome.the-variants.{Done, Refused}
 use Rattle.answers.specs.Answers.{refusal}
 use Rattle.bytes.proofs.Runs.{and-left, and-right}
 use Rattle.rooms.specs.Streams.{Stream, end, stop, andThen, answer, ended}
@@ -28,13 +28,14 @@ use Rattle.wellformed.specs.WellFormed.{isUtf8}
 use Rattle.fields.specs.Fields.{inRange}
 use Rattle.blocks.specs.Pages.{Piece, piece, Last, none, last, starts, textOf, blockRecord, records, blockWords}
 use Rattle.blocks.proofs.Blocks.{length-records}
-use Rattle.storing.specs.Fitting.{styleAt, placeAt, lengthAt, fits}
+use Rattle.styles.specs.Styles.{styleAt, flush}
+use Rattle.storing.specs.Fitting.{placeAt, lengthAt, fits}
 use Rattle.storing.proofs.Fitting.{Fit, fits-fit, fit-all}
 use Rattle.storing.specs.Bytes.{blockBytes, blocksBytes, listBytes}
 use Rattle.storing.specs.Lists.{piecesFrom, bytesOf, whole, listStream}
 use Rattle.storing.proofs.Lists.{list-is}
-use Rattle.storing.specs.Storing.{writeAnswer, writeRoom}
-use Rattle.storing.specs.Good.{Good}
+use Rattle.storing.specs.Storing.{indented, listAnswer, writeAnswer, writeRoom}
+use Rattle.storing.specs.Good.{Good, Flat}
 use Rattle.answers.specs.declared.Refusal.{Refusal}
 
 -- ---- good blocks
@@ -99,7 +100,7 @@ blocks-cons x xs = sym (streamed-append (blockBytes x) (blocksBytes xs))
 -- a block's record says its style, place and length
 module _ (x : Piece) (p : ℕ) (ws : List ℕ) where
   record-style : styleAt (blockRecord (x .style) p (length (x .bytes)) ++ ws) ≡ x .style
-  unfolding blockRecord
+  unfolding blockRecord styleAt
   record-style = refl
 
   record-place : placeAt (blockRecord (x .style) p (length (x .bytes)) ++ ws) ≡ p
@@ -176,7 +177,7 @@ items-split (suc n) i ws h =
     ∙ ap (λ (l : List ℕ). getD ws i 0 ∷ l) (items-split n (suc i) ws (omega arith) ∙ rw e)
 
 record-split : (ws : List ℕ) → blockWords ≤ length ws → ws ≡ blockRecord (styleAt ws) (placeAt ws) (lengthAt ws) ++ drop blockWords ws
-unfolding itemsFrom blockRecord
+unfolding itemsFrom blockRecord styleAt
 record-split ws h = items-split blockWords 0 ws h
 
 -- the blocks that words and a text are, behind a block l and p bytes of the text
@@ -283,18 +284,61 @@ stream-ends ws tx {n} a =
     ap (λ (i : ℕ). bytesOf (piecesFrom i none 0 ws tx)) (q .4) ∙ q .5 in
     (q .0, q .1, q .2, q .3, rw (q .4) (omega arith), list-as ws tx (q .0) w (sym (q .4)) d)
 
+-- ---- indents
+
+-- blocks without indents, one by one
+module _ (x : Piece) (xs : List Piece) where
+  pub flat-one : Flat (x ∷ xs) ≡ true → (flush (x .style) ≡ true) × (Flat xs ≡ true)
+  unfolding Flat
+  flat-one = go (flush (x .style)) refl
+    where
+      go : (t : Bool) → flush (x .style) ≡ t → cond t (Flat xs) false ≡ true → (flush (x .style) ≡ true) × (Flat xs ≡ true)
+      go true e f = (e, f)
+      go false e f = let z : _≡_ {A = Bool} true false = sym f in (cc, cc)
+
+  pub one-flat : flush (x .style) ≡ true → Flat xs ≡ true → Flat (x ∷ xs) ≡ true
+  unfolding Flat
+  one-flat e f = rw e f
+
+-- the records of blocks have an indent if a block has
+pub indented-records : (xs : List Piece) (p : ℕ) → indented (length xs) (records p xs) ≡ not (Flat xs)
+unfolding indented records Flat
+indented-records [] p = refl
+indented-records (x ∷ xs) p =
+    let rest : List ℕ = records (p + length (x .bytes)) xs in
+    rw (record-style x p rest, record-rest x p rest, indented-records xs (p + length (x .bytes))) (go (flush (x .style)) (Flat xs))
+  where
+    go : (t u : Bool) → cond t (not u) true ≡ not (cond t u false)
+    go true u = refl
+    go false u = refl
+
 -- ---- the answer and the room
 
-module _ (xs : List Piece) (total : ℕ) (h : Good none xs ≡ true) (s : length (textOf xs) ≤ 2147483647)
+module _ (xs : List Piece) (h : Good none xs ≡ true) (s : length (textOf xs) ≤ 2147483647) where
+  list-stream : answer 0 (listStream (records 0 xs) (textOf xs)) ≡ Done (length (listBytes xs))
+  list-stream =
+      let z : 0 + length (listBytes xs) ≡ length (listBytes xs) = omega arith in
+      ap (answer 0) (stream-good xs h s) ∙ answer-streamed (listBytes xs) 0 ∙ ap Done z
+
+  list-indents : indented (length (records 0 xs) / blockWords) (records 0 xs) ≡ not (Flat xs)
+  list-indents =
+      let n : length (records 0 xs) / blockWords ≡ length xs = omega (arith, length-records xs 0) in
+      rw n (indented-records xs 0)
+
+  pub good-list : Flat xs ≡ true → listAnswer (records 0 xs) (textOf xs) ≡ Done (length (listBytes xs))
+  unfolding listAnswer
+  good-list g = rw (list-indents, g, list-stream)
+
+  -- "its writer refuses a list that has one", whatever the room
+  pub write-indent : Flat xs ≡ false → (total : ℕ) → writeAnswer total (records 0 xs) (textOf xs) ≡ Refused (refusal IndentNotZero)
+  unfolding writeAnswer listAnswer settled
+  write-indent g total = rw (list-indents, g, list-stream)
+
+module _ (xs : List Piece) (total : ℕ) (h : Good none xs ≡ true) (g : Flat xs ≡ true) (s : length (textOf xs) ≤ 2147483647)
     (f : length (listBytes xs) ≤ total) where
   good-answer : writeAnswer total (records 0 xs) (textOf xs) ≡ Done (length (listBytes xs))
   unfolding writeAnswer
-  good-answer =
-      let z : 0 + length (listBytes xs) ≡ length (listBytes xs) = omega arith in
-      ap (λ (y : Stream Refusal ℕ). settled byteLayout (refusal OutputRoom) total (answer 0 y)) (stream-good xs h s)
-      ∙ ap (settled byteLayout (refusal OutputRoom) total) (answer-streamed (listBytes xs) 0)
-      ∙ ap (λ (n : ℕ). settled byteLayout (refusal OutputRoom) total (Done n)) z
-      ∙ settled-fits byteLayout (refusal OutputRoom) total (length (listBytes xs)) (omega arith)
+  good-answer = rw (good-list xs h s g) (settled-fits byteLayout (refusal OutputRoom) total (length (listBytes xs)) (omega arith))
 
   good-room : writeRoom total (records 0 xs) (textOf xs) ≡ filled total (listBytes xs)
   unfolding writeRoom content

@@ -12,13 +12,13 @@ unfoldable pub numbersBytes : List ℕ → List ℕ
 numbersBytes [] = []
 numbersBytes (n ∷ ns) = written n ++ numbersBytes ns
 
--- the twelve numbers of a block
-abbrev pub blockNumbers : Piece → List ℕ
-blockNumbers x = styleNumbers (x .style) ++ (length (x .bytes) ∷ [])
+-- the numbers of a block
+abbrev pub numbersIn : Piece → List ℕ
+numbersIn x = styleNumbers (x .style) ++ (length (x .bytes) ∷ [])
 
 -- and its text
 unfoldable pub blockBytes : Piece → List ℕ
-blockBytes x = numbersBytes (blockNumbers x) ++ x .bytes
+blockBytes x = numbersBytes (numbersIn x) ++ x .bytes
 
 -- "The list: block count; per block .."
 unfoldable pub blocksBytes : List Piece → List ℕ

@@ -5,33 +5,18 @@ use mathlib.Core.Bool.{Bool, _&&_}
 use lib.ListN.{length, take, drop, getD}
 use lib.Dec.{leb, ltb, eqb}
 use Rattle.wellformed.specs.WellFormed.{isUtf8}
-use Rattle.styles.specs.declared.Style.{Style}
+use Rattle.styles.specs.Styles.{styleAt}
 use Rattle.fields.specs.Fields.{inRange}
-use Rattle.blocks.specs.Pages.{Last, starts}
+use Rattle.blocks.specs.Pages.{textPlace, textLength, Last, starts}
 
--- the style that a block's record says
-abbrev pub styleAt : List ℕ → Style
-styleAt ws = record {
-  colour = getD ws 0 0;
-  font = getD ws 1 0;
-  size = getD ws 2 0;
-  flags = getD ws 3 0;
-  alignment = getD ws 4 0;
-  before = getD ws 5 0;
-  after = getD ws 6 0;
-  kind = getD ws 7 0;
-  line = getD ws 8 0;
-  multiplier = getD ws 9 0;
-  tab = getD ws 10 0;
-}
-
+-- place and length of the text, as a block's record says them
 abbrev pub placeAt : List ℕ → ℕ
-placeAt ws = getD ws 11 0
+placeAt ws = getD ws textPlace 0
 
 abbrev pub lengthAt : List ℕ → ℕ
-lengthAt ws = getD ws 12 0
+lengthAt ws = getD ws textLength 0
 
--- "Block, 13 signed 32-bit words": place and length are not negative
+-- "Block, .. signed 32-bit words": place and length are not negative
 abbrev pub signs : List ℕ → Bool
 signs ws = leb (placeAt ws) 2147483647 && leb (lengthAt ws) 2147483647
 

@@ -11,7 +11,8 @@ use Rattle.answers.specs.Answers.{refusal}
 use Rattle.rooms.specs.Streams.{Stream, end, stop, _▸_, andThen}
 use Rattle.sevens.specs.Sevens.{written, streamed}
 use Rattle.blocks.specs.Pages.{Piece, piece, Last, none, last, blockWords}
-use Rattle.storing.specs.Fitting.{styleAt, lengthAt, fits}
+use Rattle.styles.specs.Styles.{styleAt}
+use Rattle.storing.specs.Fitting.{lengthAt, fits}
 use Rattle.storing.specs.Bytes.{blockBytes}
 use Rattle.answers.specs.declared.Refusal.{Refusal}
 

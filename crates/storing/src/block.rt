@@ -2,25 +2,28 @@
 //
 //   put_numbers   numbers one after the other
 //   put_bytes     bytes
-//   put_block     a block: its twelve numbers, and its text
+//   put_block     a block: its numbers, and its text
 //
 // Each writes from a place on as far as the room goes, and returns the next place even past its end.
 use answers::Outcome;
-use fields::fold;
+use fields::BLOCK_NUMBERS;
+use fields::numbers_of;
 use sevens::put_byte;
 use sevens::put_number;
+use styles::BARE_WORDS;
 use styles::Style;
 ghost use Prim.Native.Nat.{_≤_, _<_};
 ghost use lib.ListN.{length};
 ghost use Rattle.rooms.specs.Rooms.{Wrote};
 ghost use Rattle.sevens.specs.Sevens.{byteLayout, streamed};
+ghost use Rattle.fields.specs.Fields.{blockNumbers};
 ghost use Rattle.blocks.specs.Pages.{piece};
 ghost use Rattle.storing.specs.Bytes.{numbersBytes, blockBytes};
 ghost use Rattle.rooms.specs.Streams.{byRefusal};
 
 // Numbers one after the other from place n of a room on. The next place.
 fn put_numbers(words: &[u32], room: &mut [u8], n: usize) -> usize
-    requires { ⌜ (length (now words) ≤ 12) × (n ≤ 4611686018427387904) ⌝ }
+    requires { ⌜ (length (now words) ≤ blockNumbers) × (n ≤ 4611686018427387904) ⌝ }
     ensures { λ r. ⌜ Wrote byteLayout byRefusal n (now (room .entry)) (streamed (numbersBytes (now (words .entry)))) (Outcome.Done r)
         (now (room .exit)) ⌝ }
 {
@@ -57,25 +60,8 @@ pub fn put_block(s: Style, text: &[u8], room: &mut [u8], n: usize) -> usize
     ensures { λ r. ⌜ Wrote byteLayout byRefusal n (now (room .entry)) (streamed (blockBytes (piece s (now (text .entry)))))
         (Outcome.Done r) (now (room .exit)) ⌝ }
 {
-    let before = fold(s.before);
-    let after = fold(s.after);
-    let multiplier = fold(s.multiplier);
-    let tab = fold(s.tab);
-    let count = text.len() as u32;
-    let numbers = [
-        s.colour,
-        s.font,
-        s.size,
-        s.flags,
-        s.alignment,
-        before,
-        after,
-        s.kind,
-        s.line,
-        multiplier,
-        tab,
-        count,
-    ];
-    let at = put_numbers(&numbers, room, n);
+    let mut numbers = numbers_of(s);
+    numbers[BARE_WORDS] = text.len() as u32;
+    let at = put_numbers(&numbers[..BLOCK_NUMBERS], room, n);
     put_bytes(text, room, at)
 }

@@ -6,11 +6,11 @@
 // `put_list` is total. It goes on past a full room, and returns how many bytes the list has.
 use crate::block::put_block;
 use crate::record::fits;
-use crate::record::style_at;
 use answers::Outcome;
 use answers::Refusal;
 use answers::Why;
 use blocks::BLOCK_WORDS;
+use blocks::TEXT_LENGTH;
 use rooms::wide;
 use sevens::put_number;
 use styles::Style;
@@ -47,9 +47,9 @@ fn put_blocks(blocks: &[u32], text: &[u8], room: &mut [u8], n: usize) -> Outcome
         if !fits(begun, before, p, words, text) {
             return unfit();
         }
-        before = style_at(words);
+        before = Style::at(words);
         begun = true;
-        let end = p + wide(words[12]);
+        let end = p + wide(words[TEXT_LENGTH]);
         at = put_block(before, &text[p..end], room, at);
         p = end;
         words = &words[BLOCK_WORDS..];

@@ -1,9 +1,10 @@
 // The record of a block, where blocks and a text are to be stored (01, Stored form): whether it may stand where it does.
 //
-//   style_at   the style that a record says
-//   fits       whether a record may stand behind a block of another style, and so many bytes of the text
+//   fits   whether a record may stand behind a block of another style, and so many bytes of the text
 //
-// Both are for `storing` alone, which sees to it that a whole record is there.
+// It is for `storing` alone, which sees to it that a whole record is there.
+use blocks::TEXT_LENGTH;
+use blocks::TEXT_PLACE;
 use fields::follows;
 use fields::in_range;
 use rooms::wide;
@@ -13,28 +14,8 @@ ghost use mathlib.Core.Path.{_≡_};
 ghost use Prim.Native.Nat.{_≤_};
 ghost use lib.ListN.{length};
 ghost use Rattle.fields.specs.Fields.{lastOf};
-ghost use Rattle.storing.specs.Fitting.{styleAt, fits as fitsOf};
+ghost use Rattle.storing.specs.Fitting.{fits as fitsOf};
 ghost use Rattle.blocks.specs.Pages.{blockWords};
-
-// The style that a block's record says.
-pub fn style_at(words: &[u32]) -> Style
-    requires { ⌜ blockWords ≤ length (now words) ⌝ }
-    ensures { λ r. ⌜ r ≡ styleAt (now (words .entry)) ⌝ }
-{
-    Style {
-        colour: words[0],
-        font: words[1],
-        size: words[2],
-        flags: words[3],
-        alignment: words[4],
-        before: words[5],
-        after: words[6],
-        kind: words[7],
-        line: words[8],
-        multiplier: words[9],
-        tab: words[10],
-    }
-}
 
 // Whether words start with the record of a block that may stand where p bytes of the text came before. `begun` says whether
 // there is a block before, of the style `before`.
@@ -42,9 +23,9 @@ pub fn fits(begun: bool, before: Style, p: usize, words: &[u32], text: &[u8]) ->
     requires { ⌜ (blockWords ≤ length (now words)) × (p ≤ length (now text)) ⌝ }
     ensures { λ r. ⌜ r ≡ fitsOf (lastOf begun before) p (now (words .entry)) (now (text .entry)) ⌝ }
 {
-    let s = style_at(words);
-    let place = wide(words[11]);
-    let count = wide(words[12]);
+    let s = Style::at(words);
+    let place = wide(words[TEXT_PLACE]);
+    let count = wide(words[TEXT_LENGTH]);
     let signs = (place <= 2147483647) & (count <= 2147483647);
     if !(in_range(s) & (signs & ((0 < count) & (follows(begun, before, s) & (place == p))))) {
         return false;

@@ -1,17 +1,27 @@
--- 01, Body: the style of a block. A signed number n below zero stands as n + 2^32. Assumes nothing: these are definitions.
+-- 01, Body, and 02, A5: the style of a block, as fourteen words. Here alone they are named one by one: what is said of a style elsewhere is said of
+-- this list. A signed number n below zero stands as n + 2^32. Assumes nothing: these are definitions.
 use Prim.Native.Nat.{ℕ}
 use mathlib.Core.List.{List, [], _∷_}
-use mathlib.Core.Bool.{Bool, _&&_}
-use lib.ListN.{getD}
+use mathlib.Core.Bool.{Bool, true, false, _&&_}
+use lib.ListN.{getD, drop}
 use lib.Dec.{eqb}
 use Rattle.styles.specs.declared.Style.{Style}
 
--- "colour, font, size, flags .., alignment .., before, after, line kind .., line value, multiplier, tab"
+-- how many there are, and how many stand before the indents
+abbrev pub styleWidth : ℕ
+styleWidth = 14
+
+abbrev pub bareWidth : ℕ
+bareWidth = 11
+
+-- "colour, font, size, flags .., alignment .., before, after, line kind .., line value, multiplier, tab"; "left, right and first line before the text
+-- place"
 abbrev pub styleWords : Style → List ℕ
 styleWords s =
-    s .colour ∷ s .font ∷ s .size ∷ s .flags ∷ s .alignment ∷ s .before ∷ s .after ∷ s .kind ∷ s .line ∷ s .multiplier ∷ s .tab ∷ []
+    s .colour ∷ s .font ∷ s .size ∷ s .flags ∷ s .alignment ∷ s .before ∷ s .after ∷ s .kind ∷ s .line ∷ s .multiplier ∷ s .tab
+    ∷ s .left ∷ s .right ∷ s .first ∷ []
 
--- the style that words start with
+-- the style that words start with; a word that is not there is 0
 unfoldable pub styleAt : List ℕ → Style
 styleAt ws = record {
   colour = getD ws 0 0;
@@ -25,15 +35,26 @@ styleAt ws = record {
   line = getD ws 8 0;
   multiplier = getD ws 9 0;
   tab = getD ws 10 0;
+  left = getD ws 11 0;
+  right = getD ws 12 0;
+  first = getD ws 13 0;
 }
 
 -- every word zero
-abbrev pub noStyle : Style
-noStyle = record { colour = 0; font = 0; size = 0; flags = 0; alignment = 0; before = 0; after = 0; kind = 0; line = 0; multiplier = 0; tab = 0 }
+unfoldable pub noStyle : Style
+noStyle = styleAt []
 
--- "if style and paragraph are equal": all eleven words are
+-- whether words are the same
+abbrev pub sameWords : List ℕ → List ℕ → Bool
+sameWords [] [] = true
+sameWords [] (y ∷ ys) = false
+sameWords (x ∷ xs) [] = false
+sameWords (x ∷ xs) (y ∷ ys) = eqb x y && sameWords xs ys
+
+-- "if style and paragraph are equal": all words are; "Indents belong to the style that merging and 24 compare."
 abbrev pub sameStyle : Style → Style → Bool
-sameStyle a b =
-    eqb (a .colour) (b .colour) && (eqb (a .font) (b .font) && (eqb (a .size) (b .size) && (eqb (a .flags) (b .flags)
-    && (eqb (a .alignment) (b .alignment) && (eqb (a .before) (b .before) && (eqb (a .after) (b .after) && (eqb (a .kind) (b .kind)
-    && (eqb (a .line) (b .line) && (eqb (a .multiplier) (b .multiplier) && eqb (a .tab) (b .tab))))))))))
+sameStyle a b = sameWords (styleWords a) (styleWords b)
+
+-- "an indent that is not zero", 26: none is
+abbrev pub flush : Style → Bool
+flush s = sameWords (drop bareWidth (styleWords s)) (0 ∷ 0 ∷ 0 ∷ [])

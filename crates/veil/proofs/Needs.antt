@@ -28,7 +28,7 @@ use Rattle.colours.specs.Colours.{colourWordOf, colourToken, coloursFrom, colou
 use Rattle.header.specs.Header.{tablesFrom}
 use Rattle.readings.specs.declared.Reading.the-variants.{Plain}
 use Rattle.settings.specs.Fields.{resets, flagsOf, styleOf}
-use Rattle.settings.specs.Effects.{fitted, spacing, painterWord, paragraphWord, characterWord, endingWord, effect}
+use Rattle.settings.specs.Effects.{fitted, spacing, painterWord, paragraphWord, characterWord, endingWord, indentWord, effect}
 use Rattle.blocks.specs.Pages.{blocksFrom, blocks, textOf, roomy, blockWords}
 use Rattle.body.specs.Body.{acts, body as bodyOf}
 use Rattle.parser.specs.Parsing.{Letter, placed, bodied}
@@ -131,7 +131,7 @@ Heards (x ∷ xs) =
     })) ≡ x .hears) × Heards xs
 
 needs : Heards cases
-unfolding cases case inRooms text bytes refusal font said letterOf shownBy bodied placed roomy bodyOf acts machine moved saidOf spoken gave settle writtenAll _▸▸_ blocks blocksFrom textOf walkFrom extent aimFrom tablesFrom fonts fontsFrom fontToken fontWord stored inserted hasKey fontNamed colours coloursFrom colourToken colourWordOf tableLimit values step metAny met taken unitOf utf8 written effect painterWord paragraphWord characterWord endingWord fitted spacing resets styleOf flagsOf cutAnswer tokenStream trimmed allSlices last located settled ended items each andThen split slices lead body any tokens escaped other word wordTail bareLength named numbered shownWord lineBreakAnd hexEscape hexValue plain mark wordNumber placeIn sameBytes hexDigit hexPair digitsFrom digits decimal namesIn bytesAt
+unfolding cases case inRooms text bytes refusal font said letterOf shownBy bodied placed roomy bodyOf acts machine moved saidOf spoken gave settle writtenAll _▸▸_ blocks blocksFrom textOf walkFrom extent aimFrom tablesFrom fonts fontsFrom fontToken fontWord stored inserted hasKey fontNamed colours coloursFrom colourToken colourWordOf tableLimit values step metAny met taken unitOf utf8 written effect painterWord paragraphWord characterWord endingWord indentWord fitted spacing resets styleOf flagsOf cutAnswer tokenStream trimmed allSlices last located settled ended items each andThen split slices lead body any tokens escaped other word wordTail bareLength named numbered shownWord lineBreakAnd hexEscape hexValue plain mark wordNumber placeIn sameBytes hexDigit hexPair digitsFrom digits decimal namesIn bytesAt
 needs =
     (refl, (refl, (refl, (refl, (refl, (refl, (refl, (refl, (refl, (refl, (refl, (refl, (refl, (refl, (refl, (refl, (refl, (refl, (refl, (refl, (refl, tt)))))))))))))))))))))
 
@@ -149,11 +149,11 @@ abbrev refusedAt : String → ℕ
 refusedAt s = place (letterOf Plain (bytesOf s) (record { tokens = 75 * tokenWords; fonts = 3 * fontWords; colours = 3 * colourWords; blocks = 3 * blockWords; text = 16 }))
 
 first-place : refusedAt "{a{\\*x}\\fs-1}" ≡ 7
-unfolding letterOf shownBy bodied placed roomy bodyOf acts machine moved saidOf spoken gave settle writtenAll _▸▸_ blocks blocksFrom textOf walkFrom extent aimFrom tablesFrom fonts fontsFrom fontToken fontWord stored inserted hasKey fontNamed colours coloursFrom colourToken colourWordOf tableLimit values step metAny met taken unitOf utf8 written effect painterWord paragraphWord characterWord endingWord fitted spacing resets styleOf flagsOf cutAnswer tokenStream trimmed allSlices last located settled ended items each andThen split slices lead body any tokens escaped other word wordTail bareLength named numbered shownWord lineBreakAnd hexEscape hexValue plain mark wordNumber placeIn sameBytes hexDigit hexPair digitsFrom digits decimal
+unfolding letterOf shownBy bodied placed roomy bodyOf acts machine moved saidOf spoken gave settle writtenAll _▸▸_ blocks blocksFrom textOf walkFrom extent aimFrom tablesFrom fonts fontsFrom fontToken fontWord stored inserted hasKey fontNamed colours coloursFrom colourToken colourWordOf tableLimit values step metAny met taken unitOf utf8 written effect painterWord paragraphWord characterWord endingWord indentWord fitted spacing resets styleOf flagsOf cutAnswer tokenStream trimmed allSlices last located settled ended items each andThen split slices lead body any tokens escaped other word wordTail bareLength named numbered shownWord lineBreakAnd hexEscape hexValue plain mark wordNumber placeIn sameBytes hexDigit hexPair digitsFrom digits decimal
 first-place = refl
 
 second-place : refusedAt "{a{\\*xyz}\\fs-1}" ≡ 9
-unfolding letterOf shownBy bodied placed roomy bodyOf acts machine moved saidOf spoken gave settle writtenAll _▸▸_ blocks blocksFrom textOf walkFrom extent aimFrom tablesFrom fonts fontsFrom fontToken fontWord stored inserted hasKey fontNamed colours coloursFrom colourToken colourWordOf tableLimit values step metAny met taken unitOf utf8 written effect painterWord paragraphWord characterWord endingWord fitted spacing resets styleOf flagsOf cutAnswer tokenStream trimmed allSlices last located settled ended items each andThen split slices lead body any tokens escaped other word wordTail bareLength named numbered shownWord lineBreakAnd hexEscape hexValue plain mark wordNumber placeIn sameBytes hexDigit hexPair digitsFrom digits decimal
+unfolding letterOf shownBy bodied placed roomy bodyOf acts machine moved saidOf spoken gave settle writtenAll _▸▸_ blocks blocksFrom textOf walkFrom extent aimFrom tablesFrom fonts fontsFrom fontToken fontWord stored inserted hasKey fontNamed colours coloursFrom colourToken colourWordOf tableLimit values step metAny met taken unitOf utf8 written effect painterWord paragraphWord characterWord endingWord indentWord fitted spacing resets styleOf flagsOf cutAnswer tokenStream trimmed allSlices last located settled ended items each andThen split slices lead body any tokens escaped other word wordTail bareLength named numbered shownWord lineBreakAnd hexEscape hexValue plain mark wordNumber placeIn sameBytes hexDigit hexPair digitsFrom digits decimal
 second-place = refl
 
 same-veil : veil (bytesOf "{a{\\*x}\\fs-1}") ≡ veil (bytesOf "{a{\\*xyz}\\fs-1}")

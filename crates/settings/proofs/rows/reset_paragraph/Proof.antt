@@ -35,6 +35,15 @@ array-write-row-6 c = search needs
 array-write-row-7 : tie.Need-array-write-row-7
 array-write-row-7 c = search needs
 
+array-write-row-8 : tie.Need-array-write-row-8
+array-write-row-8 c = search needs
+
+array-write-row-9 : tie.Need-array-write-row-9
+array-write-row-9 c = search needs
+
+array-write-row-10 : tie.Need-array-write-row-10
+array-write-row-10 c = search needs
+
 mul-t4 : tie.Need-mul-t4
 mul-t4 c = search needs
 
@@ -58,6 +67,9 @@ reset-paragraph-spec =
     array-write-row-5
     array-write-row-6
     array-write-row-7
+    array-write-row-8
+    array-write-row-9
+    array-write-row-10
     mul-t4
     element-set-from-states
     returns)

@@ -100,9 +100,36 @@ index-1-t63 c = search needs
 index-2-t63 : tie.Need-index-2-t63
 index-2-t63 c = search needs
 
+mul-t64 : tie.Need-mul-t64
+mul-t64 c = search needs
+
+index-1-t69 : tie.Need-index-1-t69
+index-1-t69 c = search needs
+
+index-2-t69 : tie.Need-index-2-t69
+index-2-t69 c = search needs
+
+mul-t70 : tie.Need-mul-t70
+mul-t70 c = search needs
+
+index-1-t75 : tie.Need-index-1-t75
+index-1-t75 c = search needs
+
+index-2-t75 : tie.Need-index-2-t75
+index-2-t75 c = search needs
+
+mul-t76 : tie.Need-mul-t76
+mul-t76 c = search needs
+
+index-1-t81 : tie.Need-index-1-t81
+index-1-t81 c = search needs
+
+index-2-t81 : tie.Need-index-2-t81
+index-2-t81 c = search needs
+
 returns : tie.Need-returns
 unfolding styleOf
-returns c = rw (c .before .before .before .before .before .before .before .before .before .before .flags .ensures)
+returns c = rw (c .before .before .before .before .before .before .before .before .before .before .before .before .before .flags .ensures)
 
 pub style-of-spec : {M : Type 1} → statement M
 style-of-spec =
@@ -139,4 +166,13 @@ style-of-spec =
     mul-t58
     index-1-t63
     index-2-t63
+    mul-t64
+    index-1-t69
+    index-2-t69
+    mul-t70
+    index-1-t75
+    index-2-t75
+    mul-t76
+    index-1-t81
+    index-2-t81
     returns)

@@ -1,11 +1,18 @@
 -- `block_at` meets its contract, as that of `entry` does: the numbers, and then the rules.
 use borrow.Author.Needs.{needs}
 use native.Mathlib.Omega.{arith}
+use lib.ListN.{length-take}
 use mathlib.Core.Path.{refl}
 use Rattle.fields.specs.Fields.{lastOf}
 use Rattle.stored.proofs.Branches.{block-refused, block-within, block-entry}
 use Rattle.stored.proofs.check.block_at.Statement.{statement}
 use Rattle.stored.proofs.check.block_at.Tie as tie
+use Rattle.stored.proofs.check.block_at.Reads as reads
+use Rattle.stored.proofs.check.block_at.Lts as lts
+use Rattle.fields.proofs.style_from.Reads as style-from-reads
+use Rattle.rooms.proofs.wide.Reads as wide-reads
+use Rattle.stored.proofs.entry.numbers_at.Reads as numbers-at-reads
+use Rattle.stored.proofs.entry.ruled.Reads as ruled-reads
 
 slice-aggregate-numbers-at : tie.Need-slice-aggregate-numbers-at
 slice-aggregate-numbers-at c = search needs
@@ -19,11 +26,14 @@ enum-known-numbers c = search needs
 enum-known-numbers-2 : tie.Need-enum-known-numbers-2
 enum-known-numbers-2 c = search needs
 
-slice-aggregate-style-of : tie.Need-slice-aggregate-style-of
-slice-aggregate-style-of c = search needs
+array-share-prefix-words : tie.Need-array-share-prefix-words
+array-share-prefix-words c = search needs
 
-style-of-requires : tie.Need-style-of-requires
-style-of-requires c κs = search needs
+slice-aggregate-style-from : tie.Need-slice-aggregate-style-from
+slice-aggregate-style-from c = simp length-take (omega arith)
+
+style-from-requires : tie.Need-style-from-requires
+style-from-requires c κs = simp length-take (omega arith)
 
 array-read-wide : tie.Need-array-read-wide
 array-read-wide c = search needs
@@ -65,13 +75,13 @@ returns c =
 returns-2 : tie.Need-returns-2
 returns-2 c =
     let at-wide = c .before .before in
-    let at-style-of = at-wide .before in
-    let at-numbers2 = at-style-of .before .before .before in
+    let at-style-from = at-wide .before in
+    let at-numbers2 = at-style-from .before .before .before in
     let at-numbers-at = at-numbers2 .before .before .before in
     let start = at-numbers-at .before .before .before in
     block-entry (lastOf (start .args .begun) (start .args .before)) (start .args .s .now) _
     (at-numbers-at .numbers-at .result) refl (at-numbers-at .numbers-at .ensures) (at-numbers2 .numbers2 .given .1)
-    (at-style-of .style-of .ensures) (at-wide .wide .ensures) (c .ruled .ensures)
+    (at-style-from .style-from .ensures) (at-wide .wide .ensures) (c .ruled .ensures)
 
 pub block-at-spec : {M : Type 1} → statement M
 block-at-spec =
@@ -81,8 +91,9 @@ block-at-spec =
     numbers-at-requires
     enum-known-numbers
     enum-known-numbers-2
-    slice-aggregate-style-of
-    style-of-requires
+    array-share-prefix-words
+    slice-aggregate-style-from
+    style-from-requires
     array-read-wide
     wide-requires
     sub-ruled

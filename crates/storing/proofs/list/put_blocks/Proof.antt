@@ -42,8 +42,8 @@ returns c =
     rows-stop (at-loop .loop .inv) (at-loop-test .loop-test .taken) (at-fits2 .fits2 .ensures) (at-if1 .if1 .taken)
     (c .unfit .ensures)
 
-style-at-requires : tie.Need-style-at-requires Inv-loop μ-loop
-style-at-requires c κs = search needs
+at-requires : tie.Need-at-requires Inv-loop μ-loop
+at-requires c κs = search needs
 
 shared-slice-read-wide : tie.Need-shared-slice-read-wide Inv-loop μ-loop
 shared-slice-read-wide c = search needs
@@ -98,8 +98,8 @@ put-block-requires c κs =
     let at-loop = at-loop-test .before in
     let f = row-fit (at-loop .loop .inv) (at-loop-test .loop-test .taken) (at-fits2 .fits2 .ensures) (at-if1 .if1 .left) in
     let w = at-shared-slice-known3 .shared-slice-known3 .given in (
-      simp (length-take, length-drop) (omega (arith, at-wide .wide .ensures, w 12)),
-      omega (arith, f .here, at-loop .loop .inv .place, w 11),
+      simp (length-take, length-drop) (omega (arith, at-wide .wide .ensures, w 15)),
+      omega (arith, f .here, at-loop .loop .inv .place, w 14),
     )
 
 sub-words : tie.Need-sub-words Inv-loop μ-loop
@@ -120,13 +120,13 @@ loop-again : tie.Need-loop-again Inv-loop μ-loop
 loop-again c =
     let at-put-block = c .before .before .before in
     let at-wide = at-put-block .before .before .before in
-    let at-style-at = at-wide .before .before in
-    let at-if1 = at-style-at .before in
+    let at-at = at-wide .before .before in
+    let at-if1 = at-at .before in
     let at-fits2 = at-if1 .before in
     let at-loop-test = at-fits2 .before in
     let at-loop = at-loop-test .before in
     rows-more (at-loop .loop .inv) (at-loop-test .loop-test .taken) (at-fits2 .fits2 .ensures) (at-if1 .if1 .left)
-    (at-style-at .style-at .ensures) (at-wide .wide .ensures) (at-put-block .put-block .ensures)
+    (at-at .at .ensures) (at-wide .wide .ensures) (at-put-block .put-block .ensures)
 
 unfit-requires-2 : tie.Need-unfit-requires-2 Inv-loop μ-loop
 unfit-requires-2 c κs = search needs
@@ -161,7 +161,7 @@ put-blocks-spec =
     unfit-requires
     same-length
     returns
-    style-at-requires
+    at-requires
     shared-slice-read-wide
     wide-requires
     add-end

@@ -5,8 +5,8 @@ use borrow.Author.Needs.{needs}
 use Rattle.storing.proofs.record.fits.Statement.{statement}
 use Rattle.storing.proofs.record.fits.Tie as tie
 
-style-at-requires : tie.Need-style-at-requires
-style-at-requires c κs = search needs
+at-requires : tie.Need-at-requires
+at-requires c κs = search needs
 
 shared-slice-read-wide : tie.Need-shared-slice-read-wide
 shared-slice-read-wide c = search needs
@@ -31,10 +31,10 @@ returns c =
     let at-in-range = c .before .before in
     let at-wide2 = at-in-range .before in
     let at-wide = at-wide2 .before .before in
-    let at-style-at = at-wide .before .before in
-    let start = at-style-at .before .before .before in
+    let at-at = at-wide .before .before in
+    let start = at-at .before .before .before in
     no-says (lastOf (start .args .begun) (start .args .before)) _ _ _
-    (at-style-at .style-at .ensures) (at-wide .wide .ensures) (at-wide2 .wide2 .ensures)
+    (at-at .at .ensures) (at-wide .wide .ensures) (at-wide2 .wide2 .ensures)
     (at-in-range .in-range .ensures) (c .before .follows .ensures) (c .if1 .taken)
 
 sub-if2 : tie.Need-sub-if2
@@ -47,10 +47,10 @@ returns-2 c =
     let at-in-range = at-follows .before in
     let at-wide2 = at-in-range .before in
     let at-wide = at-wide2 .before .before in
-    let at-style-at = at-wide .before .before in
-    let start = at-style-at .before .before .before in
+    let at-at = at-wide .before .before in
+    let start = at-at .before .before .before in
     no-rest (lastOf (start .args .begun) (start .args .before)) _ _ _
-    (at-style-at .style-at .ensures) (at-wide .wide .ensures) (at-wide2 .wide2 .ensures)
+    (at-at .at .ensures) (at-wide .wide .ensures) (at-wide2 .wide2 .ensures)
     (at-in-range .in-range .ensures) (at-follows .follows .ensures) (at-if1 .if1 .left) (c .if2 .taken)
 
 add-end : tie.Need-add-end
@@ -76,10 +76,10 @@ returns-3 c =
     let at-in-range = at-follows .before in
     let at-wide2 = at-in-range .before in
     let at-wide = at-wide2 .before .before in
-    let at-style-at = at-wide .before .before in
-    let start = at-style-at .before .before .before in
+    let at-at = at-wide .before .before in
+    let start = at-at .before .before .before in
     text-decides (lastOf (start .args .begun) (start .args .before)) _ _ _
-    (at-style-at .style-at .ensures) (at-wide .wide .ensures) (at-wide2 .wide2 .ensures)
+    (at-at .at .ensures) (at-wide .wide .ensures) (at-wide2 .wide2 .ensures)
     (at-in-range .in-range .ensures) (at-follows .follows .ensures) (at-if1 .if1 .left) (at-if2 .if2 .left)
     (c .is-utf8 .ensures)
 
@@ -87,7 +87,7 @@ pub fits-spec : {M : Type 1} → statement M
 fits-spec =
     tie.close
     (tie.spec
-    style-at-requires
+    at-requires
     shared-slice-read-wide
     wide-requires
     shared-slice-read-wide-2

@@ -1,0 +1,2 @@
+-- Laws that the crates above cite: Styles, of a style and its words.
+pub mod Styles
