@@ -138,3 +138,69 @@ module _ (s : List ℕ) {rd : Reading} {n : ℕ} (q : n ≡ sliceLength s) where
     length-feed x {k} z =
         let d : take (length s - n) (drop n s) ≡ drop n s = take-all (length s - n) (drop n s) (simp length-drop (omega arith)) in
         rw (e, ← q, ← f, x, z, d)
+
+-- ---- all slices
+
+joined-take : (s : List ℕ) (ts : List (List ℕ)) → joined (takeFeed s ts) ≡ s ++ joined ts
+unfolding joined
+joined-take s [] = refl
+joined-take s (t ∷ ts) = go (isReturn s && startsWithFeed t)
+  where
+    go : (b : Bool) → joined (cond b ((s ++ t) ∷ ts) (s ∷ t ∷ ts)) ≡ s ++ (t ++ joined ts)
+    go true = append-assoc s t (joined ts)
+    go false = refl
+
+joined-feeds : (ss : List (List ℕ)) → joined (withFeeds ss) ≡ joined ss
+unfolding withFeeds joined
+joined-feeds [] = refl
+joined-feeds (s ∷ ss) = joined-take s (withFeeds ss) ∙ ap (λ (l : List ℕ). s ++ l) (joined-feeds ss)
+
+pub joined-slicesBy : (rd : Reading) (s : List ℕ) → joined (slicesBy rd s) ≡ s
+joined-slicesBy Plain s = joined-slices s
+joined-slicesBy Paragraphs s = joined-feeds (slices s) ∙ joined-slices s
+
+-- two lists of slices one after the other, of which the second starts with a byte that is no line feed
+take-append : (s : List ℕ) (ts us : List (List ℕ)) → 0 < length ts → takeFeed s (ts ++ us) ≡ takeFeed s ts ++ us
+take-append s [] us h = absurd (not-suc-le-zero h)
+take-append s (t ∷ ts) us h = go (isReturn s && startsWithFeed t)
+  where
+    go : (b : Bool) → cond b ((s ++ t) ∷ (ts ++ us)) (s ∷ t ∷ (ts ++ us)) ≡ cond b ((s ++ t) ∷ ts) (s ∷ t ∷ ts) ++ us
+    go true = refl
+    go false = refl
+
+feeds-some : (s : List ℕ) (ss : List (List ℕ)) → 0 < length (withFeeds (s ∷ ss))
+unfolding withFeeds
+feeds-some s ss = go (withFeeds ss)
+  where
+    go : (ts : List (List ℕ)) → 0 < length (takeFeed s ts)
+    go [] = omega arith
+    go (t ∷ ts) = pick (isReturn s && startsWithFeed t)
+      where
+        pick : (b : Bool) → 0 < length (cond b ((s ++ t) ∷ ts) (s ∷ t ∷ ts))
+        pick true = omega arith
+        pick false = omega arith
+
+module _ (c : ℕ) (t : List ℕ) (ts : List (List ℕ)) (n : c ≡ 10 → ⊥) where
+  no-feed : (a : List ℕ) → isReturn a && eqb c 10 ≡ false
+  no-feed a = rw (ne-eqb c 10 n) (and-false (isReturn a))
+
+  feeds-append : (xs : List (List ℕ)) → withFeeds (xs ++ ((c ∷ t) ∷ ts)) ≡ withFeeds xs ++ withFeeds ((c ∷ t) ∷ ts)
+  unfolding withFeeds
+  feeds-append [] = refl
+  feeds-append (x ∷ []) = takeFeed-before x c t (withFeeds ts) (no-feed x)
+  feeds-append (x ∷ y ∷ xs) =
+      ap (takeFeed x) (feeds-append (y ∷ xs))
+      ∙ take-append x (withFeeds (y ∷ xs)) (withFeeds ((c ∷ t) ∷ ts)) (feeds-some y xs)
+
+-- "a new slice" starts at c, behind x; c is no line feed that could be taken in
+pub slicesBy-append : (rd : Reading) (c : ℕ) (y x : List ℕ) → (c ≡ 10 → ⊥) → startsSlice (lastByte 32 x) c ≡ true
+    → slicesBy rd (x ++ (c ∷ y)) ≡ slicesBy rd x ++ slicesBy rd (c ∷ y)
+unfolding sliceLength
+slicesBy-append Plain c y x n h = slices-append c y x h
+slicesBy-append Paragraphs c y x n h =
+    let m : ℕ = sliceLength (c ∷ y) in
+    let f : slices (c ∷ y) ≡ take m (c ∷ y) ∷ slices (drop m (c ∷ y)) = slices-first (c ∷ y) (omega arith) in
+    ap withFeeds (slices-append c y x h)
+    ∙ ap (λ (l : List (List ℕ)). withFeeds (slices x ++ l)) f
+    ∙ feeds-append c (drop 1 (take m (c ∷ y))) (slices (drop m (c ∷ y))) n (slices x)
+    ∙ ap (λ (l : List (List ℕ)). withFeeds (slices x) ++ withFeeds l) (sym f)
