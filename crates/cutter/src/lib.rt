@@ -109,7 +109,7 @@ fn refuse(refusal: Refusal, room: &mut [u32]) -> Outcome
 }
 
 // Cuts a source into tokens by the reading. Every word of the room is written once or set to zero once.
-pub fn cut(reading: Reading, source: &[u8], room: &mut [u32]) -> Outcome
+pub fn cut(source: &[u8], reading: Reading, room: &mut [u32]) -> Outcome
     ensures { λ r. ⌜ Cuts reading (now (source .entry)) (now (room .entry)) r (now (room .exit)) ⌝ }
 {
     let names = names::table();

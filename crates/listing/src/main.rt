@@ -7,6 +7,7 @@
 use answers::Outcome;
 use libc::STDIN_FILENO;
 use libc::STDOUT_FILENO;
+use readings::Reading;
 use lines::number;
 use lines::place_item;
 use lines::records;
@@ -107,7 +108,7 @@ fn write_list(letter: &[u8], outcome: Outcome, room: &[u32], page: &mut [u8; PAG
 }
 
 fn print(letter: &[u8], room: &mut [u32], page: &mut [u8; PAGE_BYTES]) {
-    let outcome = cutter::cut(letter, room);
+    let outcome = cutter::cut(letter, Reading::Plain, room);
     write_list(letter, outcome, room, page);
 }
 
