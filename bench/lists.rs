@@ -1,5 +1,6 @@
 //! Stored lists to be timed.
 
+use codec::{STORED_WORDS, STYLE_WORDS};
 use common::random::Random;
 
 const WORDS: [&str; 12] = [
@@ -26,7 +27,7 @@ pub const KINDS: [Kind; 5] = [
 ];
 
 /// Some with numbers of two groups.
-const STYLES: [[u32; 11]; 5] = [
+const STYLES: [[u32; STORED_WORDS]; 5] = [
     [0, 0, 24, 0, 0, 0, 0, 0, 0, 0, 0],
     [0, 0, 24, 1, 0, 0, 0, 0, 0, 0, 0],
     [2, 1, 20, 2, 0, 0, 0, 0, 0, 0, 0],
@@ -44,6 +45,8 @@ impl Kind {
             style = (style + random.between(1, STYLES.len() - 1)) % STYLES.len();
             let words = self.text(&mut random);
             blocks.extend_from_slice(&STYLES[style]);
+            // A list holds no indents.
+            blocks.extend([0; STYLE_WORDS - STORED_WORDS]);
             blocks.extend([text.len() as u32, words.len() as u32]);
             text.extend_from_slice(words.as_bytes());
         }

@@ -27,7 +27,7 @@ rounds. \"times\" is how many times the crate's speed, the median of the rounds'
 - crate: `Lexer::scan` and `Parser::parse`, with all that they allocate and free
 - enough: `elduvarn_read_plain` in rooms of just enough records and bytes for the letter
 - extractor's: the same in rooms of 1,024 tokens, 256 fonts, 256 colours, 128 blocks and 8,192 bytes
-  of text, 51,712 bytes in all; a dash where the letter needs more
+  of text, 53,248 bytes in all; a dash where the letter needs more
 
 Rooms are allocated once and hold the answer of the call before. They are not cleared first: each
 call sets what it leaves unused to zero, and that is part of its time.

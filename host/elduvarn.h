@@ -53,7 +53,8 @@ enum elduvarn_refusal {
     ELDUVARN_STORED_SHORT = 22,      /* the list ends early */
     ELDUVARN_STORED_LONG = 23,       /* the list has bytes left over */
     ELDUVARN_STORED_FIELD = 24,      /* a field or a block breaks a rule */
-    ELDUVARN_OUTPUT_ROOM = 25        /* the list does not fit its room */
+    ELDUVARN_OUTPUT_ROOM = 25,       /* the list does not fit its room */
+    ELDUVARN_INDENT_NOT_ZERO = 26    /* a block has an indent, which a list cannot hold */
 };
 
 /* Where a letter is refused. 3 to 6 and 9 to 16 carry the place of the slice; the others 0, and so
@@ -73,12 +74,12 @@ enum elduvarn_refusal {
  * Block, each word a signed one modulo 2^32: colour, font, size, flags (1 bold, 2 italic,
  * 4 underline, 8 super, 16 sub, 32 small capitals, 64 strike), alignment (0 left, 1 right,
  * 2 centre, 3 justified), before, after, line kind (0 automatic, 1 value), line value, multiplier,
- * tab, text place, text length. */
+ * tab, left, right and first line indent, text place, text length. */
 enum {
     ELDUVARN_TOKEN_WORDS = 8,
     ELDUVARN_FONT_WORDS = 3,
     ELDUVARN_COLOUR_WORDS = 1,
-    ELDUVARN_BLOCK_WORDS = 13
+    ELDUVARN_BLOCK_WORDS = 16
 };
 
 /* No longer source is read, and no more fonts or colours. */
@@ -97,7 +98,7 @@ struct elduvarn_read_answer {
 };
 
 /* Reads a letter: tokens, font and colour table, blocks, and their text in UTF-8. Refusals 1 to 20.
- * A letter of n bytes has at most n tokens, n blocks and n bytes of text. */
+ * A letter of n bytes has at most n tokens, n blocks and n bytes of text. Indents are 0. */
 struct elduvarn_read_answer elduvarn_read_plain(const uint8_t *source, size_t source_len,
                                                 uint32_t *tokens, size_t tokens_len,
                                                 uint32_t *fonts, size_t fonts_len,
@@ -105,7 +106,7 @@ struct elduvarn_read_answer elduvarn_read_plain(const uint8_t *source, size_t so
                                                 uint32_t *blocks, size_t blocks_len,
                                                 uint8_t *text, size_t text_len);
 
-/* The same, but each \par adds a line feed to the text. */
+/* The same, but each \par adds a line feed to the text, and \li, \ri and \fi set indents. */
 struct elduvarn_read_answer elduvarn_read_paragraphs(const uint8_t *source, size_t source_len,
                                                      uint32_t *tokens, size_t tokens_len,
                                                      uint32_t *fonts, size_t fonts_len,
@@ -122,7 +123,7 @@ struct elduvarn_stored_read_answer {
     size_t blocks, text;
 };
 
-/* Reads a stored list into blocks and text. Refusals 19 to 24. */
+/* Reads a stored list into blocks and text. Refusals 19 to 24. Indents are 0. */
 struct elduvarn_stored_read_answer elduvarn_stored_read(const uint8_t *list, size_t list_len,
                                                         uint32_t *blocks, size_t blocks_len,
                                                         uint8_t *text, size_t text_len);
@@ -132,8 +133,8 @@ struct elduvarn_stored_write_answer {
     size_t bytes;
 };
 
-/* Writes the stored list of blocks and their text. Refusals 24 and 25. The blocks are those of a
- * reading, without the zeros behind them: lengths count what is to be stored. */
+/* Writes the stored list of blocks and their text. Refusals 24, 26 and 25, in this order. The blocks
+ * are those of a reading, without the zeros behind them: lengths count what is to be stored. */
 struct elduvarn_stored_write_answer elduvarn_stored_write(const uint32_t *blocks, size_t blocks_len,
                                                           const uint8_t *text, size_t text_len,
                                                           uint8_t *list, size_t list_len);
@@ -156,7 +157,7 @@ static inline const char *elduvarn_refusal_name(uint32_t refusal)
         "TableLineBreak", "FontNumber",      "NumberField", "IgnorableInBody",
         "NoState",        "LineSpacing",     "TooDeep",     "FontRoom",    "ColourRoom",
         "BlockRoom",      "TextRoom",        "StoredNumber", "StoredShort", "StoredLong",
-        "StoredField",    "OutputRoom",
+        "StoredField",    "OutputRoom",      "IndentNotZero",
     };
     return refusal < sizeof names / sizeof *names ? names[refusal] : "no refusal";
 }

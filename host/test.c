@@ -3,8 +3,8 @@
  *   test          makes all calls in the three layouts of lend.h; the last line counts them
  *   test names    lists the refusals by number and name
  *
- * Exit status: 0 all passed, 1 not, 3 no memory. Expected answers are read off document 01 and
- * docs/REFUSALS.md. */
+ * Exit status: 0 all passed, 1 not, 3 no memory. Expected answers are read off document 01, request
+ * A5 and docs/REFUSALS.md. */
 
 #define _DEFAULT_SOURCE
 
@@ -15,6 +15,13 @@
 #include <stdarg.h>
 
 #define COUNT(array) (sizeof(array) / sizeof *(array))
+
+/* Words of a block's record by their places; the next record's are NEXT further on. */
+enum {
+    COLOUR, FONT, SIZE, FLAGS, ALIGNMENT, BEFORE, AFTER, LINE_KIND, LINE_VALUE, MULTIPLIER, TAB,
+    LEFT, RIGHT, FIRST_LINE, PLACE, LENGTH, NEXT
+};
+_Static_assert((int)NEXT == (int)ELDUVARN_BLOCK_WORDS, "each word has a name");
 
 static int passed, failed;
 static const char *const layouts[] = {"before a wall", "behind a wall", "on the heap"};
@@ -313,7 +320,8 @@ static const struct letter letters[] = {
     {"{\\rtf1 a\\b b}", 6, 0, 0, 2, "ab", "ab"},
 };
 
-static const size_t ample[ROOMS] = {100 * ELDUVARN_TOKEN_WORDS, 60, 20, 260, 100};
+static const size_t ample[ROOMS] = {100 * ELDUVARN_TOKEN_WORDS, 20 * ELDUVARN_FONT_WORDS,
+                                    20 * ELDUVARN_COLOUR_WORDS, 20 * ELDUVARN_BLOCK_WORDS, 100};
 static reading *const readings[] = {elduvarn_read_plain, elduvarn_read_paragraphs};
 
 static void refuses(const char *source, size_t size, uint32_t refusal, uint32_t place)
@@ -326,12 +334,69 @@ static void refuses(const char *source, size_t size, uint32_t refusal, uint32_t 
 }
 
 /* What the table of letters does not say: records. */
-static void reads_records(const char *source, int room, const uint32_t *records, size_t words)
+static void reads_records(reading *by, const char *source, int room, const uint32_t *records,
+                          size_t words)
 {
-    struct read read = read_in(elduvarn_read_plain, source, strlen(source), ample);
+    struct read read = read_in(by, source, strlen(source), ample);
     told(read.answer.place == 0 && holds_words(read.words[room], ample[room], records, words),
          read.answer.refusal, 0);
     give_back();
+}
+
+/* A block's left, right and first line indent, and the bytes of its text. */
+struct indented {
+    int32_t indents[3];
+    uint32_t length;
+};
+
+/* Letters of one style but for indents, with their blocks by paragraphs. */
+static const struct {
+    const char *source;
+    struct indented blocks[3];
+    uint32_t count;
+} indented[] = {
+    {"{\\li720\\ri-360\\fi15 a}", {{{720, -360, 15}, 1}}, 1},
+    {"{\\li-2147483648\\ri2147483647\\fi-1 a}", {{{INT32_MIN, INT32_MAX, -1}, 1}}, 1},
+    {"{a\\li5 b\\ri5 c}", {{{0, 0, 0}, 1}, {{5, 0, 0}, 1}, {{5, 5, 0}, 1}}, 3},
+    /* No number is 0. */
+    {"{\\li5\\ri5\\fi5 a\\li\\ri b\\fi c}",
+     {{{5, 5, 5}, 1}, {{0, 0, 5}, 1}, {{0, 0, 0}, 1}}, 3},
+    /* A group gives them back; pard clears all of them, plain none. */
+    {"{\\li5 a{\\fi-5 b}c}", {{{5, 0, 0}, 1}, {{5, 0, -5}, 1}, {{5, 0, 0}, 1}}, 3},
+    {"{{\\li5 a}b}", {{{5, 0, 0}, 1}, {{0, 0, 0}, 1}}, 2},
+    {"{\\li1\\ri2\\fi3 a\\pard b}", {{{1, 2, 3}, 1}, {{0, 0, 0}, 1}}, 2},
+    {"{\\li1\\ri2\\fi3 a{\\pard b}c}", {{{1, 2, 3}, 1}, {{0, 0, 0}, 1}, {{1, 2, 3}, 1}}, 3},
+    {"{\\fi7 a\\plain b}", {{{0, 0, 7}, 2}}, 1},
+    /* The same ones again part nothing. */
+    {"{\\li5 a\\li6\\li5 b{\\li5 c}}", {{{5, 0, 0}, 3}}, 1},
+};
+
+static void reads_indented(reading *by, const char *source, const struct indented *blocks,
+                           uint32_t count)
+{
+    uint32_t records[3 * ELDUVARN_BLOCK_WORDS] = {0}, place = 0;
+    for (uint32_t i = 0; i < count; i++) {
+        uint32_t *record = records + i * ELDUVARN_BLOCK_WORDS;
+        record[SIZE] = 12;
+        memcpy(record + LEFT, blocks[i].indents, sizeof blocks[i].indents);
+        record[PLACE] = place;
+        record[LENGTH] = blocks[i].length;
+        place += blocks[i].length;
+    }
+    reads_records(by, source, BLOCKS, records, (size_t)count * ELDUVARN_BLOCK_WORDS);
+}
+
+/* In plain reading such a letter is one block. */
+static void test_indents(void)
+{
+    for (size_t i = 0; i < COUNT(indented); i++) {
+        struct indented flush = {{0, 0, 0}, 0};
+        for (uint32_t block = 0; block < indented[i].count; block++)
+            flush.length += indented[i].blocks[block].length;
+        reads_indented(elduvarn_read_plain, indented[i].source, &flush, 1);
+        reads_indented(elduvarn_read_paragraphs, indented[i].source, indented[i].blocks,
+                       indented[i].count);
+    }
 }
 
 /* Both sides of 64 states, of 65,536 bytes. */
@@ -369,15 +434,20 @@ static void test_read(void)
 {
     static const uint32_t fonts[] = {0, 0, 0, 1, 14, 5};
     static const uint32_t colours[] = {200 * 65536 + 16 * 256 + 46};
-    static const uint32_t listing[] = {0, 0, 12, 0, 0, 0, 0, 0, 0, 0, 0, 0, 1,
-                                       0, 0, 12, 1, 0, 0, 0, 0, 0, 0, 0, 1, 1};
+    static const uint32_t listing[] = {0, 0, 12, 0, 0, 0, 0, 0, 0, 0, 0, 0, 0, 0, 0, 1,
+                                       0, 0, 12, 1, 0, 0, 0, 0, 0, 0, 0, 0, 0, 0, 1, 1};
     for (size_t i = 0; i < COUNT(letters); i++) {
         reads(elduvarn_read_plain, &letters[i], letters[i].text);
         reads(elduvarn_read_paragraphs, &letters[i], letters[i].by_paragraphs);
     }
-    reads_records("{\\fonttbl{\\f1 Arial;}}", FONTS, fonts, COUNT(fonts));
-    reads_records("{\\colortbl\\red200\\green16\\blue46;}", COLOURS, colours, COUNT(colours));
-    reads_records("{\\rtf1 a\\b b}", BLOCKS, listing, COUNT(listing));
+    for (size_t i = 0; i < COUNT(readings); i++) {
+        reading *by = readings[i];
+        reads_records(by, "{\\fonttbl{\\f1 Arial;}}", FONTS, fonts, COUNT(fonts));
+        reads_records(by, "{\\colortbl\\red200\\green16\\blue46;}", COLOURS, colours,
+                      COUNT(colours));
+        reads_records(by, "{\\rtf1 a\\b b}", BLOCKS, listing, COUNT(listing));
+    }
+    test_indents();
     for (size_t i = 0; i < COUNT(refused); i++)
         refuses(refused[i].source, strlen(refused[i].source), refused[i].refusal, refused[i].place);
     test_limits();
@@ -396,15 +466,16 @@ struct stored {
 
 static const struct stored stored[] = {
     {"no blocks", {0}, 0, "", {0}, 1},
-    {"one block", {0, 0, 12, 0, 0, 0, 0, 0, 0, 0, 0, 0, 1}, 1, "a",
+    {"one block", {0, 0, 12, 0, 0, 0, 0, 0, 0, 0, 0, 0, 0, 0, 0, 1}, 1, "a",
      {1, 0, 0, 12, 0, 0, 0, 0, 0, 0, 0, 0, 1, 'a'}, 14},
     {"the sample listing",
-     {0, 0, 12, 0, 0, 0, 0, 0, 0, 0, 0, 0, 1, 0, 0, 12, 1, 0, 0, 0, 0, 0, 0, 0, 1, 1}, 2, "ab",
+     {0, 0, 12, 0, 0, 0, 0, 0, 0, 0, 0, 0, 0, 0, 0, 1,
+      0, 0, 12, 1, 0, 0, 0, 0, 0, 0, 0, 0, 0, 0, 1, 1}, 2, "ab",
      {2, 0, 0, 12, 0, 0, 0, 0, 0, 0, 0, 0, 1, 'a', 0, 0, 12, 1, 0, 0, 0, 0, 0, 0, 0, 1, 'b'}, 27},
     /* Each field at its end, folded words -1, -2147483648, 2147483647 and 64. */
     {"ends of ranges",
-     {65535, 128, 0, 127, 3, 4294967295u, 2147483648u, 1, 2147483647, 2147483647, 64, 0, 2}, 1,
-     "\xC3\xA9",
+     {65535, 128, 0, 127, 3, 4294967295u, 2147483648u, 1, 2147483647, 2147483647, 64, 0, 0, 0, 0,
+      2}, 1, "\xC3\xA9",
      {1, 255, 255, 3, 128, 1, 0, 127, 3, 1, 255, 255, 255, 255, 15, 1, 255, 255, 255, 255, 7, 254,
       255, 255, 255, 15, 128, 1, 2, 0xC3, 0xA9}, 31},
 };
@@ -516,13 +587,14 @@ static void test_damaged(void)
             bytes += one->bytes - place - 1;
         }
         checks(list, bytes, damaged[i].refusal, damaged[i].name);
-        reads_list(list, bytes, 13, 1, damaged[i].refusal, one, damaged[i].name);
+        reads_list(list, bytes, NEXT, 1, damaged[i].refusal, one, damaged[i].name);
     }
     uint8_t twice[27];
     memcpy(twice, stored[2].list, sizeof twice);
     twice[17] = 0;
     checks(twice, sizeof twice, ELDUVARN_STORED_FIELD, "two blocks of one style");
-    reads_list(twice, sizeof twice, 26, 2, ELDUVARN_STORED_FIELD, one, "two blocks of one style");
+    reads_list(twice, sizeof twice, 2 * NEXT, 2, ELDUVARN_STORED_FIELD, one,
+               "two blocks of one style");
     reads_list(twice, sizeof twice, 0, 0, ELDUVARN_BLOCK_ROOM, one, "two blocks of one style");
 }
 
@@ -532,38 +604,65 @@ static const struct {
     size_t place;
     uint32_t word;
 } wrong[] = {
-    {"a colour of 65,536", 0, 65536},
-    {"a font of -1", 1, 4294967295u},
-    {"a size of 65,536", 15, 65536},
-    {"flags of 128", 3, 128},
-    {"an alignment of 4", 17, 4},
-    {"a line kind of 2", 7, 2},
-    {"an automatic line of 1", 8, 1},
-    {"the style of the block before", 16, 0},
-    {"a text that starts at 1", 11, 1},
-    {"a gap between texts", 24, 2},
-    {"texts that overlap", 24, 0},
-    {"an empty text", 12, 0},
-    {"a text past the end", 25, 2},
-    {"a text past 2^31", 25, 2147483648u},
+    {"a colour of 65,536", COLOUR, 65536},
+    {"a font of -1", FONT, 4294967295u},
+    {"a size of 65,536", NEXT + SIZE, 65536},
+    {"flags of 128", FLAGS, 128},
+    {"an alignment of 4", NEXT + ALIGNMENT, 4},
+    {"a line kind of 2", LINE_KIND, 2},
+    {"an automatic line of 1", LINE_VALUE, 1},
+    {"the style of the block before", NEXT + FLAGS, 0},
+    {"a text that starts at 1", PLACE, 1},
+    {"a gap between texts", NEXT + PLACE, 2},
+    {"texts that overlap", NEXT + PLACE, 0},
+    {"an empty text", LENGTH, 0},
+    {"a text past the end", NEXT + LENGTH, 2},
+    {"a text past 2^31", NEXT + LENGTH, 2147483648u},
 };
 
 static void test_wrong(void)
 {
     const struct stored *two = &stored[2];
-    uint32_t blocks[26];
+    uint32_t blocks[2 * NEXT];
     for (size_t i = 0; i < COUNT(wrong); i++) {
         memcpy(blocks, two->blocks, sizeof blocks);
         blocks[wrong[i].place] = wrong[i].word;
-        writes(blocks, 26, "ab", 2, 27, ELDUVARN_STORED_FIELD, two, wrong[i].name);
-        writes(blocks, 26, "ab", 2, 0, ELDUVARN_STORED_FIELD, two, wrong[i].name);
+        writes(blocks, 2 * NEXT, "ab", 2, 27, ELDUVARN_STORED_FIELD, two, wrong[i].name);
+        writes(blocks, 2 * NEXT, "ab", 2, 0, ELDUVARN_STORED_FIELD, two, wrong[i].name);
+        /* An indent is told only of records that have no other fault. */
+        blocks[LEFT] = blocks[NEXT + LEFT] = 720;
+        writes(blocks, 2 * NEXT, "ab", 2, 27, ELDUVARN_STORED_FIELD, two, wrong[i].name);
     }
-    for (size_t words = 1; words < 26; words++)
+    for (size_t words = 1; words < 2 * NEXT; words++)
         writes(two->blocks, words, "ab", 2, 27, ELDUVARN_STORED_FIELD, two, "other words");
-    writes(two->blocks, 26, "abc", 3, 28, ELDUVARN_STORED_FIELD, two, "text left over");
-    writes(two->blocks, 26, "a", 1, 27, ELDUVARN_STORED_FIELD, two, "text missing");
+    writes(two->blocks, 2 * NEXT, "abc", 3, 28, ELDUVARN_STORED_FIELD, two, "text left over");
+    writes(two->blocks, 2 * NEXT, "a", 1, 27, ELDUVARN_STORED_FIELD, two, "text missing");
     writes(two->blocks, 0, "a", 1, 27, ELDUVARN_STORED_FIELD, two, "text without blocks");
-    writes(two->blocks, 26, "\xC3\xA9", 2, 27, ELDUVARN_STORED_FIELD, two, "a split character");
+    writes(two->blocks, 2 * NEXT, "\xC3\xA9", 2, 27, ELDUVARN_STORED_FIELD, two,
+           "a split character");
+}
+
+/* Each indent of each block, in rooms of every size: 26 comes before 25. It may be all that parts
+ * the two styles. */
+static void test_indent_not_zero(void)
+{
+    static const size_t places[] = {LEFT, RIGHT, FIRST_LINE, NEXT + LEFT, NEXT + RIGHT,
+                                    NEXT + FIRST_LINE};
+    static const uint32_t words[] = {1, 720, 2147483648u, 4294967295u};
+    const struct stored *two = &stored[2];
+    uint32_t blocks[2 * NEXT];
+    for (size_t i = 0; i < COUNT(places) * COUNT(words); i++) {
+        memcpy(blocks, two->blocks, sizeof blocks);
+        blocks[places[i / COUNT(words)]] = words[i % COUNT(words)];
+        for (size_t room = 0; room < two->bytes + 2; room++)
+            writes(blocks, 2 * NEXT, "ab", 2, room, ELDUVARN_INDENT_NOT_ZERO, two, "an indent");
+        blocks[NEXT + FLAGS] = 0;
+        for (size_t room = 0; room < two->bytes + 2; room++)
+            writes(blocks, 2 * NEXT, "ab", 2, room, ELDUVARN_INDENT_NOT_ZERO, two,
+                   "styles that an indent alone parts");
+        writes(blocks, 2 * NEXT - 1, "ab", 2, 27, ELDUVARN_STORED_FIELD, two, "a word missing");
+        writes(blocks, 2 * NEXT, "abc", 3, 28, ELDUVARN_STORED_FIELD, two, "text left over");
+    }
 }
 
 /* A letter is read, stored, checked and read back, each in rooms of just enough. */
@@ -609,13 +708,14 @@ static void test_stored(void)
     checks(stored[0].list, 0, ELDUVARN_STORED_SHORT, "no bytes");
     test_damaged();
     test_wrong();
+    test_indent_not_zero();
     test_round_trip();
 }
 
 /* Which refusals carry a place: 3 to 6 and 9 to 16. */
 static void test_has_place(void)
 {
-    static const char has[] = "...yyyy..yyyyyyyy..........";
+    static const char has[] = "...yyyy..yyyyyyyy...........";
     for (uint32_t refusal = 0; refusal + 1 < sizeof has; refusal++) {
         will("whether %u has a place", (unsigned)refusal);
         told(elduvarn_refusal_has_place(refusal) == (has[refusal] == 'y'), refusal, refusal);
@@ -625,7 +725,7 @@ static void test_has_place(void)
 int main(int count, char **words)
 {
     if (count == 2 && strcmp(words[1], "names") == 0) {
-        for (uint32_t refusal = 1; refusal <= ELDUVARN_OUTPUT_ROOM; refusal++)
+        for (uint32_t refusal = 1; refusal <= ELDUVARN_INDENT_NOT_ZERO; refusal++)
             printf("%u %s\n", (unsigned)refusal, elduvarn_refusal_name(refusal));
         return 0;
     }

@@ -15,10 +15,14 @@ pub struct Alphabet {
 
 /// No fragment is glued to the one behind it: a word ends with its space.
 #[rustfmt::skip]
-pub const ALPHABETS: [Alphabet; 6] = [
+pub const ALPHABETS: [Alphabet; 7] = [
     Alphabet { name: "body", front: "{", back: "}", fragments: &[
         "{", "}", "a", "\\b ", "\\b0 ", "\\plain ", "\\pard ", "\\fs7 ", "\\qc ", "\\uc0 ",
         "\\u8212 ", "\\'97", "\\par ", "\\line ", "\\\n", "\\*", "\\cf-1 ",
+    ]},
+    Alphabet { name: "indents", front: "{", back: "}", fragments: &[
+        "{", "}", "a", "\\li9 ", "\\li0 ", "\\ri9 ", "\\ri ", "\\fi-9 ", "\\fi2147483647 ",
+        "\\li-2147483648 ", "\\pard ", "\\plain ", "\\par ", "\\b ",
     ]},
     Alphabet { name: "header", front: "{", back: "}", fragments: &[
         "{", "}", "\\*", "\\\n", "\\fonttbl ", "\\fonttbl1 ", "\\colortbl ", "\\colortbl0 ",
@@ -116,7 +120,9 @@ pub const TELLING: &[&str] = &[
     "{\\u55296}", "{\\uc-1\\u65 \\u66 }", "{\\uc-2\\u65 }", "{\\u-10179 a}",
     "{\\u-8704 \\u-10179 }", "{\\u-10179 \\u65 \\u-8704 }", "{\\uc0\\u-10179 \\u65 \\u-8704 }",
     "{\\emdash\\tab\\line}", "{a}}{b}", "{a}}b}", "{a}}\\*}", "{a}}\\cf-1}", "{a}}}", "{}}\\\n}",
-    "{a}}{\\b b}c}", "{\\li9\\ri9\\fi9 a\\li0 b}", "{\n\\b\n a\n}", "a{}", "{\\'41{\\'42}\\'43}",
+    "{a}}{\\b b}c}", "{\n\\b\n a\n}", "a{}", "{\\'41{\\'42}\\'43}", "{\\li9\\ri9\\fi9 a\\li0 b}",
+    "{\\li1\\ri-2\\fi3 a\\pard b}", "{\\li-2147483648\\ri2147483647\\fi a}", "{{\\ri7 a}b{\\fi7 c}}",
+    "{\\li5 a\\li\\fi5 b\\plain c}", "{\\fi4 \\u65 \\fi4 \\u66 \\par c}", "{\\li6 a}}{b\\li6 c}d}",
 ];
 
 /// What is refused wherever it is read, by each number from 3 to 5 and from 10 to 15; 6 and 9 are
@@ -195,7 +201,9 @@ pub fn limits(sink: &mut Sink) {
         for skip in [0, 1, 3, 255, 256, 65_535] {
             sink(format!("{{\\uc{skip} \\u8212 {units}a}}").as_bytes());
         }
-        let blocks: String = (0..count).map(|size| format!("\\fs{size} a")).collect();
-        sink(format!("{{{blocks}}}").as_bytes());
+        for word in ["fs", "li"] {
+            let blocks: String = (0..count).map(|size| format!("\\{word}{size} a")).collect();
+            sink(format!("{{{blocks}}}").as_bytes());
+        }
     }
 }

@@ -1,8 +1,9 @@
 // Included once for each build of the crate, behind oracle_tokens.rs.
 
 use crate::whole::{self, Document, Whole};
-use rtf_parser::{Alignment, Painter, Paragraph, Parser, ParserError, RtfDocument};
-use rtf_parser::{Indentation, SpaceBetweenLine};
+use rtf_parser::{
+    Alignment, Painter, Paragraph, Parser, ParserError, RtfDocument, SpaceBetweenLine,
+};
 
 /// The crate's reading; with `paragraphs`, its reading of the tokens with `line` for each `par`,
 /// which is what 01 says that paragraph reading adds.
@@ -70,10 +71,10 @@ fn told(tokens: Vec<cut::Told>, document: &RtfDocument) -> Document {
     let colours = (1..=header.color_table.len()).map(colour).collect();
     let mut told = Document { tokens, fonts, colours, ..Document::default() };
     for block in &document.body {
-        let mut words = [0; 13];
+        let mut words = [0; whole::BLOCK_WORDS];
         words[..4].copy_from_slice(&painter_words(&block.painter));
-        words[4..11].copy_from_slice(&paragraph_words(&block.paragraph));
-        words[11..].copy_from_slice(&[told.text.len() as u32, block.text.len() as u32]);
+        words[4..14].copy_from_slice(&paragraph_words(&block.paragraph));
+        words[14..].copy_from_slice(&[told.text.len() as u32, block.text.len() as u32]);
         told.blocks.push(words);
         told.text.extend_from_slice(block.text.as_bytes());
     }
@@ -94,23 +95,30 @@ fn painter_words(painter: &Painter) -> [u32; 4] {
     [painter.color_ref.into(), painter.font_ref.into(), painter.font_size.into(), flags]
 }
 
-fn paragraph_words(paragraph: &Paragraph) -> [u32; 7] {
-    assert_eq!(paragraph.indent, Indentation::default(), "indents stay zero");
+fn paragraph_words(paragraph: &Paragraph) -> [u32; 10] {
     let alignment = match paragraph.alignment {
         Alignment::LeftAligned => 0,
         Alignment::RightAligned => 1,
         Alignment::Center => 2,
         Alignment::Justify => 3,
     };
-    let spacing = &paragraph.spacing;
+    let Paragraph { spacing, indent, tab_width, .. } = paragraph;
     let (kind, value) = match spacing.between_line {
         SpaceBetweenLine::Auto => (0, 0),
         SpaceBetweenLine::Value(value) => (1, value),
         SpaceBetweenLine::Invalid => panic!("the crate never makes SpaceBetweenLine::Invalid"),
     };
-    let signed =
-        [spacing.before, spacing.after, kind, value, spacing.line_multiplier, paragraph.tab_width];
-    let mut words = [alignment; 7];
-    words[1..].copy_from_slice(&signed.map(|word| word as u32));
-    words
+    let signed = [
+        alignment,
+        spacing.before,
+        spacing.after,
+        kind,
+        value,
+        spacing.line_multiplier,
+        *tab_width,
+        indent.left,
+        indent.right,
+        indent.first_line,
+    ];
+    signed.map(|word| word as u32)
 }

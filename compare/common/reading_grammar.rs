@@ -15,6 +15,9 @@ const SIZE_NUMBERS: [&str; 8] = ["", "0", "1", "2", "12", "24", "255", "65535"];
 const MEASURES: [&str; 5] = ["sb", "sa", "sl", "slmul", "pardeftab"];
 const MEASURE_NUMBERS: [&str; 10] =
     ["", "0", "1", "-1", "240", "-240", "1000", "-1000", "2147483647", "-2147483647"];
+const INDENTS: [&str; 3] = ["li", "ri", "fi"];
+const INDENT_NUMBERS: [&str; 9] =
+    ["", "0", "0", "1", "-1", "720", "-360", "2147483647", "-2147483648"];
 #[rustfmt::skip]
 const BARE: [&str; 18] = [
     "plain", "pard", "ql", "qr", "qc", "qj", "par", "par", "line", "tab", "emdash", "endash",
@@ -102,18 +105,19 @@ impl Draft<'_> {
         if self.faults > 0 && self.random.once_in(self.faults) {
             return self.fault();
         }
-        match self.random.below(24) {
+        match self.random.below(26) {
             0..3 if depth < 40 => self.group(depth),
             0..7 => self.text(12),
             7..10 => self.style(&FLAGS, &FLAG_NUMBERS),
             10 | 11 => self.style(&SIZES, &SIZE_NUMBERS),
             12 | 13 => self.style(&MEASURES, &MEASURE_NUMBERS),
-            14..17 => self.style(&BARE, &["", "", "", "1"]),
-            17..20 => self.units(),
-            20 => self.put("\\\n"),
-            21 => self.hidden(depth),
-            22 if self.random.once_in(4) => self.table(),
-            22 => self.style(&NAMES, &["", "1"]),
+            14 | 15 => self.style(&INDENTS, &INDENT_NUMBERS),
+            16..19 => self.style(&BARE, &["", "", "", "1"]),
+            19..22 => self.units(),
+            22 => self.put("\\\n"),
+            23 => self.hidden(depth),
+            24 if self.random.once_in(4) => self.table(),
+            24 => self.style(&NAMES, &["", "1"]),
             _ => self.any(&ODDITIES),
         }
     }

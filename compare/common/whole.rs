@@ -3,7 +3,10 @@
 
 use crate::cut::Told;
 
-pub type Block = [u32; 13];
+/// Four words of the painter, ten of the paragraph, then place and length of the text. Three of the
+/// paragraph's are indents, which the crate has and never fills.
+pub const BLOCK_WORDS: usize = 16;
+pub type Block = [u32; BLOCK_WORDS];
 
 #[derive(Debug, Clone, PartialEq, Eq)]
 pub enum Whole {

@@ -1,14 +1,15 @@
-//! 01's "Body".
+//! 01's "Body", and A5's indents.
 
 use crate::cut::{number_of, CLOSE, IGNORABLE, LINE_BREAK, OPEN, TEXT, WORD};
-use crate::{units, Block, Kind, Met, Refusal, Rooms, Token, BLOCKS, WIDTHS};
+use crate::{units, Block, Kind, Met, Refusal, Rooms, Token};
+use crate::{BLOCKS, BLOCK_WORDS, LENGTH, PLACE, STYLE_WORDS, WIDTHS};
 
 const DEEPEST: usize = 64;
 /// The longest text room that counts.
 const LONGEST: usize = 2_147_483_647;
 
 /// A block's words before its text, by their places.
-type Style = [i32; 11];
+type Style = [i32; STYLE_WORDS];
 const COLOUR: usize = 0;
 const FONT: usize = 1;
 const SIZE: usize = 2;
@@ -20,6 +21,9 @@ const LINE_KIND: usize = 7;
 const LINE_VALUE: usize = 8;
 const MULTIPLIER: usize = 9;
 const TAB_WIDTH: usize = 10;
+const LEFT: usize = 11;
+const RIGHT: usize = 12;
+const FIRST_LINE: usize = 13;
 
 #[derive(Clone, Copy)]
 struct State {
@@ -27,7 +31,7 @@ struct State {
     skip: i32,
 }
 
-const FRESH: State = State { style: [0, 0, 12, 0, 0, 0, 0, 0, 0, 0, 0], skip: 1 };
+const FRESH: State = State { style: [0, 0, 12, 0, 0, 0, 0, 0, 0, 0, 0, 0, 0, 0], skip: 1 };
 
 pub struct Body {
     pub blocks: Vec<Block>,
@@ -109,7 +113,7 @@ impl Body {
                 self.add(SIGNS[(word - EMDASH) as usize].as_bytes())?
             }
             [_, word, present, number, ..] => {
-                let set = state.word(word, present == 1, number as i32);
+                let set = state.word(kind, word, present == 1, number as i32);
                 set.map_err(|refused| Refusal::at(refused, token))?
             }
         }
@@ -132,7 +136,7 @@ impl Body {
     /// Adds text in the state on top, of which there is one.
     fn add(&mut self, text: &[u8]) -> Result<(), Refusal> {
         let style = self.states[self.states.len() - 1].style.map(|word| word as u32);
-        let joins = self.blocks.last().is_some_and(|block| block[..11] == style);
+        let joins = self.blocks.last().is_some_and(|block| block[..STYLE_WORDS] == style);
         if !joins && self.blocks.len() == self.most_blocks {
             return Err(Refusal::nowhere(19));
         }
@@ -140,14 +144,14 @@ impl Body {
             return Err(Refusal::nowhere(20));
         }
         if !joins {
-            let mut block = [0; 13];
-            block[..11].copy_from_slice(&style);
-            block[11] = self.text.len() as u32;
+            let mut block = [0; BLOCK_WORDS];
+            block[..STYLE_WORDS].copy_from_slice(&style);
+            block[PLACE] = self.text.len() as u32;
             self.blocks.push(block);
         }
         self.text.extend_from_slice(text);
         if let Some(block) = self.blocks.last_mut() {
-            block[12] += text.len() as u32;
+            block[LENGTH] += text.len() as u32;
         }
         Ok(())
     }
@@ -159,7 +163,7 @@ fn is_unit(token: &Token) -> bool {
 
 impl State {
     /// A word that adds no text; its number is 0 if it has none. The refusal is that of the word.
-    fn word(&mut self, word: u32, present: bool, number: i32) -> Result<(), u32> {
+    fn word(&mut self, kind: Kind, word: u32, present: bool, number: i32) -> Result<(), u32> {
         match crate::NAMES.get(word as usize).copied().unwrap_or("") {
             "cf" => self.style[COLOUR] = fitting(number)?,
             "f" => self.style[FONT] = fitting(number)?,
@@ -183,6 +187,10 @@ impl State {
             "sl" => self.line_spacing(number)?,
             "slmul" => self.style[MULTIPLIER] = number,
             "pardeftab" => self.style[TAB_WIDTH] = number,
+            "li" | "ri" | "fi" if kind == Kind::Plain => {}
+            "li" => self.style[LEFT] = number,
+            "ri" => self.style[RIGHT] = number,
+            "fi" => self.style[FIRST_LINE] = number,
             "uc" => self.skip = number,
             _ => {}
         }

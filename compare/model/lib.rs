@@ -1,6 +1,7 @@
-//! A model of both readings, written from document 01, request A4 and the mended rules of
+//! A model of both readings, written from document 01, requests A4 and A5 and the mended rules of
 //! docs/DIFFERENCES.md. It knows neither the crate nor our library, and takes the shortest way that
-//! a rule allows: it judges what the crate has no answer for, as are slices and refusals' places.
+//! a rule allows: it judges what the crate has no answer for, as are slices, refusals' places and
+//! indents.
 //!
 //!   cut      tokens
 //!   header   the walk and the tables
@@ -14,6 +15,8 @@ mod units;
 
 pub use cut::NAMES;
 
+use std::ops::Range;
+
 /// 01's six words, then place and length of the slice that the token was cut from.
 pub const TOKEN_WORDS: usize = 8;
 pub type Token = [u32; TOKEN_WORDS];
@@ -21,7 +24,14 @@ pub type Token = [u32; TOKEN_WORDS];
 const SLICE: usize = 6;
 /// Key, place and length of the name.
 pub type Font = [u32; 3];
-pub type Block = [u32; 13];
+/// 01's eleven words of a style, then the indents left, right and first line.
+pub const STYLE_WORDS: usize = 14;
+pub const INDENTS: Range<usize> = 11..STYLE_WORDS;
+/// Place and length of the text stand behind the style.
+pub const PLACE: usize = STYLE_WORDS;
+pub const LENGTH: usize = STYLE_WORDS + 1;
+pub const BLOCK_WORDS: usize = STYLE_WORDS + 2;
+pub type Block = [u32; BLOCK_WORDS];
 
 #[derive(Debug, Clone, Copy, PartialEq, Eq)]
 pub enum Kind {
@@ -39,7 +49,7 @@ pub const BLOCKS: usize = 3;
 pub const TEXT: usize = 4;
 pub const ROOM_NAMES: [&str; 5] = ["token", "font", "colour", "block", "text"];
 /// Elements of a record: words, and bytes of the text.
-pub const WIDTHS: [usize; 5] = [TOKEN_WORDS, 3, 1, 13, 1];
+pub const WIDTHS: [usize; 5] = [TOKEN_WORDS, 3, 1, BLOCK_WORDS, 1];
 
 /// Elements lent, record or not.
 pub type Rooms = [usize; 5];

@@ -157,6 +157,9 @@ impl Judge {
     fn with_ours(&mut self, letters: &Letters, kind: Kind, bytes: usize) {
         let ample = small::ample(bytes);
         let (answer, _) = model::read(&letters[0], kind, &ample);
+        if kind == Kind::Paragraphs {
+            self.seen.indents(&answer);
+        }
         let tokens = letters
             .each_ref()
             .map(|letter| veil::tokens(letter).map_or(letter.len(), |tokens| tokens.len()));

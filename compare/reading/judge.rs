@@ -105,6 +105,7 @@ impl Judge {
         let (paragraphs, _) = model::read(letter, Kind::Paragraphs, &ample);
         let outside = Outside::of(&plain, &met);
         self.seen.letter(&plain, outside.is_none());
+        self.seen.indents(&paragraphs);
         let answers = [plain, paragraphs];
         if let Err(told) = self.with_crate(letter, &answers, outside) {
             self.differences.found(self.letters, || told);
@@ -130,21 +131,23 @@ impl Judge {
             }
         }
         let text = std::str::from_utf8(letter).expect("a letter for the crate is ASCII");
-        // Without this name the two readings are one.
-        let has_par = text.contains("\\par");
-        for kind in if has_par { &KINDS[..] } else { &KINDS[..1] } {
-            let answer = &answers[*kind as usize];
-            let says = oracle::whole_readings(text, *kind == Kind::Paragraphs);
-            if let Some(outside) = outside {
-                self.outside.asked(outside, letter, answer, &says);
-                return Ok(());
+        let mut says = oracle::whole_readings(text, false);
+        if let Some(outside) = outside {
+            self.outside.asked(outside, letter, &answers[Kind::Plain as usize], &says);
+            return Ok(());
+        }
+        for kind in KINDS {
+            // Without this name the crate's two readings are one.
+            if kind == Kind::Paragraphs && text.contains("\\par") {
+                says = oracle::whole_readings(text, true);
             }
+            let answer = &answers[kind as usize];
             let same = |reading: &Reading<_>| match reading {
-                Reading::Answered(whole) => agrees(letter, answer, whole),
+                Reading::Answered(whole) => agrees(letter, kind, answer, whole),
                 Reading::Panicked(_) => false,
             };
             if !says.iter().all(same) {
-                return Err(report::model_against_crate(letter, *kind, answer, &says));
+                return Err(report::model_against_crate(letter, kind, answer, &says));
             }
         }
         Ok(())

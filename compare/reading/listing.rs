@@ -1,4 +1,4 @@
-//! The extractor's listing, as 01's "Sample letters" and request A4 give its form.
+//! The extractor's listing, as 01's "Sample letters" and requests A4 and A5 give its form.
 
 use common::whole::{Block, Document, Whole};
 use model::{Answer, Font, Refusal, Rooms, WIDTHS};

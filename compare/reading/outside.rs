@@ -5,7 +5,7 @@ use crate::report;
 use common::cut::are_told;
 use common::oracle::{self, Reading};
 use common::whole::Whole;
-use model::{Answer, Met};
+use model::{Answer, Block, Kind, Met, INDENTS, LENGTH, STYLE_WORDS};
 use std::collections::BTreeMap;
 
 #[derive(Debug, Clone, Copy, PartialEq, Eq, PartialOrd, Ord)]
@@ -91,7 +91,7 @@ impl Tallies {
     ) {
         let did = says.each_ref().map(|reading| match reading {
             Reading::Panicked(_) => Did::Panicked,
-            Reading::Answered(whole) if agrees(letter, answer, whole) => Did::Same,
+            Reading::Answered(whole) if agrees(letter, Kind::Plain, answer, whole) => Did::Same,
             Reading::Answered(_) => Did::Other,
         });
         let tally = self.0.entry(outside).or_default();
@@ -120,8 +120,8 @@ impl Tallies {
     }
 }
 
-/// Whether the model's answer is the crate's, as far as the crate tells it.
-pub fn agrees(letter: &[u8], answer: &Answer, whole: &Whole) -> bool {
+/// Whether the model's answer is the crate's, as far as the crate tells it: no indents but zeros.
+pub fn agrees(letter: &[u8], kind: Kind, answer: &Answer, whole: &Whole) -> bool {
     match whole {
         Whole::Refused(number) => answer.refusal.number == *number,
         Whole::Read(document) => {
@@ -131,8 +131,27 @@ pub fn agrees(letter: &[u8], answer: &Answer, whole: &Whole) -> bool {
                 && are_told(&document.tokens, &answer.tokens)
                 && fonts.eq(told)
                 && answer.colours == document.colours
-                && answer.blocks == document.blocks
+                && match kind {
+                    Kind::Plain => answer.blocks == document.blocks,
+                    Kind::Paragraphs => flush(&answer.blocks) == document.blocks,
+                }
                 && answer.text == document.text
         }
     }
+}
+
+/// Blocks without their indents; those that have one style then are one.
+fn flush(blocks: &[Block]) -> Vec<Block> {
+    let mut flush: Vec<Block> = Vec::new();
+    for block in blocks {
+        let mut block = *block;
+        block[INDENTS].fill(0);
+        match flush.last_mut() {
+            Some(last) if last[..STYLE_WORDS] == block[..STYLE_WORDS] => {
+                last[LENGTH] += block[LENGTH]
+            }
+            _ => flush.push(block),
+        }
+    }
+    flush
 }

@@ -19,11 +19,12 @@ const MARKS: [&str; 8] = [
 ];
 /// What would tell if it were read.
 #[rustfmt::skip]
-const SECRETS: [&str; 58] = [
+const SECRETS: [&str; 61] = [
     "\\{", "\\}", "\\\\ ", "\\\\a", "\\\\{", "\\\\}", "\\\\\\}x", "\\{\\{", "\\'7d", "\\'7B",
     "\\'5c", "\\'+f", "\\u125 ", "\\u8212 ", "\\u-10179 ", "\\u-8704 ", "\\u8212 \\'97",
     "\\u70000 ", "\\u ", "\\uc ", "\\uc0 ", "\\uc2 ", "\\uc-1 \\u65 ", "\\uc2147483647 \\u65 ",
     "\\par ", "\\par", "\\line ", "\\tab ", "\\b ", "\\plain ", "\\pard ", "\\qc ", "\\fs7 ",
+    "\\li7 ", "\\ri-7 ", "\\fi-2147483648 ",
     "\\f1 ", "\\f70000 ", "\\cf-1 ", "\\sl-2147483648 ", "\\*", "\\fonttbl ", "\\colortbl ",
     "\\stylesheet ", "{\\fonttbl{\\f5 X;}}", "{\\*{\\fonttbl{\\f0 X;}}}", "{\\fonttbl\\f}",
     "{\\\n\\fonttbl{\\f1 X;}}", "{\\colortbl;\\red256\\blue9;}", "{\\colortbl\\blue7;}",

@@ -96,7 +96,9 @@ fn outer_limits(sink: &mut letters::Sink) {
         }
     }
     for size in [SOURCE_LIMIT - 1, SOURCE_LIMIT, SOURCE_LIMIT + 1, 2 * SOURCE_LIMIT] {
-        for unit in ["a", "\\b a\\b0 a", "{a}", "\\u8212 \\'41", "{\\*a}", "\u{e9}"] {
+        for unit in
+            ["a", "\\b a\\b0 a", "\\li1 a\\li a", "{a}", "\\u8212 \\'41", "{\\*a}", "\u{e9}"]
+        {
             sink(&letters::repeated(unit.as_bytes(), size));
         }
         sink(&vec![b' '; size]);

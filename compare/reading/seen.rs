@@ -1,7 +1,7 @@
 //! What the letters have covered, so that a run that tested little shows.
 
 use common::cut::WORD;
-use model::{Answer, Kind, Refusal};
+use model::{Answer, Block, Kind, Refusal, INDENTS};
 
 const REFUSALS: usize = 21;
 
@@ -14,6 +14,8 @@ pub struct Seen {
     placed: [u64; REFUSALS],
     /// Calls in rooms that may not hold the answer, plain and by paragraphs.
     small: [[u64; REFUSALS]; 2],
+    /// Letters that have an indent by paragraphs, and two blocks that indents alone part.
+    indented: [u64; 2],
     words: [u64; 50],
     most: [usize; 5],
 }
@@ -25,6 +27,7 @@ impl Seen {
             by_model: [0; REFUSALS],
             placed: [0; REFUSALS],
             small: [[0; REFUSALS]; 2],
+            indented: [0; 2],
             words: [0; 50],
             most: [0; 5],
         }
@@ -41,6 +44,15 @@ impl Seen {
         for token in answer.tokens.iter().filter(|token| token[0] == WORD) {
             self.words[token[1] as usize] += 1;
         }
+    }
+
+    /// Of paragraph reading, since plain reading has none.
+    pub fn indents(&mut self, answer: &Answer) {
+        let indented = |block: &Block| block[INDENTS].iter().any(|word| *word != 0);
+        // No two neighbours have one style.
+        let same_rest = |two: &[Block]| two[0][..INDENTS.start] == two[1][..INDENTS.start];
+        self.indented[0] += u64::from(answer.blocks.iter().any(indented));
+        self.indented[1] += u64::from(answer.blocks.windows(2).any(same_rest));
     }
 
     pub fn small_rooms(&mut self, kind: Kind, answer: &Answer) {
@@ -72,6 +84,11 @@ impl Seen {
         println!(
             "at most in a letter: {tokens} tokens, {fonts} fonts, {colours} colours, \
              {blocks} blocks, {text} text bytes"
+        );
+        let [indented, parted] = self.indented;
+        println!(
+            "by paragraphs: {indented} letters with an indent, {parted} with blocks that indents \
+             alone part"
         );
         let met = self.words.iter().filter(|count| **count > 0).count();
         println!("words: {met} of {} met in letters that were read", self.words.len());

@@ -1,7 +1,7 @@
 //! Sizes of rooms.
 
 use common::random::Random;
-use model::{Answer, Rooms, BLOCKS, TEXT, TOKENS, TOKEN_WORDS, WIDTHS};
+use model::{Answer, Rooms, BLOCKS, BLOCK_WORDS, TEXT, TOKENS, TOKEN_WORDS, WIDTHS};
 
 /// Rooms that hold everything, whatever the answer is: no byte gives more than one token, font,
 /// colour or byte of text, and no three bytes more than one block.
@@ -9,7 +9,8 @@ pub fn ample(bytes: usize) -> Rooms {
     // More than the 256 that count.
     let fonts = bytes.min(260);
     let tokens = (bytes + 2) * TOKEN_WORDS - 1;
-    [tokens, fonts * 3 + 2, fonts + 1, (bytes / 3 + 2) * 13 + 5, bytes + 3]
+    let blocks = (bytes / 3 + 2) * BLOCK_WORDS + 5;
+    [tokens, fonts * 3 + 2, fonts + 1, blocks, bytes + 3]
 }
 
 /// Rooms that hold the answer, often with little to spare for tokens, blocks and text. A table that

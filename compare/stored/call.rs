@@ -6,7 +6,7 @@ use common::bridge::WROTE_OUTSIDE;
 use common::room::{Room, Source};
 use std::fmt::Display;
 
-/// Blocks of 13 words and their text, good or bad.
+/// Blocks of `BLOCK_WORDS` and their text, good or bad.
 #[derive(Debug, Clone, Default, PartialEq, Eq)]
 pub struct Records {
     pub blocks: Vec<u32>,

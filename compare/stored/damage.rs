@@ -2,7 +2,7 @@
 
 use crate::call::Records;
 use crate::lists::{ALPHABET, WORDS};
-use codec::BLOCK_WORDS;
+use codec::{BLOCK_WORDS, LENGTH, PLACE, STORED_WORDS, STYLE_WORDS};
 use common::random::Random;
 use std::ops::Range;
 
@@ -23,6 +23,7 @@ pub fn records(random: &mut Random, good: &Records) -> Records {
             0 => change_bytes(random, &mut records.text),
             1 => move_border(random, &mut records.blocks),
             2 => copy_style(random, &mut records.blocks),
+            3 => indent(random, &mut records.blocks),
             _ => change_words(random, &mut records.blocks),
         }
     }
@@ -104,9 +105,10 @@ fn move_border(random: &mut Random, words: &mut [u32]) {
     let blocks = words.len() / BLOCK_WORDS;
     if blocks >= 2 {
         let next = random.between(1, blocks - 1) * BLOCK_WORDS;
-        words[next - 1] = words[next - 1].wrapping_sub(1);
-        words[next + 11] = words[next + 11].wrapping_sub(1);
-        words[next + 12] = words[next + 12].wrapping_add(1);
+        let before = next - BLOCK_WORDS;
+        words[before + LENGTH] = words[before + LENGTH].wrapping_sub(1);
+        words[next + PLACE] = words[next + PLACE].wrapping_sub(1);
+        words[next + LENGTH] = words[next + LENGTH].wrapping_add(1);
     }
 }
 
@@ -115,7 +117,17 @@ fn copy_style(random: &mut Random, words: &mut [u32]) {
     let blocks = words.len() / BLOCK_WORDS;
     if blocks >= 2 {
         let next = random.between(1, blocks - 1) * BLOCK_WORDS;
-        words.copy_within(next - BLOCK_WORDS..next - 2, next);
+        let before = next - BLOCK_WORDS;
+        words.copy_within(before..before + STYLE_WORDS, next);
+    }
+}
+
+/// A block gets an indent.
+fn indent(random: &mut Random, words: &mut [u32]) {
+    let blocks = words.len() / BLOCK_WORDS;
+    if blocks >= 1 {
+        let record = random.below(blocks) * BLOCK_WORDS;
+        words[record + random.between(STORED_WORDS, STYLE_WORDS - 1)] = *random.pick(&WORDS);
     }
 }
 

@@ -1,6 +1,8 @@
-//! Records at random that a list may hold, with values at the edges of fields, folds and groups.
+//! Records at random that a list may hold, or might but for indents, with values at the edges of
+//! fields, folds and groups.
 
 use crate::call::Records;
+use codec::{STORED_WORDS, STYLE_WORDS};
 use common::random::Random;
 
 /// Around the ends of the ranges and of the groups, for numbers that stand as they are.
@@ -55,9 +57,24 @@ const CHARACTERS: [char; 10] = [
     '\u{10000}',
 ];
 
-type Style = [u32; 11];
+type Style = [u32; STYLE_WORDS];
 
 pub fn records(random: &mut Random) -> Records {
+    with_words(random, STORED_WORDS)
+}
+
+/// Records that have an indent, and no other fault.
+pub fn indented(random: &mut Random) -> Records {
+    loop {
+        let records = with_words(random, STYLE_WORDS);
+        if records.has_indent() {
+            return records;
+        }
+    }
+}
+
+/// Records in whose styles so many words are drawn, and the others are zero.
+fn with_words(random: &mut Random, words: usize) -> Records {
     let count = match random.below(40) {
         0 => 0,
         1..24 => random.between(1, 4),
@@ -66,9 +83,9 @@ pub fn records(random: &mut Random) -> Records {
         _ => random.between(120, 300),
     };
     let mut records = Records::default();
-    let mut before = [u32::MAX; 11];
+    let mut before = [u32::MAX; STYLE_WORDS];
     for _ in 0..count {
-        let style = style_after(random, &before);
+        let style = style_after(random, &before, words);
         records.push(&style, text(random, count).as_bytes());
         before = style;
     }
@@ -76,14 +93,14 @@ pub fn records(random: &mut Random) -> Records {
 }
 
 /// Often the style before it but for one word.
-fn style_after(random: &mut Random, before: &Style) -> Style {
+fn style_after(random: &mut Random, before: &Style, words: usize) -> Style {
     let mut style = *before;
     while style == *before {
         if before[0] == u32::MAX || random.once_in(3) {
-            style = [0; 11];
-            (0..11).for_each(|place| set(random, &mut style, place));
+            style = [0; STYLE_WORDS];
+            (0..words).for_each(|place| set(random, &mut style, place));
         } else {
-            let place = random.below(11);
+            let place = random.below(words);
             set(random, &mut style, place);
         }
     }

@@ -144,6 +144,18 @@ impl Judge {
         }
     }
 
+    /// The same for records whose refusal is known, whatever the room.
+    pub fn refused_records(&mut self, records: &Records, refusal: u32) {
+        self.records(records);
+        for room in [0, rooms::most(records)] {
+            let asked = Asked::Write(records.clone(), room);
+            let told = asked.expected(0).numbers[0];
+            if told != u64::from(refusal) {
+                self.differ(self.tried, || report::not_known(&asked, refusal, told));
+            }
+        }
+    }
+
     /// Makes the calls that wait.
     pub fn finish(&mut self) {
         ours::send(&self.waiting);
@@ -189,8 +201,7 @@ impl Judge {
     /// The bytes that records need room for: a guess, if they are refused.
     fn written(&mut self, records: &Records) -> usize {
         self.tried += 1;
-        let most = 5 + records.blocks.len() * 5 + records.text.len();
-        let room = most + self.random.below(4);
+        let room = rooms::most(records) + self.random.below(4);
         let ample = Asked::Write(records.clone(), room).expected(0);
         if ample.numbers[0] != 0 {
             self.call(Column::Write, Asked::Write(records.clone(), room));

@@ -1,8 +1,8 @@
-//! Listed lists, and how a list is put together: once more from 01, so that what is made here need
-//! not be taken on the codec's word.
+//! Listed lists and records, and how a list is put together: once more from 01, so that what is made
+//! here need not be taken on the codec's word.
 
 use crate::call::{Asked, Records};
-use codec::BLOCK_WORDS;
+use codec::{BLOCK_WORDS, LENGTH, PLACE, STORED_WORDS, STYLE_WORDS};
 
 pub type Sink<'a> = dyn FnMut(&[u8]) + 'a;
 
@@ -75,6 +75,10 @@ pub const WORDS: [u32; 18] = [
     4_294_967_295,
 ];
 
+type Style = [i32; STYLE_WORDS];
+const FRESH: Style = [0, 0, 12, 0, 0, 0, 0, 0, 0, 0, 0, 0, 0, 0];
+const BOLD: Style = [0, 0, 12, 1, 0, 0, 0, 0, 0, 0, 0, 0, 0, 0];
+
 /// The list of one block `a`.
 const ONE: [u8; 14] = [1, 0, 0, 12, 0, 0, 0, 0, 0, 0, 0, 0, 1, b'a'];
 
@@ -126,18 +130,18 @@ pub fn known_in_rooms() -> Vec<(Asked, u32)> {
     let second_damaged = [with(0, &[2]), vec![128, 0]].concat();
     let one = || telling().swap_remove(1);
     let mut empty = one();
-    empty.blocks[12] = 0;
+    empty.blocks[LENGTH] = 0;
     vec![
-        read(ONE.to_vec(), [13, 1], 0),
-        read(ONE.to_vec(), [12, 1], 19),
+        read(ONE.to_vec(), [BLOCK_WORDS, 1], 0),
+        read(ONE.to_vec(), [BLOCK_WORDS - 1, 1], 19),
         read(ONE.to_vec(), [0, 0], 19),
-        read(ONE.to_vec(), [13, 0], 20),
+        read(ONE.to_vec(), [BLOCK_WORDS, 0], 20),
         read(with(12, &[2]), [0, 0], 22),
         read(with(13, &[255]), [0, 0], 24),
         read(with(14, &[0]), [0, 0], 19),
-        read(with(14, &[0]), [13, 0], 20),
+        read(with(14, &[0]), [BLOCK_WORDS, 0], 20),
         read(second_damaged.clone(), [0, 0], 19),
-        read(second_damaged, [13, 1], 21),
+        read(second_damaged, [BLOCK_WORDS, 1], 21),
         (Asked::Write(one(), 14), 0),
         (Asked::Write(one(), 13), 25),
         (Asked::Write(empty, 0), 24),
@@ -177,9 +181,8 @@ pub fn texts(depth: usize, sink: &mut Sink) {
     every_string(&mut Vec::new(), &UTF8, depth.min(4), &mut |text| {
         for (front, back) in [("", ""), ("a", ""), ("", "a")] {
             let text = [front.as_bytes(), text, back.as_bytes()].concat();
-            let style = [0, 0, 12, 0, 0, 0, 0, 0, 0, 0, 0];
             let mut records = Records::default();
-            records.push(&style, &text);
+            records.push(&FRESH.map(|word| word as u32), &text);
             sink(&records.list());
         }
     });
@@ -217,14 +220,14 @@ pub fn every_byte_everywhere(sink: &mut Sink) {
 
 /// Records that list each field at both its ends, and texts of characters of each length.
 pub fn telling() -> Vec<Records> {
-    let least = [0, 0, 0, 0, 0, i32::MIN, i32::MIN, 1, 0, i32::MIN, i32::MIN];
-    let most =
-        [65_535, 65_535, 65_535, 127, 3, i32::MAX, i32::MAX, 1, i32::MAX, i32::MAX, i32::MAX];
-    let fresh = [0, 0, 12, 0, 0, 0, 0, 0, 0, 0, 0];
-    let bold = [0, 0, 12, 1, 0, 0, 0, 0, 0, 0, 0];
-    let minus = [300, 2, 24, 64, 2, -1, -64, 1, 240, -65, -8_193];
+    const MIN: i32 = i32::MIN;
+    const MAX: i32 = i32::MAX;
+    let least = [0, 0, 0, 0, 0, MIN, MIN, 1, 0, MIN, MIN, 0, 0, 0];
+    let most = [65_535, 65_535, 65_535, 127, 3, MAX, MAX, 1, MAX, MAX, MAX, 0, 0, 0];
+    let minus = [300, 2, 24, 64, 2, -1, -64, 1, 240, -65, -8_193, 0, 0, 0];
+    let (fresh, bold) = (FRESH, BOLD);
     let long = "The quick brown fox jumps over the lazy dog, and does so again. ".repeat(3);
-    let all: [&[([i32; 11], &str)]; 7] = [
+    let all: [&[(Style, &str)]; 7] = [
         &[],
         &[(fresh, "a")],
         &[(fresh, "a"), (bold, "b"), (fresh, "c")],
@@ -233,22 +236,61 @@ pub fn telling() -> Vec<Records> {
         &[(most, "z"), (fresh, "\u{E9}a\u{2014}a\u{1F600}a")],
         &[(fresh, &long), (bold, &long[..128])],
     ];
-    all.iter()
-        .map(|blocks| {
-            let mut records = Records::default();
-            for (style, text) in *blocks {
-                records.push(&style.map(|word| word as u32), text.as_bytes());
-            }
-            records
-        })
-        .collect()
+    all.map(Records::of).into()
+}
+
+/// Records with indents, and the refusals that A5 gives them, in whatever room.
+pub fn indented() -> Vec<(Records, u32)> {
+    let [left, right, first] = [[7, 0, 0], [0, -1, 0], [0, 0, i32::MIN]].map(|indents| {
+        let mut style = FRESH;
+        style[STORED_WORDS..].copy_from_slice(&indents);
+        style
+    });
+    let mut faulty = BOLD;
+    faulty[0] = 65_536;
+    let all: [(&[(Style, &str)], u32); 12] = [
+        (&[(left, "a")], 26),
+        (&[(right, "a")], 26),
+        (&[(first, "a")], 26),
+        (&[(FRESH, "a"), (BOLD, "b"), (right, "c")], 26),
+        // Neighbours that differ in an indent alone have two styles.
+        (&[(FRESH, "a"), (left, "b"), (FRESH, "c")], 26),
+        (&[(left, "a"), (right, "b"), (first, "c")], 26),
+        (&[(left, "a"), (left, "b")], 24),
+        // A fault behind the indent, or in front of it.
+        (&[(left, "a"), (faulty, "b")], 24),
+        (&[(left, "a"), (BOLD, "")], 24),
+        (&[(left, "a"), (FRESH, "b"), (FRESH, "c")], 24),
+        (&[(FRESH, "a"), (FRESH, "b"), (left, "c")], 24),
+        (&[(faulty, "a"), (first, "b")], 24),
+    ];
+    let mut all = all.map(|(blocks, refusal)| (Records::of(blocks), refusal)).to_vec();
+    // Words that are no whole block, and text behind the last one.
+    let [mut longer, mut left_over] = [(); 2].map(|()| Records::of(&[(left, "a")]));
+    longer.blocks.push(0);
+    left_over.text.push(b'b');
+    all.extend([longer, left_over].map(|records| (records, 24)));
+    all
 }
 
 impl Records {
-    pub fn push(&mut self, style: &[u32; 11], text: &[u8]) {
+    fn of(blocks: &[(Style, &str)]) -> Self {
+        let mut records = Records::default();
+        for (style, text) in blocks {
+            records.push(&style.map(|word| word as u32), text.as_bytes());
+        }
+        records
+    }
+
+    pub fn push(&mut self, style: &[u32; STYLE_WORDS], text: &[u8]) {
         self.blocks.extend_from_slice(style);
         self.blocks.extend([self.text.len() as u32, text.len() as u32]);
         self.text.extend_from_slice(text);
+    }
+
+    pub fn has_indent(&self) -> bool {
+        let mut records = self.blocks.chunks_exact(BLOCK_WORDS);
+        records.any(|record| record[STORED_WORDS..STYLE_WORDS].iter().any(|word| *word != 0))
     }
 
     /// The list, for good records.
@@ -261,14 +303,15 @@ impl Records {
         let records = self.blocks.chunks_exact(BLOCK_WORDS);
         let mut pieces = vec![number(records.len() as u64)];
         for record in records {
-            for (place, word) in record[..11].iter().enumerate() {
+            for (place, word) in record[..STORED_WORDS].iter().enumerate() {
                 let signed = i64::from(*word as i32);
                 let folded = if signed < 0 { -2 * signed - 1 } else { 2 * signed };
                 let is_folded = matches!(place, 5 | 6 | 9 | 10);
                 pieces.push(number(if is_folded { folded as u64 } else { u64::from(*word) }));
             }
-            pieces.push(number(u64::from(record[12])));
-            pieces.push(self.text[record[11] as usize..][..record[12] as usize].to_vec());
+            let [place, length] = [record[PLACE], record[LENGTH]];
+            pieces.push(number(u64::from(length)));
+            pieces.push(self.text[place as usize..][..length as usize].to_vec());
         }
         pieces
     }

@@ -3,7 +3,7 @@
 use crate::call::Records;
 use crate::judge::Judge;
 use crate::{damage, drawn, lists, ours};
-use codec::{BLOCK_WORDS, MOST_TEXT};
+use codec::{Refusal, BLOCK_WORDS, LENGTH, MOST_TEXT, PLACE, STORED_WORDS};
 use common::program::Plan;
 use common::random::Random;
 use std::time::Instant;
@@ -32,10 +32,16 @@ fn listed(judge: &mut Judge, depth: usize) {
             judge.known_in_rooms(asked, *refusal);
         }
         lists::telling().iter().for_each(|records| judge.good_records(records));
+        for (records, refusal) in &lists::indented() {
+            judge.refused_records(records, *refusal);
+        }
     });
     part(judge, "rooms of every size", |judge| {
         for records in lists::telling() {
             judge.list_in_every_size(&records.list());
+            judge.records_in_every_size(&records);
+        }
+        for (records, _) in lists::indented() {
             judge.records_in_every_size(&records);
         }
     });
@@ -54,7 +60,8 @@ fn listed(judge: &mut Judge, depth: usize) {
 
 /// Each word of the telling records made each of `WORDS`, and the words ended before it.
 fn every_word(judge: &mut Judge) {
-    for good in lists::telling() {
+    let indented = lists::indented().into_iter().map(|(records, _)| records);
+    for good in lists::telling().into_iter().chain(indented) {
         for place in 0..good.blocks.len() {
             let mut records = good.clone();
             for word in lists::WORDS {
@@ -76,6 +83,13 @@ fn at_random(judge: &mut Judge, seed: u64, count: usize) {
         let mut random = random(0x04EC_04D5);
         (0..count / 2).for_each(|_| judge.good_records(&drawn::records(&mut random)));
     });
+    part(judge, "records with indents", |judge| {
+        let mut random = random(0x1_4DE47);
+        for _ in 0..count / 4 {
+            let records = drawn::indented(&mut random);
+            judge.refused_records(&records, Refusal::IndentNotZero.number());
+        }
+    });
     part(judge, "lists at random", |judge| {
         let mut random = random(0x11_5753);
         (0..count / 2).for_each(|_| judge.list(&drawn::records(&mut random).list()));
@@ -95,7 +109,8 @@ fn at_random(judge: &mut Judge, seed: u64, count: usize) {
         let mut whole = Records::default();
         for turn in 0..count {
             if turn % 8 == 0 {
-                whole = drawn::records(&mut random);
+                let drawn = if turn % 32 == 0 { drawn::indented } else { drawn::records };
+                whole = drawn(&mut random);
             }
             judge.records(&damage::records(&mut random, &whole));
         }
@@ -129,7 +144,7 @@ fn beyond_most_text(judge: &mut Judge) {
 /// A list of two blocks, the first one byte short of the most text; some bytes behind them.
 fn list_of_zeros(last: u32, behind: usize) -> Vec<u8> {
     let first = MOST_TEXT as u32 - 1;
-    let mut style = vec![0; BLOCK_WORDS - 2];
+    let mut style = vec![0; STORED_WORDS];
     let head = [vec![2], style.clone(), lists::number(u64::from(first))].concat();
     style[0] = 1;
     let next = [style, lists::number(u64::from(last))].concat();
@@ -146,7 +161,7 @@ fn records_of(lengths: &[u32]) -> Vec<u32> {
     let mut blocks = Vec::new();
     for (colour, length) in (0..).zip(lengths) {
         let mut record = [0; BLOCK_WORDS];
-        [record[0], record[BLOCK_WORDS - 2], record[BLOCK_WORDS - 1]] = [colour, place, *length];
+        [record[0], record[PLACE], record[LENGTH]] = [colour, place, *length];
         blocks.extend(record);
         place += length;
     }

@@ -31,9 +31,9 @@ pub fn huge_text(bytes: usize, known: u64, codec: u64, ours: u64) -> String {
     format!("DIFFERENCE, writing of {bytes} bytes: {name} {ours}, codec {codec}, should be {known}")
 }
 
-/// The codec's answer is not the one that 01 gives.
+/// The codec's answer is not the one that 01 or A5 gives.
 pub fn not_known(call: &Asked, known: u32, told: u64) -> String {
-    format!("DIFFERENCE, codec against 01, {}: {told}, should be {known}", asked(call))
+    format!("DIFFERENCE, codec against 01 or A5, {}: {told}, should be {known}", asked(call))
 }
 
 /// The codec does not write good records as the list that was put together from them.

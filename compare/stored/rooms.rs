@@ -1,11 +1,17 @@
 //! Sizes of rooms: words of blocks, bytes of text or of a list.
 
-use codec::BLOCK_WORDS;
+use crate::call::Records;
+use codec::{BLOCK_WORDS, STORED_WORDS};
 use common::random::Random;
 
-/// Rooms that hold whatever a list has: a block has at least twelve numbers and a byte of text.
+/// Rooms that hold whatever a list has: a block has at least its style, a length and a byte of text.
 pub fn ample(list: &[u8]) -> [usize; 2] {
-    [(list.len() / 13 + 1) * BLOCK_WORDS + 5, list.len() + 3]
+    [(list.len() / (STORED_WORDS + 2) + 1) * BLOCK_WORDS + 5, list.len() + 3]
+}
+
+/// A room that holds the list of such records: no number has more than five groups.
+pub fn most(records: &Records) -> usize {
+    5 + 5 * records.blocks.len() + records.text.len()
 }
 
 /// Rooms that hold so many blocks and bytes, often with nothing or little to spare.

@@ -1,7 +1,7 @@
 //! What has been covered, so that a run that tested little shows.
 
 /// The answers that there are: success, and the refusals of the stored form.
-const ANSWERS: [u64; 8] = [0, 19, 20, 21, 22, 23, 24, 25];
+const ANSWERS: [u64; 9] = [0, 19, 20, 21, 22, 23, 24, 25, 26];
 
 /// What a call was, small for rooms that may not hold the answer.
 #[derive(Debug, Clone, Copy)]

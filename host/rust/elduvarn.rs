@@ -19,7 +19,7 @@ pub const TOKEN_WORDS: usize = 8;
 /// Words of a font's record.
 pub const FONT_WORDS: usize = 3;
 /// Words of a block's record.
-pub const BLOCK_WORDS: usize = 13;
+pub const BLOCK_WORDS: usize = 16;
 
 /// No longer source is read.
 pub const MOST_SOURCE: usize = 65_536;
@@ -41,8 +41,8 @@ pub type Colour = u32;
 
 /// Each word a signed one modulo 2^32: colour, font, size, flags (1 bold, 2 italic, 4 underline,
 /// 8 super, 16 sub, 32 small capitals, 64 strike), alignment (0 left, 1 right, 2 centre,
-/// 3 justified), before, after, line kind (0 automatic, 1 value), line value, multiplier, tab, text
-/// place, text length.
+/// 3 justified), before, after, line kind (0 automatic, 1 value), line value, multiplier, tab, left,
+/// right and first line indent, text place, text length.
 pub type Block = [u32; BLOCK_WORDS];
 
 /// Declares the refusals, each said once.
@@ -128,10 +128,12 @@ refusals! {
     StoredField = 24,
     /// The stored list does not fit its room.
     OutputRoom = 25,
+    /// A block has an indent, which a stored list cannot hold.
+    IndentNotZero = 26,
 }
 
 impl Refusal {
-    /// The number in docs/REFUSALS.md, 1 to 25.
+    /// The number in docs/REFUSALS.md, 1 to 26.
     pub const fn number(self) -> u32 {
         self as u32
     }
@@ -270,12 +272,12 @@ pub fn cut<'a>(source: &[u8], tokens: &'a mut [Token]) -> Result<&'a [Token], Re
     Ok(&tokens[..answer.tokens as usize])
 }
 
-/// What becomes of `\par`.
+/// What becomes of `\par`, and of the indents `\li`, `\ri` and `\fi`.
 #[derive(Clone, Copy, Debug, PartialEq, Eq, Hash)]
 pub enum Reading {
-    /// It adds nothing, as in the crate rtf-parser.
+    /// `\par` adds nothing and indents stay 0, as in the crate rtf-parser.
     Plain,
-    /// Each adds a line feed to the text.
+    /// Each `\par` adds a line feed to the text, and indents are set.
     Paragraphs,
 }
 
@@ -386,7 +388,7 @@ pub mod stored {
         }
     }
 
-    /// Reads a list into blocks and text. Refusals 19 to 24.
+    /// Reads a list into blocks and text. Refusals 19 to 24. Indents are 0.
     pub fn read<'a>(
         list: &[u8],
         blocks: &'a mut [Block],
@@ -408,7 +410,8 @@ pub mod stored {
         Ok(Page { blocks: &blocks[..answer.blocks], text: &text[..answer.text] })
     }
 
-    /// Writes the list of blocks and their text, those of a reading. Refusals 24 and 25.
+    /// Writes the list of blocks and their text, those of a reading. Refusals 24, 26 and 25, in this
+    /// order.
     pub fn write<'a>(
         blocks: &[Block],
         text: &[u8],

@@ -3,7 +3,7 @@
 //!     test          makes all calls; the last line counts them
 //!     test names    lists the refusals by number and name
 //!
-//! Exit status: 0 all passed, 1 not. Expected answers are read off document 01 and
+//! Exit status: 0 all passed, 1 not. Expected answers are read off document 01, request A5 and
 //! docs/REFUSALS.md. What happens at the borders of a room is tested by ../test.c.
 
 use elduvarn::{
@@ -77,7 +77,14 @@ const NONE: [usize; 5] = [0; 5];
 
 /// A plain block of that text; its place and length end the record.
 const fn block(flags: u32, place: u32, length: u32) -> Block {
-    [0, 0, 12, flags, 0, 0, 0, 0, 0, 0, 0, place, length]
+    [0, 0, 12, flags, 0, 0, 0, 0, 0, 0, 0, 0, 0, 0, place, length]
+}
+
+/// The same with indents: left, right, first line.
+fn indented(indents: [i32; 3], place: u32, length: u32) -> Block {
+    let mut block = block(0, place, length);
+    block[11..14].copy_from_slice(&indents.map(|indent| indent as u32));
+    block
 }
 
 /// Tokens, fonts, colours and blocks of a letter, and its text in both readings.
@@ -222,11 +229,34 @@ fn test_read(counts: &mut Counts) {
         listing.map(|letter| letter.blocks),
         Ok(&[block(0, 0, 1), block(1, 1, 1)]),
     );
+    test_indents(counts, &mut rooms);
     let mut letter = vec![b'a'; MOST_SOURCE];
     (letter[0], letter[MOST_SOURCE - 1]) = (b'{', b'}');
     let mut lent = Lent::of([3, 0, 0, 1, MOST_SOURCE - 2]);
     let longest = read(&letter, Reading::Plain, &mut lent.rooms()).map(sizes);
     counts.check("the longest letter", longest, Ok([3, 0, 0, 1, MOST_SOURCE - 2]));
+}
+
+/// Letters of one style but for indents: their blocks by paragraphs; read plainly, one block.
+fn test_indents(counts: &mut Counts, rooms: &mut Rooms<'_>) {
+    let letters: &[(&str, &[Block])] = &[
+        (r"{\li720\ri-360\fi15 a}", &[indented([720, -360, 15], 0, 1)]),
+        (r"{\li-2147483648\ri2147483647\fi-1 a}", &[indented([i32::MIN, i32::MAX, -1], 0, 1)]),
+        (r"{\li5 a\li b}", &[indented([5, 0, 0], 0, 1), block(0, 1, 1)]),
+        (r"{{\ri5 a}b}", &[indented([0, 5, 0], 0, 1), block(0, 1, 1)]),
+        (r"{\li1\ri2\fi3 a\pard b}", &[indented([1, 2, 3], 0, 1), block(0, 1, 1)]),
+        (r"{\fi7 a\plain\fi7 b}", &[indented([0, 0, 7], 0, 2)]),
+    ];
+    for &(source, blocks) in letters {
+        let length = blocks.iter().map(|block| block[BLOCK_WORDS - 1]).sum();
+        let readings =
+            [(Reading::Plain, &[block(0, 0, length)] as &[Block]), (Reading::Paragraphs, blocks)];
+        for (reading, blocks) in readings {
+            let what = format!("{reading:?} reading of {source}, its blocks");
+            let is = read(source.as_bytes(), reading, rooms).map(|letter| letter.blocks);
+            counts.check(&what, is, Ok(blocks));
+        }
+    }
 }
 
 fn test_cut(counts: &mut Counts) {
@@ -323,9 +353,32 @@ fn test_stored(counts: &mut Counts) {
     let is = stored::write(&gap, b"ab", &mut room);
     counts.check("writing a gap between texts", is, Err(Refusal::StoredField));
     counts.check("its room", room, [0; 100]);
+    test_indent_not_zero(counts);
     counts.check("writing nothing", stored::write(&[], b"", &mut room[..1]), Ok(&[0][..]));
     let none = stored::write(&[], b"", &mut []);
     counts.check("writing nothing, without a room", none, Err(Refusal::OutputRoom));
+}
+
+/// 26 comes after 24 and before 25.
+fn test_indent_not_zero(counts: &mut Counts) {
+    let quoted = indented([0, 0, -1], 1, 1);
+    let cases = [
+        ([block(1, 0, 1), quoted], Refusal::IndentNotZero),
+        // An indent alone parts the styles, and then nothing does.
+        ([block(0, 0, 1), quoted], Refusal::IndentNotZero),
+        ([indented([0, 0, -1], 0, 1), quoted], Refusal::StoredField),
+        // Another fault, in front of the indent and behind it.
+        ([block(128, 0, 1), quoted], Refusal::StoredField),
+        ([indented([1, 0, 0], 0, 1), block(128, 1, 1)], Refusal::StoredField),
+    ];
+    for (blocks, refusal) in cases {
+        for size in [0, LIST.len(), 100] {
+            let mut room = vec![9; size];
+            let is = stored::write(&blocks, b"ab", &mut room);
+            counts.check(&format!("writing indents in {size}"), is, Err(refusal));
+            counts.check("its room", room, vec![0; size]);
+        }
+    }
 }
 
 /// A letter is read, stored, checked and read back.

@@ -1,9 +1,9 @@
 //! One block of a list: what it must keep to, how it is taken, put and laid out as a record.
 
-use crate::{number, Refusal, BLOCK_WORDS, STYLE_WORDS};
+use crate::{number, Refusal, BLOCK_WORDS, LENGTH, PLACE, STORED_WORDS, STYLE_WORDS};
 
 /// The eleven words as they are stored.
-pub type Style = [u32; STYLE_WORDS];
+pub type Style = [u32; STORED_WORDS];
 
 /// Colour, font, size, flags, alignment, before, after, line kind and value, multiplier, tab.
 const MOST: Style =
@@ -12,8 +12,6 @@ const FOLDED: [usize; 4] = [5, 6, 9, 10];
 const LINE_KIND: usize = 7;
 const LINE_VALUE: usize = 8;
 const AUTOMATIC: u32 = 0;
-const PLACE: usize = 11;
-const LENGTH: usize = 12;
 
 #[derive(Debug, Clone, Copy)]
 pub struct Block<'a> {
@@ -26,7 +24,7 @@ impl<'a> Block<'a> {
     /// block before it.
     #[inline]
     pub fn take(list: &'a [u8], before: Option<&Style>) -> Result<(Self, &'a [u8]), Refusal> {
-        let mut style = [0; STYLE_WORDS];
+        let mut style = [0; STORED_WORDS];
         let mut rest = list;
         for word in &mut style {
             (*word, rest) = number::take(rest)?;
@@ -42,7 +40,7 @@ impl<'a> Block<'a> {
 
     /// The block of a record whose text starts at `place`; None if that is not in `text`.
     pub fn of_record(record: &[u32], text: &'a [u8], place: usize) -> Option<Self> {
-        let mut style: Style = record[..STYLE_WORDS].try_into().ok()?;
+        let mut style: Style = record[..STORED_WORDS].try_into().ok()?;
         FOLDED.iter().for_each(|word| style[*word] = number::folded(style[*word]));
         let [told, length] = [PLACE, LENGTH].map(|word| usize::try_from(record[word] as i32).ok());
         let text = text.get(place..place.checked_add(length?)?)?;
@@ -51,13 +49,14 @@ impl<'a> Block<'a> {
 
     pub fn lay(&self, record: &mut [u32], place: usize) {
         assert_eq!(record.len(), BLOCK_WORDS);
-        record[..STYLE_WORDS].copy_from_slice(&self.style);
+        record[..STORED_WORDS].copy_from_slice(&self.style);
         FOLDED.iter().for_each(|word| record[*word] = number::unfolded(record[*word]));
+        record[STORED_WORDS..STYLE_WORDS].fill(0);
         record[PLACE] = place as u32;
         record[LENGTH] = self.text.len() as u32;
     }
 
-    /// Whether a list may hold the block.
+    /// Whether a list may hold the block; `before` is the style before it, if indents are the same.
     pub fn is_good(&self, before: Option<&Style>) -> bool {
         let is_text = !self.text.is_empty() && std::str::from_utf8(self.text).is_ok();
         is_text && keeps_rules(&self.style, before)

@@ -1,5 +1,6 @@
-//! The stored form of block lists, written from document 01 ("Stored form") alone: what a host
-//! might write for itself. It knows nothing of our library, judges its answers and its speed.
+//! The stored form of block lists, written from document 01 ("Stored form") and request A5 alone:
+//! what a host might write for itself. It knows nothing of our library, judges its answers and its
+//! speed.
 //!
 //!   number   seven-bit groups, signed words folded
 //!   block    the rules of one block
@@ -14,13 +15,18 @@ mod write;
 pub use read::{check, read, Counts};
 pub use write::write;
 
-/// Words of a block's style, and of its record: place and length of its text come behind.
-pub const STYLE_WORDS: usize = 11;
-pub const BLOCK_WORDS: usize = 13;
+/// Words of a block's style that a list holds. The indents, which it does not hold, come behind
+/// them: words of the whole style.
+pub const STORED_WORDS: usize = 11;
+pub const STYLE_WORDS: usize = 14;
+/// Place and length of its text end a block's record.
+pub const PLACE: usize = STYLE_WORDS;
+pub const LENGTH: usize = STYLE_WORDS + 1;
+pub const BLOCK_WORDS: usize = STYLE_WORDS + 2;
 /// A text room counts for at most so many bytes.
 pub const MOST_TEXT: usize = 2_147_483_647;
 
-/// By 01's numbers, with the names of docs/REFUSALS.md.
+/// By the numbers of 01 and A5, with the names of docs/REFUSALS.md.
 #[derive(Debug, Clone, Copy, PartialEq, Eq)]
 pub enum Refusal {
     BlockRoom = 19,
@@ -30,6 +36,7 @@ pub enum Refusal {
     StoredLong = 23,
     StoredField = 24,
     OutputRoom = 25,
+    IndentNotZero = 26,
 }
 
 impl Refusal {
