@@ -7,10 +7,10 @@
 use answers::Outcome;
 use libc::STDIN_FILENO;
 use libc::STDOUT_FILENO;
-use readings::Reading;
 use lines::number;
 use lines::place_item;
 use lines::records;
+use readings::Reading;
 use tokens::TOKEN_WORDS;
 ghost use mathlib.Core.Path.{_≡_};
 ghost use mathlib.Core.List.{_++_};

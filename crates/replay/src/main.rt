@@ -16,6 +16,7 @@ use list::Front;
 use list::HEAD_BYTES;
 use list::ROOM_MOST;
 use list::next;
+use readings::Reading;
 use say::End;
 use say::Tally;
 ghost use Prim.Native.Nat.{_≤_};
