@@ -59,7 +59,8 @@ impl Judge {
     pub fn letter(&mut self, letter: &[u8]) {
         let text = std::str::from_utf8(letter).expect("a letter for the crate is ASCII");
         let cuts = KINDS.map(|kind| model::cut(letter, kind));
-        let mut says = [oracle::wrapping_reading(text, false), oracle::checked_reading(text, false)];
+        let mut says =
+            [oracle::wrapping_reading(text, false), oracle::checked_reading(text, false)];
         for (kind, cut) in KINDS.into_iter().zip(&cuts) {
             // Without these bytes the crate is asked the same.
             if kind == Kind::Paragraphs && has_return(text) {

@@ -12,7 +12,10 @@ const SHOWN_RECORDS: usize = 12;
 
 /// The two builds of the crate and the model do not agree, or a build panicked.
 pub fn builds(letter: &[u8], kind: Kind, cut: &Cut, wrapping: &Reading, checked: &Reading) {
-    println!("CRATE DIFFERS FROM ITSELF OR FROM THE MODEL, OR PANICS, {kind:?}: {}", escaped(letter));
+    println!(
+        "CRATE DIFFERS FROM ITSELF OR FROM THE MODEL, OR PANICS, {kind:?}: {}",
+        escaped(letter)
+    );
     println!("  overflow checks off: {}", reading(wrapping));
     println!("  overflow checks on:  {}", reading(checked));
     match cut {

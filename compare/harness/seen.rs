@@ -42,7 +42,8 @@ impl Seen {
     }
 
     fn count_returns(&mut self, plain: &[Token], paragraphs: &[Token]) {
-        let breaks = |tokens: &[Token]| tokens.iter().filter(|token| token[0] == LINE_BREAK).count();
+        let breaks =
+            |tokens: &[Token]| tokens.iter().filter(|token| token[0] == LINE_BREAK).count();
         let more = breaks(paragraphs) - breaks(plain);
         let [letters, with_texts, most] = &mut self.returns;
         *letters += u64::from(more > 0);

@@ -16,8 +16,7 @@ pub struct Seen {
     small: [[u64; REFUSALS]; 2],
     /// Letters that have an indent by paragraphs, and two blocks that indents alone part.
     indented: [u64; 2],
-    /// Letters that are read by paragraphs and there have more line breaks, or that are refused there
-    /// by another number or at another place, or in plain reading alone.
+    /// Letters with more line breaks by paragraphs, and with another refusal or place there.
     returns: [u64; 2],
     words: [u64; 50],
     most: [usize; 5],
@@ -40,9 +39,8 @@ impl Seen {
     /// The answers of both readings, plain first, which is counted.
     pub fn letter(&mut self, [answer, paragraphs]: &[Answer; 2], with_crate: bool) {
         self.indents(paragraphs);
-        let breaks = |answer: &Answer| {
-            answer.tokens.iter().filter(|token| token[0] == LINE_BREAK).count()
-        };
+        let breaks =
+            |answer: &Answer| answer.tokens.iter().filter(|token| token[0] == LINE_BREAK).count();
         if answer.refusal != paragraphs.refusal {
             self.returns[1] += 1;
         } else if breaks(paragraphs) > breaks(answer) {
