@@ -43,7 +43,7 @@ room = record { tokens = 72 * tokenWords; fonts = 3 * fontWords; colours = 3 * c
 says : Sample → Found Letter → Bool
 says s (found l) =
     eqb 0 (s .number) && (eqb 0 (s .place) && (sameBytes (textOf (l .pieces)) (s .text) && (sameBytes (tableWords (l .tables .fonts)) (s .fonts) && eqb (length (blocks (l .pieces))) (s .blocks))))
-says s (refused r) = eqb (answerNumber (answered Plain [] (refused r))) (s .number) && eqb (answerPlace (answered [] (refused r))) (s .place)
+says s (refused r) = eqb (answerNumber (answered Plain [] (refused r))) (s .number) && eqb (answerPlace (answered Plain [] (refused r))) (s .place)
 
 holds : Sizes → List Sample → Bool
 holds z [] = true
