@@ -30,7 +30,8 @@ pub const ALPHABETS: [Alphabet; 8] = [
     ]},
     Alphabet { name: "header", front: "{", back: "}", fragments: &[
         "{", "}", "\\*", "\\\n", "\\fonttbl ", "\\fonttbl1 ", "\\colortbl ", "\\colortbl0 ",
-        "\\stylesheet ", "\\f1 ", "\\f ", "A;", "\\red9 ", "\\blue7 ", "\\blue256 ", "\\u65 ", "\\\r\n",
+        "\\stylesheet ", "\\f1 ", "\\f ", "A;", "\\red9 ", "\\blue7 ", "\\blue256 ", "\\u65 ",
+        "\\\r\n",
     ]},
     Alphabet { name: "font table", front: "{{\\fonttbl ", back: "}a}", fragments: &[
         "{", "}", "\\f0 ", "\\f1 ", "\\f65537 ", "\\f-1 ", "\\f ", "A;", "B;;", ";", "\\\n", "\\*",
@@ -127,10 +128,11 @@ pub const TELLING: &[&str] = &[
     "{a}}{\\b b}c}", "{\n\\b\n a\n}", "a{}", "{\\'41{\\'42}\\'43}", "{\\li9\\ri9\\fi9 a\\li0 b}",
     "{\\li1\\ri-2\\fi3 a\\pard b}", "{\\li-2147483648\\ri2147483647\\fi a}", "{{\\ri7 a}b{\\fi7 c}}",
     "{\\li5 a\\li\\fi5 b\\plain c}", "{\\fi4 \\u65 \\fi4 \\u66 \\par c}", "{\\li6 a}}{b\\li6 c}d}",
-    "{a\\\rb}", "{a\\\r\nb\\\r\n}", "{a\\\r\n\nb\\\n\rc}", "{\\b a\\\r\\\r\n \\b0 b}", "{\\\\\rb\\\\\r\nc}",
-    "{{\\\r\\fonttbl}}", "{{\\\r\n\\\r\\colortbl}}", "{{\\\r\n\n\\*x}a}", "{{\\\r\\stylesheet}a}",
-    "{{\\\rb\\stylesheet c}a}", "{{\\\rb\\*c}a}", "{{\\fonttbl{\\f1 A\\\rB;}}a}", "{}}\\\r}", "{}}\\\r\n{b}c}",
-    "{\\u65 \\\r\\u66 }", "{\\u-10179 \\\r\n\\u-8704 }", "{\\u8212 \\\r\\'41}", "{a}\\\r\n", "\\\r{a}",
+    "{a\\\rb}", "{a\\\r\nb\\\r\n}", "{a\\\r\n\nb\\\n\rc}", "{\\b a\\\r\\\r\n \\b0 b}",
+    "{\\\\\rb\\\\\r\nc}", "{{\\\r\\fonttbl}}", "{{\\\r\n\\\r\\colortbl}}", "{{\\\r\n\n\\*x}a}",
+    "{{\\\r\\stylesheet}a}", "{{\\\rb\\stylesheet c}a}", "{{\\\rb\\*c}a}",
+    "{{\\fonttbl{\\f1 A\\\rB;}}a}", "{}}\\\r}", "{}}\\\r\n{b}c}", "{\\u65 \\\r\\u66 }",
+    "{\\u-10179 \\\r\n\\u-8704 }", "{\\u8212 \\\r\\'41}", "{a}\\\r\n", "\\\r{a}",
 ];
 
 /// What is refused wherever it is read, by each number from 3 to 5 and from 10 to 15; 6 and 9 are

@@ -1,12 +1,13 @@
-//! What the crate is asked in place of a letter by paragraphs. It takes a backslash before a line feed
-//! for a line break, and before a carriage return for nothing; request A2 wants the break there too.
+//! What the crate is asked in place of a letter by paragraphs. It takes a backslash before a line
+//! feed for a line break, and before a carriage return for nothing; request A2 wants a break there
+//! too.
 
 use crate::cut::{Cut, Told};
 use crate::whole::Whole;
 use std::borrow::Cow;
 
-/// A letter with a line feed for each carriage return behind a backslash that starts a slice, and for
-/// a line feed directly behind it.
+/// A letter with a line feed for each carriage return behind a backslash that starts a slice; a
+/// line feed directly behind that carriage return is left out.
 pub struct Mended<'a> {
     pub letter: Cow<'a, str>,
     /// For each byte its place in the letter that was mended; empty if nothing was.

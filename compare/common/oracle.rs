@@ -29,8 +29,8 @@ thread_local! {
     static LAST_PANIC: RefCell<String> = const { RefCell::new(String::new()) };
 }
 
-/// What the crate makes of a letter, by paragraphs of the mended one. Keeps the message of a panic for
-/// the report instead of printing it at once.
+/// What the crate makes of a letter, by paragraphs of the mended one. Keeps the message of a panic
+/// for the report instead of printing it at once.
 fn caught<T: Placed>(
     source: &str,
     paragraphs: bool,

@@ -48,7 +48,8 @@ const FONTS: [&str; 6] = ["", " Arial;", " Times New Roman;", " ;;", " A;B;", "x
 const ODDITIES: [&str; 24] = [
     "\n", " ", "\\{", "\\}", "\\\\", "\\\\{", "\\~", "\\-", "\\ ", "\\zz ", "\\fonttbl1 ",
     "\\fonttbl ", "\\colortbl ", "\\stylesheet ", "\\red1 ", "\\blue ", "\\par1 ", "\x0b",
-    "\\line7 ", "{\\fonttbl1 A;}", "{\\colortbl0 \\blue1 }", "{\\stylesheet2 a}", "\r\n", "\\\\\r\n",
+    "\\line7 ", "{\\fonttbl1 A;}", "{\\colortbl0 \\blue1 }", "{\\stylesheet2 a}", "\r\n",
+    "\\\\\r\n",
 ];
 /// The three things outside 01's equality with the crate.
 const OUTSIDE: [&str; 5] =

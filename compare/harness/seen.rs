@@ -12,8 +12,8 @@ pub struct Seen {
     kinds: [u64; WORD as usize + 1],
     words: Vec<u64>,
     longest: usize,
-    /// Letters that are cut and have more line breaks by paragraphs, those of them with more texts, and
-    /// the most line breaks more.
+    /// Letters that are cut and have more line breaks by paragraphs, those of them with more texts,
+    /// and the most line breaks more.
     returns: [u64; 3],
 }
 
@@ -76,8 +76,8 @@ impl Seen {
         println!("words:   {met} of {} met", NAMES.len() + 1);
         let [letters, with_texts, most] = self.returns;
         println!(
-            "by paragraphs: {letters} letters with line breaks more, at most {most}, {with_texts} of \
-             them with texts more"
+            "by paragraphs: {letters} letters with line breaks more, at most {most}, {with_texts} \
+             of them with texts more"
         );
     }
 }

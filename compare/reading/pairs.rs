@@ -14,8 +14,8 @@ const WORD: usize = 3;
 /// What may stand between a brace and the mark: line breaks, and what gives no token.
 #[rustfmt::skip]
 const FRONTS: [&str; 14] = [
-    "", "", "", "", "\\\n", "\\\n\\\n", "\n", " \t\n", "\\~", "\\\n \n\\-x", "\\\r", "\\\r\n", "\\\r \n\r",
-    "\r\\\r\n\n\\\r\\\n",
+    "", "", "", "", "\\\n", "\\\n\\\n", "\n", " \t\n", "\\~", "\\\n \n\\-x", "\\\r", "\\\r\n",
+    "\\\r \n\r", "\r\\\r\n\n\\\r\\\n",
 ];
 #[rustfmt::skip]
 const MARKS: [&str; 8] = [
@@ -47,8 +47,8 @@ pub struct Pair {
 /// A letter in parts: between each two stands a hole.
 struct Holed {
     parts: Vec<Vec<u8>>,
-    /// For each hole, whether the walk reaches it in both readings. The others hold the marker in both
-    /// letters.
+    /// For each hole, whether the walk reaches it in both readings. The others hold the marker in
+    /// both letters.
     reached: Vec<bool>,
 }
 

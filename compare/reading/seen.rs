@@ -103,8 +103,8 @@ impl Seen {
         );
         let [more, refused] = self.returns;
         println!(
-            "by paragraphs: {more} letters with line breaks more, {refused} with another refusal or \
-             place than in plain reading"
+            "by paragraphs: {more} letters with line breaks more, {refused} with another refusal \
+             or place than in plain reading"
         );
         let met = self.words.iter().filter(|count| **count > 0).count();
         println!("words: {met} of {} met in letters that were read", self.words.len());

@@ -1,7 +1,7 @@
 //! The premise of a pair, told on the crate's tokens: both letters are cut, and are the same but
 //! for what stands in hidden groups that the header walk reaches and that a brace of their own
-//! closes. This walk shares no code with the model's. By paragraphs the tokens are others, and so may
-//! the hidden groups be.
+//! closes. This walk shares no code with the model's. By paragraphs the tokens are others, and so
+//! may the hidden groups be.
 
 use common::cut::{Cut, Told, CLOSE, IGNORABLE, LINE_BREAK, NAMES, OPEN, WORD};
 use common::oracle::{self, Reading};
