@@ -1,6 +1,7 @@
 -- Slices by the reading (02, A2).
---     feed-none, feed-end, feed-three     whether a slice takes in a line feed, as the code tests it
---     length-plain, length-alone, length-feed   its length, as the code finds it
+--     feed-end, feed-three                whether a slice takes in a line feed, as the code tests it
+--     from-plain, from-alone, from-feed, from-some   where the code begins to search for its end, and that this is in it
+--     length-from                         its length, as the code finds it
 --     slicesBy-first                      the first slice, and the slices of the rest
 --     slicesBy-append                     two sources one after the other, where the second starts a slice with no line feed
 --     joined-slicesBy                     the slices one after the other are the source
@@ -17,7 +18,8 @@ use lib.Seq.{take-add, drop-drop, take-all}
 use lib.Dec.{eqb}
 use Rattle.readings.specs.declared.Reading.{Reading}
 use Rattle.readings.specs.declared.Reading.the-variants.{Plain, Paragraphs}
-use Rattle.slices.specs.Slices.{isReturn, startsWithFeed, takeFeed, withFeeds, slices, slicesBy, sliceLength, feedLength, lengthBy, startsSlice}
+use Rattle.slices.specs.Slices.{isReturn, startsWithFeed, takeFeed, withFeeds, slices, slicesBy, upTo, sliceLength, feedLength, lengthBy, startsSlice}
+use Rattle.slices.proofs.Ends.{slice-within}
 use Rattle.slices.proofs.Slices.{slices-first, slices-append, joined, joined-slices, lastByte}
 
 -- ---- as the code tests it
@@ -28,7 +30,7 @@ two-bytes (a ∷ []) e = cc
 two-bytes (a ∷ b ∷ []) e = refl
 two-bytes (a ∷ b ∷ c ∷ l) e = cc
 
-pub feed-none : (s : List ℕ) (n : ℕ) → n ≤ length s → (n ≡ 2 → ⊥) → false ≡ isReturn (take n s) && startsWithFeed (drop n s)
+feed-none : (s : List ℕ) (n : ℕ) → n ≤ length s → (n ≡ 2 → ⊥) → false ≡ isReturn (take n s) && startsWithFeed (drop n s)
 feed-none s n h f = go (isReturn (take n s)) refl
   where
     go : (t : Bool) → isReturn (take n s) ≡ t → false ≡ t && startsWithFeed (drop n s)
@@ -69,6 +71,10 @@ feed-no-return : (c : ℕ) (b : List ℕ) → c ≡ 10 → isReturn (c ∷ b) �
 feed-no-return c [] e = refl
 feed-no-return c (d ∷ []) e = rw (ne-eqb c 92 (λ q. omega arith))
 feed-no-return c (d ∷ f ∷ b) e = refl
+
+and-first : (x y : Bool) → x && y ≡ true → x ≡ true
+and-first true y e = refl
+and-first false y e = cc
 
 and-second : (x y : Bool) → x && y ≡ true → y ≡ true
 and-second true y e = e
@@ -123,21 +129,50 @@ slicesBy-first Paragraphs s h = feeds-first s h (sliceLength s) refl (drop (slic
 
 -- ---- the length of the first slice, as the code finds it
 
-module _ (s : List ℕ) {rd : Reading} {n : ℕ} (q : n ≡ sliceLength s) where
-  pub length-plain : rd ≡ Plain → n ≡ lengthBy rd s
+-- a backslash and a carriage return before a line feed are a slice
+return-alone : (s : List ℕ) → isReturn (take 2 s) && startsWithFeed (drop 2 s) ≡ true → sliceLength s ≡ 2
+unfolding sliceLength upTo
+return-alone [] e = cc
+return-alone (a ∷ []) e = cc
+return-alone (a ∷ b ∷ []) e = let z : false ≡ true = sym (and-false (eqb a 92 && eqb b 13)) ∙ e in cc
+return-alone (a ∷ b ∷ c ∷ s) e =
+    let x : eqb a 92 && eqb b 13 ≡ true = and-first (eqb a 92 && eqb b 13) (eqb c 10) e in
+    rw (eqb-true a 92 (and-first (eqb a 92) (eqb b 13) x), eqb-true b 13 (and-second (eqb a 92) (eqb b 13) x), eqb-true c 10 (and-second (eqb a 92 && eqb b 13) (eqb c 10) e))
+
+pub from-some : (s : List ℕ) {t : Bool} → t ≡ isReturn (take 2 s) && startsWithFeed (drop 2 s) → t ≡ true → 2 < length s
+from-some [] f x = let z : _≡_ {A = ℕ} 0 1 = cc in omega arith
+from-some (a ∷ []) f x = let z : _≡_ {A = ℕ} 0 1 = cc in omega arith
+from-some (a ∷ b ∷ []) f x =
+    let e : false ≡ true = sym (and-false (eqb a 92 && eqb b 13)) ∙ sym f ∙ x in
+    let z : _≡_ {A = ℕ} 0 1 = cc in
+    omega arith
+from-some (a ∷ b ∷ c ∷ s) f x = omega arith
+
+module _ (s : List ℕ) {rd : Reading} where
+  pub from-plain : rd ≡ Plain → 0 + sliceLength (drop 0 s) ≡ lengthBy rd s
   unfolding lengthBy
-  length-plain e = rw e q
+  from-plain e = rw e (omega arith)
 
-  module _ (e : rd ≡ Paragraphs) {t : Bool} (f : t ≡ isReturn (take n s) && startsWithFeed (drop n s)) where
-    pub length-alone : t ≡ false → n ≡ lengthBy rd s
+  module _ (e : rd ≡ Paragraphs) {t : Bool} (f : t ≡ isReturn (take 2 s) && startsWithFeed (drop 2 s)) where
+    pub from-feed : t ≡ true → 2 + sliceLength (drop 2 s) ≡ lengthBy rd s
     unfolding lengthBy
-    length-alone x = rw (e, ← q, ← f, x)
+    from-feed x = rw (e, return-alone s (sym f ∙ x), ← f, x)
 
-    pub length-feed : t ≡ true → {k : ℕ} → k ≡ sliceLength (take (length s - n) (drop n s)) → n + k ≡ lengthBy rd s
+    pub from-alone : t ≡ false → 0 + sliceLength (drop 0 s) ≡ lengthBy rd s
     unfolding lengthBy
-    length-feed x {k} z =
-        let d : take (length s - n) (drop n s) ≡ drop n s = take-all (length s - n) (drop n s) (simp length-drop (omega arith)) in
-        rw (e, ← q, ← f, x, z, d)
+    from-alone x =
+        let g : false ≡ isReturn (take (sliceLength s) s) && startsWithFeed (drop (sliceLength s) s) = pick (eqb (sliceLength s) 2) refl in
+        rw (e, ← g) (omega arith)
+      where
+        pick : (u : Bool) → eqb (sliceLength s) 2 ≡ u → false ≡ isReturn (take (sliceLength s) s) && startsWithFeed (drop (sliceLength s) s)
+        pick true u = rw (eqb-true (sliceLength s) 2 u) (sym x ∙ f)
+        pick false u = feed-none s (sliceLength s) (slice-within s) (λ (q : sliceLength s ≡ 2). let t : eqb (sliceLength s) 2 ≡ true = rw q in let z : _≡_ {A = ℕ} 0 1 = cc in omega arith)
+
+-- the slice behind that place, as the code lends it
+pub length-from : (s : List ℕ) (rd : Reading) (n k : ℕ) → n + sliceLength (drop n s) ≡ lengthBy rd s → k ≡ sliceLength (take (length s - n) (drop n s)) → n + k ≡ lengthBy rd s
+length-from s rd n k e z =
+    let d : take (length s - n) (drop n s) ≡ drop n s = take-all (length s - n) (drop n s) (simp length-drop (omega arith)) in
+    rw (z, d) e
 
 -- ---- all slices
 

@@ -66,34 +66,38 @@ pub fn slice_end(s: &[u8]) -> usize
     end_from(s, i)
 }
 
-// Whether the first n bytes are a backslash and a carriage return, and a line feed follows.
-fn takes_feed(s: &[u8], n: usize) -> bool
-    requires { ⌜ n ≤ length (now s) ⌝ }
-    ensures { λ r. ⌜ r ≡ isReturn (take n (now (s .entry))) && startsWithFeed (drop n (now (s .entry))) ⌝ }
+// Whether a backslash, a carriage return and a line feed stand in front.
+fn takes_feed(s: &[u8]) -> bool
+    ensures { λ r. ⌜ r ≡ isReturn (take 2 (now (s .entry))) && startsWithFeed (drop 2 (now (s .entry))) ⌝ }
 {
-    if n != 2 {
-        return false;
-    }
     if s.len() < 3 {
         return false;
     }
     ((s[0] == b'\\') & (s[1] == b'\r')) & (s[2] == b'\n')
 }
 
-// The length of the first slice by the reading.
+// Where the search for the first slice's end begins: at the line feed that it takes in by the reading, or in front.
+fn search_from(reading: Reading, s: &[u8]) -> usize
+    ensures { λ r. ⌜ r + sliceLength (drop r (now (s .entry))) ≡ lengthBy reading (now (s .entry)) ⌝ }
+    ensures { λ r. ⌜ (0 < length (now (s .entry)) → r < length (now (s .entry))) × (r ≤ length (now (s .entry))) ⌝ }
+{
+    match reading {
+        Reading::Plain => 0,
+        Reading::Paragraphs => {
+            if takes_feed(s) {
+                return 2;
+            }
+            0
+        }
+    }
+}
+
+// The length of the first slice by the reading. One call of `slice_end`, so that the compiler lays it into the cutter's loop.
 pub fn slice_end_by(reading: Reading, s: &[u8]) -> usize
     ensures length { λ r. ⌜ r ≡ lengthBy reading (now (s .entry)) ⌝ }
     ensures within { λ r. ⌜ r ≤ length (now (s .entry)) ⌝ }
     ensures some { λ r. ⌜ (0 < length (now (s .entry)) → 0 < r) ⌝ }
 {
-    let n = slice_end(s);
-    match reading {
-        Reading::Plain => n,
-        Reading::Paragraphs => {
-            if takes_feed(s, n) {
-                return n + slice_end(&s[n..]);
-            }
-            n
-        }
-    }
+    let from = search_from(reading, s);
+    from + slice_end(&s[from..])
 }
