@@ -3,7 +3,7 @@
 use crate::clock::{time, Times};
 use crate::letters::{self, Letter};
 use crate::table::{count, figure, Table};
-use common::cut::{are_told, Cut};
+use common::cut::{are_told, Cut, PLAIN};
 use common::oracle::wrapping;
 use model::{EXTRACTOR, TOKENS, TOKEN_WORDS};
 use std::hint::black_box;
@@ -13,8 +13,8 @@ const CRATE: usize = 0;
 const HEADING: &str = "\
 ## Cutting alone
 
-As for whole readings: `Lexer::scan` (crate), and `elduvarn_cut` in a room of just enough tokens and in
-the extractor's, of 1,024.
+As for whole readings: `Lexer::scan` (crate), and `elduvarn_cut` for plain reading in a room of just
+enough tokens and in the extractor's, of 1,024.
 ";
 
 /// A letter with its rooms and the times of its calls.
@@ -51,7 +51,7 @@ impl Row {
         let tokens = told.len();
         let mut needed = vec![0; tokens * TOKEN_WORDS];
         let wide = (tokens <= EXTRACTOR[TOKENS]).then(|| vec![0; EXTRACTOR[TOKENS] * TOKEN_WORDS]);
-        let answer = library::cut(&letter.bytes, &mut needed);
+        let answer = library::cut(&letter.bytes, PLAIN, &mut needed);
         let (records, _) = needed.as_chunks::<TOKEN_WORDS>();
         if answer != [0, 0, tokens as u32] || !are_told(&told, records) {
             eprintln!("bench: DIFFERENCE: {} of {} bytes", letter.kind, letter.bytes.len());
@@ -66,7 +66,7 @@ impl Row {
         times.round(|side| match side {
             CRATE => time(|| _ = black_box(wrapping::scan(black_box(text)))),
             _ => rooms[side - 1].as_mut().map_or(f64::NAN, |room| {
-                time(|| _ = black_box(library::cut(black_box(letter), room)))
+                time(|| _ = black_box(library::cut(black_box(letter), PLAIN, room)))
             }),
         });
     }

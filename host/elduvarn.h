@@ -61,7 +61,8 @@ enum elduvarn_refusal {
  * does success. It is the slice that is refused, or that the refused token was cut from; for 10,
  * that of the table's word. A place counts the source's bytes from 0, white space in front too.
  *
- * A slice starts where the letter does, and at each {, }, \ and line feed that has no \ before it.
+ * A slice starts where the letter does, and at each {, }, \ and line feed that has no \ before it;
+ * by paragraphs, at no line feed that is directly behind the \ and carriage return of a line break.
  * So {\f-1} is refused by 12 at 1; and since the text behind a bracket belongs to the bracket's
  * slice, {}}b} is refused by 14 at 2. */
 
@@ -85,13 +86,19 @@ enum {
 /* No longer source is read, and no more fonts or colours. */
 enum { ELDUVARN_MOST_SOURCE = 65536, ELDUVARN_MOST_FONTS = 256, ELDUVARN_MOST_COLOURS = 256 };
 
+/* For which reading a letter is cut. They differ where a slice starts with \ and a carriage return:
+ * by paragraphs that is a line break, a line feed directly behind belongs to it, and the text that
+ * follows is kept; plainly it is nothing, and the rest of the slice is lost. Any other number is
+ * plain. */
+enum elduvarn_reading { ELDUVARN_PLAIN = 0, ELDUVARN_PARAGRAPHS = 1 };
+
 struct elduvarn_cut_answer {
     uint32_t refusal, place, tokens;
 };
 
 /* Cuts a letter into tokens. Refusals 1 to 7. */
-struct elduvarn_cut_answer elduvarn_cut(const uint8_t *source, size_t source_len, uint32_t *tokens,
-                                        size_t tokens_len);
+struct elduvarn_cut_answer elduvarn_cut(const uint8_t *source, size_t source_len, uint32_t reading,
+                                        uint32_t *tokens, size_t tokens_len);
 
 struct elduvarn_read_answer {
     uint32_t refusal, place, tokens, fonts, colours, blocks, text;
@@ -106,7 +113,8 @@ struct elduvarn_read_answer elduvarn_read_plain(const uint8_t *source, size_t so
                                                 uint32_t *blocks, size_t blocks_len,
                                                 uint8_t *text, size_t text_len);
 
-/* The same, but each \par adds a line feed to the text, and \li, \ri and \fi set indents. */
+/* The same, but the letter is cut by paragraphs, each \par adds a line feed to the text, and \li,
+ * \ri and \fi set indents. */
 struct elduvarn_read_answer elduvarn_read_paragraphs(const uint8_t *source, size_t source_len,
                                                      uint32_t *tokens, size_t tokens_len,
                                                      uint32_t *fonts, size_t fonts_len,

@@ -3,8 +3,8 @@
  *   test          makes all calls in the three layouts of lend.h; the last line counts them
  *   test names    lists the refusals by number and name
  *
- * Exit status: 0 all passed, 1 not, 3 no memory. Expected answers are read off document 01, request
- * A5 and docs/REFUSALS.md. */
+ * Exit status: 0 all passed, 1 not, 3 no memory. Expected answers are read off document 01,
+ * requests A2 and A5 and docs/REFUSALS.md. */
 
 #define _DEFAULT_SOURCE
 
@@ -96,6 +96,7 @@ static const struct {
     {"\\'}", ELDUVARN_HEX_SHORT, 0},
     {"{a\\'e}", ELDUVARN_HEX_SHORT, 2},
     {"\\'zz}", ELDUVARN_HEX_BAD, 0},
+    {"{\\\r\n\\'zz}", ELDUVARN_HEX_BAD, 4},
     {" {}\\'zz}", ELDUVARN_HEX_BAD, 3},
     {"{\\'zz\\a-}", ELDUVARN_HEX_BAD, 1},
     {"\\a-}", ELDUVARN_NUMBER_BAD, 0},
@@ -107,6 +108,9 @@ static const struct {
     {"{a\nb", ELDUVARN_LAST_SLICE, 2},
     {"{\\}", ELDUVARN_LAST_SLICE, 1},
     {"{\\a- c", ELDUVARN_LAST_SLICE, 1},
+    {"{a\\\r", ELDUVARN_LAST_SLICE, 2}, /* what is trimmed is no line break */
+    {"{}\\\r\n", ELDUVARN_LAST_SLICE, 2},
+    {"{\\\rb", ELDUVARN_LAST_SLICE, 1},
     {"", ELDUVARN_NO_TOKENS, 0},
     {" \n ", ELDUVARN_NO_TOKENS, 0},
     {"}", ELDUVARN_FIRST_TOKEN, 0},
@@ -134,30 +138,100 @@ static const struct {
 
 /* The cutter. */
 
+/* All but the second are plain. */
+static const uint32_t numbers[] = {ELDUVARN_PLAIN, ELDUVARN_PARAGRAPHS, 2, 257, UINT32_MAX};
+
 /* Expected are `count` tokens, or a refusal at a place. */
-static void cuts_to(const char *letter, size_t size, size_t room, uint32_t refusal, uint32_t place,
-                    const uint32_t *records, uint32_t count)
+static void cuts_to(const char *letter, size_t size, uint32_t number, size_t room, uint32_t refusal,
+                    uint32_t place, const uint32_t *records, uint32_t count)
 {
     const uint8_t *source = given_bytes(letter, size);
     uint32_t *tokens = lend_words(room);
-    will("cut of %zu bytes %.40s in %zu words", size, letter, room);
-    struct elduvarn_cut_answer answer = elduvarn_cut(source, size, tokens, room);
+    will("cut, reading %u, of %zu bytes %.40s in %zu words", (unsigned)number, size, letter, room);
+    struct elduvarn_cut_answer answer = elduvarn_cut(source, size, number, tokens, room);
     int good = answer.place == place && answer.tokens == count &&
                holds_words(tokens, room, records, (size_t)count * ELDUVARN_TOKEN_WORDS);
     told(good, answer.refusal, refusal);
     give_back();
 }
 
+/* The same in each reading. */
 static void cuts(const char *letter, size_t size, size_t room, const uint32_t *records,
                  uint32_t count)
 {
-    cuts_to(letter, size, room, ELDUVARN_SUCCESS, 0, records, count);
+    for (size_t i = 0; i < COUNT(numbers); i++)
+        cuts_to(letter, size, numbers[i], room, ELDUVARN_SUCCESS, 0, records, count);
 }
 
 static void cut_refuses(const char *letter, size_t size, size_t room, uint32_t refusal,
                         uint32_t place)
 {
-    cuts_to(letter, size, room, refusal, place, NULL, 0);
+    for (size_t i = 0; i < COUNT(numbers); i++)
+        cuts_to(letter, size, numbers[i], room, refusal, place, NULL, 0);
+}
+
+/* Letters with a carriage return, and their tokens: kind, place and length of a text, place and
+ * length of the slice. */
+enum { RETURN_TOKENS = 5 };
+struct returned {
+    uint32_t tokens[RETURN_TOKENS][5], count;
+};
+static const struct {
+    const char *source;
+    struct returned plain, paragraphs;
+} returned[] = {
+    /* The tail is kept, as one slice with the line break. */
+    {"{a\\\rb}",
+     {{{1, 0, 0, 0, 2}, {0, 1, 1, 0, 2}, {2, 0, 0, 5, 1}}, 3},
+     {{{1, 0, 0, 0, 2}, {0, 1, 1, 0, 2}, {3, 0, 0, 2, 3}, {0, 4, 1, 2, 3}, {2, 0, 0, 5, 1}}, 5}},
+    /* A line feed directly behind belongs to it, and a second one does not. */
+    {"{a\\\r\nb}",
+     {{{1, 0, 0, 0, 2}, {0, 1, 1, 0, 2}, {0, 5, 1, 4, 2}, {2, 0, 0, 6, 1}}, 4},
+     {{{1, 0, 0, 0, 2}, {0, 1, 1, 0, 2}, {3, 0, 0, 2, 4}, {0, 5, 1, 2, 4}, {2, 0, 0, 6, 1}}, 5}},
+    {"{\\\r\n\nb}",
+     {{{1, 0, 0, 0, 1}, {0, 5, 1, 4, 2}, {2, 0, 0, 6, 1}}, 3},
+     {{{1, 0, 0, 0, 1}, {3, 0, 0, 1, 3}, {0, 5, 1, 4, 2}, {2, 0, 0, 6, 1}}, 4}},
+    {"{\\\r\rb}",
+     {{{1, 0, 0, 0, 1}, {2, 0, 0, 5, 1}}, 2},
+     {{{1, 0, 0, 0, 1}, {3, 0, 0, 1, 4}, {0, 3, 2, 1, 4}, {2, 0, 0, 5, 1}}, 4}},
+    /* A tail of white space is no text. */
+    {"{\\\r \n}",
+     {{{1, 0, 0, 0, 1}, {2, 0, 0, 5, 1}}, 2},
+     {{{1, 0, 0, 0, 1}, {3, 0, 0, 1, 3}, {2, 0, 0, 5, 1}}, 3}},
+    {"{\\\r\n\\\r}",
+     {{{1, 0, 0, 0, 1}, {2, 0, 0, 6, 1}}, 2},
+     {{{1, 0, 0, 0, 1}, {3, 0, 0, 1, 3}, {3, 0, 0, 4, 2}, {2, 0, 0, 6, 1}}, 4}},
+    {"\\\r\n}",
+     {{{2, 0, 0, 3, 1}}, 1},
+     {{{3, 0, 0, 0, 3}, {2, 0, 0, 3, 1}}, 2}},
+    /* Behind two backslashes, and behind a backslash and a line feed, it is text. */
+    {"{\\\\\r\nb}",
+     {{{1, 0, 0, 0, 1}, {0, 2, 2, 1, 3}, {0, 5, 1, 4, 2}, {2, 0, 0, 6, 1}}, 4},
+     {{{1, 0, 0, 0, 1}, {0, 2, 2, 1, 3}, {0, 5, 1, 4, 2}, {2, 0, 0, 6, 1}}, 4}},
+    {"{\\\n\rb}",
+     {{{1, 0, 0, 0, 1}, {3, 0, 0, 1, 4}, {0, 3, 2, 1, 4}, {2, 0, 0, 5, 1}}, 4},
+     {{{1, 0, 0, 0, 1}, {3, 0, 0, 1, 4}, {0, 3, 2, 1, 4}, {2, 0, 0, 5, 1}}, 4}},
+};
+
+static void test_returns_cut(void)
+{
+    for (size_t i = 0; i < COUNT(returned) * COUNT(numbers); i++) {
+        const char *source = returned[i / COUNT(numbers)].source;
+        uint32_t number = numbers[i % COUNT(numbers)];
+        const struct returned *as = number == ELDUVARN_PARAGRAPHS
+                                        ? &returned[i / COUNT(numbers)].paragraphs
+                                        : &returned[i / COUNT(numbers)].plain;
+        uint32_t records[RETURN_TOKENS * ELDUVARN_TOKEN_WORDS] = {0};
+        for (uint32_t token = 0; token < as->count; token++) {
+            uint32_t *record = records + token * ELDUVARN_TOKEN_WORDS;
+            record[0] = as->tokens[token][0];
+            memcpy(record + 4, as->tokens[token] + 1, 4 * sizeof *record);
+        }
+        size_t enough = (size_t)as->count * ELDUVARN_TOKEN_WORDS;
+        cuts_to(source, strlen(source), number, enough, 0, 0, records, as->count);
+        cuts_to(source, strlen(source), number, enough + 9, 0, 0, records, as->count);
+        cuts_to(source, strlen(source), number, enough - 1, ELDUVARN_TOKEN_ROOM, 0, NULL, 0);
+    }
 }
 
 static void test_cut(void)
@@ -206,6 +280,7 @@ static void test_cut(void)
         if (refused[i].refusal <= ELDUVARN_LAST_SLICE)
             cut_refuses(refused[i].source, strlen(refused[i].source), 10 * ONE, refused[i].refusal,
                         refused[i].place);
+    test_returns_cut();
 }
 
 /* The reader. A letter with its counts, and its text in both readings. */
@@ -399,6 +474,56 @@ static void test_indents(void)
     }
 }
 
+/* Letters with a backslash and a carriage return; of each pair the first is for plain reading. */
+static const struct {
+    const char *source;
+    uint32_t tokens[2], blocks[2];
+    const char *texts[2];
+} broken[] = {
+    {"{a\\\rb}", {3, 5}, {1, 1}, {"a", "a\nb"}},
+    {"{a\\\r\nb}", {4, 5}, {1, 1}, {"ab", "a\nb"}},
+    {"{\\\r}", {2, 3}, {0, 1}, {"", "\n"}},
+    {"{\\\r\n\\\r}", {2, 4}, {0, 1}, {"", "\n\n"}},
+    {"{\\\\\r\nb}", {4, 4}, {1, 1}, {"\\\rb", "\\\rb"}},
+    {"{\\b a\\\r\\b0 b}", {6, 7}, {2, 2}, {"ab", "a\nb"}},
+    {"{\\u65 \\\r\\u66 }", {4, 5}, {1, 1}, {"A", "A\nB"}},
+    {"{{\\\r\\*x}b}", {6, 7}, {1, 1}, {"b", "b"}},
+    /* By paragraphs c is the group's first token, so the group is not hidden. */
+    {"{{\\\rc\\stylesheet x}b}", {7, 9}, {1, 1}, {"b", "\ncxb"}},
+};
+static const struct {
+    const char *source;
+    uint32_t refusals[2], places[2];
+} refused_by[] = {
+    {"{\\\r\\fonttbl}", {0, ELDUVARN_TABLE_LINE_BREAK}, {0, 3}},
+    {"{\\\r\n\\fonttbl}", {0, ELDUVARN_TABLE_LINE_BREAK}, {0, 4}},
+    {" {{\\\r\\\r\n\\colortbl}}", {0, ELDUVARN_TABLE_LINE_BREAK}, {0, 8}},
+    {"{{\\\rc\\*x}b}", {0, ELDUVARN_IGNORABLE_IN_BODY}, {0, 5}},
+    {"{}}\\\r}", {ELDUVARN_NO_STATE, ELDUVARN_NO_STATE}, {5, 3}},
+    {"{}}\\\r\nb}", {ELDUVARN_NO_STATE, ELDUVARN_NO_STATE}, {5, 3}},
+    {"\\\r{}", {0, ELDUVARN_FIRST_TOKEN}, {0, 0}},
+};
+
+static void test_returns_read(void)
+{
+    for (size_t by = 0; by < COUNT(readings); by++) {
+        for (size_t i = 0; i < COUNT(broken); i++) {
+            struct letter letter = {broken[i].source, broken[i].tokens[by], 0, 0,
+                                    broken[i].blocks[by], "", ""};
+            reads(readings[by], &letter, broken[i].texts[by]);
+        }
+        for (size_t i = 0; i < COUNT(refused_by); i++) {
+            const char *source = refused_by[i].source;
+            uint32_t refusal = refused_by[i].refusals[by];
+            struct read read = read_in(readings[by], source, strlen(source), ample);
+            told(refusal == 0 ? read.answer.place == 0
+                              : is_empty(&read, refused_by[i].places[by]),
+                 read.answer.refusal, refusal);
+            give_back();
+        }
+    }
+}
+
 /* Both sides of 64 states, of 65,536 bytes. */
 static void test_limits(void)
 {
@@ -448,6 +573,7 @@ static void test_read(void)
         reads_records(by, "{\\rtf1 a\\b b}", BLOCKS, listing, COUNT(listing));
     }
     test_indents();
+    test_returns_read();
     for (size_t i = 0; i < COUNT(refused); i++)
         refuses(refused[i].source, strlen(refused[i].source), refused[i].refusal, refused[i].place);
     test_limits();

@@ -7,6 +7,8 @@
  * zeros), then all elements of the rooms. Rooms are filled with junk and stand between guards, the
  * source between bytes that would change the answer if they were read. All is little endian.
  *
+ * A cutting's second size is the number of its reading, and is no room's.
+ *
  * Stored forms: the source of a check and of a reading is a list, that of a writing its blocks and
  * then its text; a writing's first size counts the words of the blocks, and is no room's. Blocks
  * are read into the fourth room and text into the fifth; a list is written into the fifth. The
@@ -27,7 +29,7 @@ struct answer {
 struct cut_answer {
     u32 refusal, place, tokens;
 };
-struct cut_answer elduvarn_cut(const u8 *, usize, u32 *, usize);
+struct cut_answer elduvarn_cut(const u8 *, usize, u32, u32 *, usize);
 #elif defined STORED
 struct stored_answer {
     u32 refusal;
@@ -184,17 +186,23 @@ static u32 guards_hold(const u8 *place, usize bytes)
     return 1;
 }
 
-/* What a call is given: a source, and blocks where it is a writing's text. */
+/* What a call is given: a source, with a reading where it is to be cut, and blocks where it is a
+ * writing's text. */
 struct given {
     u8 *source;
     usize length;
     u32 *blocks;
     usize words;
+    u32 reading;
 };
 
 static struct given given_by(u32 *head)
 {
-    struct given given = {0, head[1], 0, 0};
+    struct given given = {0, head[1], 0, 0, 0};
+    if (head[0] == CUT) {
+        given.reading = head[3];
+        head[3] = 0;
+    }
     if (head[0] == STORED_WRITE) {
         given.words = head[2];
         given.length -= 4 * given.words;
@@ -237,7 +245,7 @@ static struct answer answered(u32 function, struct given g, u8 **room, const u32
     for (int i = 0; i < 4; i++)
         words[i] = (u32 *)room[i];
 #ifdef CUTTER
-    struct cut_answer cut = elduvarn_cut(g.source, g.length, words[0], sizes[2]);
+    struct cut_answer cut = elduvarn_cut(g.source, g.length, g.reading, words[0], sizes[2]);
     struct answer answer = {{cut.refusal, cut.place, cut.tokens, 0, 0, 0, 0}};
     return answer;
 #else

@@ -34,7 +34,8 @@ struct Server {
 }
 
 /// Adds a request to others: rooms of such sizes in elements, filled with a junk byte. A writing's
-/// first size counts the words at the start of its source that are its blocks, and is no room's.
+/// first size counts the words at the start of its source that are its blocks, a cutting's second
+/// one is the number of its reading; these are no room's.
 pub fn request(onto: &mut Vec<u8>, function: u32, source: &[u8], sizes: [usize; 5], junk: u8) {
     let [a, b, c, d, e] = sizes.map(|size| size as u32);
     for number in [function, source.len() as u32, a, b, c, d, e, u32::from(junk)] {

@@ -5,6 +5,10 @@
 /// What the crate tells of a token.
 pub type Told = [u32; 6];
 
+/// The numbers of readings for our cutter; any other is plain.
+pub const PLAIN: u32 = 0;
+pub const PARAGRAPHS: u32 = 1;
+
 pub const SOURCE_LIMIT: usize = 65_536;
 
 pub const TOO_LONG: u32 = 1;

@@ -13,12 +13,16 @@ pub struct Alphabet {
     pub back: &'static str,
 }
 
-/// No fragment is glued to the one behind it: a word ends with its space.
+/// No word is glued to what is behind it: it ends with its space.
 #[rustfmt::skip]
-pub const ALPHABETS: [Alphabet; 7] = [
+pub const ALPHABETS: [Alphabet; 8] = [
     Alphabet { name: "body", front: "{", back: "}", fragments: &[
         "{", "}", "a", "\\b ", "\\b0 ", "\\plain ", "\\pard ", "\\fs7 ", "\\qc ", "\\uc0 ",
-        "\\u8212 ", "\\'97", "\\par ", "\\line ", "\\\n", "\\*", "\\cf-1 ",
+        "\\u8212 ", "\\'97", "\\par ", "\\line ", "\\\n", "\\*", "\\cf-1 ", "\\\r",
+    ]},
+    Alphabet { name: "returns", front: "{", back: "}", fragments: &[
+        "{", "}", "a", " ", "\\\r", "\\\r\n", "\\\n", "\r", "\n", "\\\\", "\\*", "\\stylesheet ",
+        "\\fonttbl ", "\\u65 ", "\\par ", "\\b ",
     ]},
     Alphabet { name: "indents", front: "{", back: "}", fragments: &[
         "{", "}", "a", "\\li9 ", "\\li0 ", "\\ri9 ", "\\ri ", "\\fi-9 ", "\\fi2147483647 ",
@@ -27,10 +31,11 @@ pub const ALPHABETS: [Alphabet; 7] = [
     Alphabet { name: "header", front: "{", back: "}", fragments: &[
         "{", "}", "\\*", "\\\n", "\\fonttbl ", "\\fonttbl1 ", "\\colortbl ", "\\colortbl0 ",
         "\\stylesheet ", "\\f1 ", "\\f ", "A;", "\\red9 ", "\\blue7 ", "\\blue256 ", "\\u65 ",
+        "\\\r\n",
     ]},
     Alphabet { name: "font table", front: "{{\\fonttbl ", back: "}a}", fragments: &[
         "{", "}", "\\f0 ", "\\f1 ", "\\f65537 ", "\\f-1 ", "\\f ", "A;", "B;;", ";", "\\\n", "\\*",
-        "\\fcharset0 ", "\\'41",
+        "\\fcharset0 ", "\\'41", "\\\r",
     ]},
     Alphabet { name: "colour table", front: "{{\\colortbl ", back: "}a}", fragments: &[
         "{", "}", "\\red1 ", "\\red255 ", "\\red-1 ", "\\green2 ", "\\green ", "\\blue3 ",
@@ -41,7 +46,7 @@ pub const ALPHABETS: [Alphabet; 7] = [
         "\\u-8704 ", "\\u70000 ", "\\u ", "a", "{\\*x}", "\\b ",
     ]},
     Alphabet { name: "brackets", front: "", back: "", fragments: &[
-        "{", "}", "a", "\\\n", "\n", "\\*", "\\b ", "\\par ", "\\f70000 ", "\\fonttbl ",
+        "{", "}", "a", "\\\n", "\\\r", "\n", "\\*", "\\b ", "\\par ", "\\f70000 ", "\\fonttbl ",
         "{\\fonttbl{\\f1 A;}}", "{\\colortbl\\blue1 ;}",
     ]},
 ];
@@ -123,17 +128,22 @@ pub const TELLING: &[&str] = &[
     "{a}}{\\b b}c}", "{\n\\b\n a\n}", "a{}", "{\\'41{\\'42}\\'43}", "{\\li9\\ri9\\fi9 a\\li0 b}",
     "{\\li1\\ri-2\\fi3 a\\pard b}", "{\\li-2147483648\\ri2147483647\\fi a}", "{{\\ri7 a}b{\\fi7 c}}",
     "{\\li5 a\\li\\fi5 b\\plain c}", "{\\fi4 \\u65 \\fi4 \\u66 \\par c}", "{\\li6 a}}{b\\li6 c}d}",
+    "{a\\\rb}", "{a\\\r\nb\\\r\n}", "{a\\\r\n\nb\\\n\rc}", "{\\b a\\\r\\\r\n \\b0 b}",
+    "{\\\\\rb\\\\\r\nc}", "{{\\\r\\fonttbl}}", "{{\\\r\n\\\r\\colortbl}}", "{{\\\r\n\n\\*x}a}",
+    "{{\\\r\\stylesheet}a}", "{{\\\rb\\stylesheet c}a}", "{{\\\rb\\*c}a}",
+    "{{\\fonttbl{\\f1 A\\\rB;}}a}", "{}}\\\r}", "{}}\\\r\n{b}c}", "{\\u65 \\\r\\u66 }",
+    "{\\u-10179 \\\r\n\\u-8704 }", "{\\u8212 \\\r\\'41}", "{a}\\\r\n", "\\\r{a}",
 ];
 
 /// What is refused wherever it is read, by each number from 3 to 5 and from 10 to 15; 6 and 9 are
-/// met at the ends of a letter.
+/// met at the ends of a letter. The last two are refused by paragraphs, and often only there.
 #[rustfmt::skip]
-const FAULTS: [&str; 21] = [
+const FAULTS: [&str; 23] = [
     "\\'4", "\\'zz", "\\b-", "\\zz9999999999;", "{\\\n\\fonttbl x}", "{\\\n\n\\\na\\colortbl}",
     "{\\\n \\\n\\colortbl}", "{\\fonttbl{\\f1 A;}b\\f C;}", "{\\colortbl;\\red256 ;}",
     "{\\colortbl;\\green1 \\blue-1;}", "\\cf65536 ", "\\f-1 ", "\\fs70000 ", "\\*a",
     "}}}a", "}}}}\\b ", "}}}\\\n", "}} } \\u65 \\'42a", "}}}\\'41\\u \\u66 ", "}}{}}\\zz1 a",
-    "\\sl-2147483648 ",
+    "\\sl-2147483648 ", "{\\\r\n \\\r\\fonttbl x}", "}}}\\\r\na",
 ];
 /// What may stand before a letter: white space, and slices without a token.
 pub const FRONTS: [&str; 4] = ["", " \t\n", "\\~x\n", "\\-\\~ \n \\;"];

@@ -8,7 +8,11 @@ const LETTERS: &[u8] = b"abcdefghijklmnopqrstuvwxyz";
 const TEXT: &[u8] = b"abcdefghijklmnopqrstuvwxyz     ABCXYZ0123456789.,;:!?-+*'\"()/~_";
 const WHITE: &[u8] = b"      \t\n\x0b\x0c\r";
 const HEX: &[u8] = b"0123456789abcdefABCDEF";
-const ESCAPES: &[&[u8]] = &[b"\\{", b"\\}", b"\\\\", b"\\\\{", b"\\\\}", b"\\\\\n", b"\\\\\\"];
+#[rustfmt::skip]
+const ESCAPES: &[&[u8]] = &[
+    b"\\{", b"\\}", b"\\\\", b"\\\\{", b"\\\\}", b"\\\\\n", b"\\\\\\", b"\\\\\r\n",
+];
+const LINE_BREAKS: &[&[u8]] = &[b"\\\n", b"\\\n", b"\\\r\n", b"\\\r"];
 const ODD: &[u8] = b"~-_:|0189 \t\r\x0b\x0c\x00\x1f\x7fABZ;\"[^`@";
 
 /// How a letter is drawn.
@@ -80,7 +84,7 @@ impl Draft<'_> {
             5..10 => self.known_word(),
             10..12 => self.unknown_word(),
             12..14 => self.hex(),
-            14 => self.put(b"\\\n"),
+            14 => self.line_break(),
             15 => self.some(WHITE, 1, 4),
             16 => self.escape(),
             17 => self.put(b"\\*"),
@@ -169,6 +173,11 @@ impl Draft<'_> {
         if self.random.once_in(2) {
             self.some(TEXT, 1, 6);
         }
+    }
+
+    fn line_break(&mut self) {
+        let line_break = *self.random.pick(LINE_BREAKS);
+        self.put(line_break);
     }
 
     fn odd(&mut self) {

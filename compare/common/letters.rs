@@ -8,6 +8,8 @@ pub type Sink<'a> = dyn FnMut(&[u8]) + 'a;
 pub const MARKS: &[u8] = b"{}\\'*;-0au\n ";
 /// White space of all kinds among the bytes that start a slice.
 pub const SPACES: &[u8] = b"\t\n\x0b\x0c\r \\{}a";
+/// Those that tell what a backslash and a carriage return are; few, so that strings may be longer.
+pub const RETURNS: &[u8] = b"\\\r\na{} ";
 
 /// Small letters, each with a rule's turn in it.
 #[rustfmt::skip]
@@ -27,7 +29,10 @@ pub const TELLING: &[&[u8]] = &[
     b"{\\ }", b"{\\  }", b"{\\ a}", b"{\\ \t}", b"{\\~a}", b"{\\-}", b"{\\_}", b"{\\0}", b"{\\;}",
     b"{\\\x00}", b"{\\\x7f}", b"{\\\t}", b"{\\", b"{\\b", b"{}a", b"{}\n", b"{a\\}", b"{a\\'}",
     b"{\\'zz\\b-}", b"{\\b-\\'zz}", b"{\\b-", b"{\\'4", b"{\\ \\b1}", b"{\\u8212 \\'97}",
-    b"{\\fonttbl{\\f1 Arial;}}", b"{\\rtf1\\ansi a\\b b\\b0\\par}",
+    b"{\\fonttbl{\\f1 Arial;}}", b"{\\rtf1\\ansi a\\b b\\b0\\par}", b"{\\\r}", b"{\\\ra}",
+    b"{\\\r\na}", b"{\\\r a }", b"{\\\r\n \t}", b"{\\\r\n\na}", b"{\\\r\ra}", b"{\\\r\\\r\n}",
+    b"{\\\r{a}}", b"{\\\n\ra}", b"{\\\\\r}", b"{\\\\\r\na}", b"{\\\\\\\r\na}", b"{\\ \r\n}",
+    b"{a\\\r", b"{}\\\r\n", b"\\\r\na}", b" \\\r}",
 ];
 
 /// All strings over an alphabet, shortest first, as they are and in braces.
@@ -184,7 +189,7 @@ pub fn numbers(sink: &mut Sink) {
 pub fn long(sink: &mut Sink) {
     const UNITS: &[&[u8]] = &[
         b"{", b"}", b"\\\n", b"\n", b"\\b", b"\\b1 ", b"\\zz ", b"\\'41", b"a", b" ", b"\\\\",
-        b"\\{", b"\\*", b"{a", b"}\n", b"0", b"\\b a", b"\x0b",
+        b"\\{", b"\\*", b"{a", b"}\n", b"0", b"\\b a", b"\x0b", b"\\\r", b"\\\r\na",
     ];
     for unit in UNITS {
         for size in [100, 1_000, 4_096, 30_000, SOURCE_LIMIT - 1, SOURCE_LIMIT] {

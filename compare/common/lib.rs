@@ -4,7 +4,7 @@
 //!   grammar   letters at random
 //!   mutate    damaged letters
 //!   fragments, reading_grammar   letters for the whole reading, listed and at random
-//!   oracle    the crate's answers, from both of its builds
+//!   oracle    the crate's answers, from both of its builds; mended, what it is asked by paragraphs
 //!   cut       the form of the crate's cuttings
 //!   whole     the form of its readings
 //!   room      what is lent for a call
@@ -16,6 +16,7 @@ pub mod cut;
 pub mod fragments;
 pub mod grammar;
 pub mod letters;
+pub mod mended;
 pub mod mutate;
 pub mod oracle;
 pub mod program;

@@ -1,9 +1,10 @@
 //! The crate's answers in our form. The crate is linked twice, with overflow checks off and on.
 
 use crate::cut::{Cut, NAMES};
+use crate::mended::{Mended, Placed};
 use crate::whole::Whole;
 use std::cell::RefCell;
-use std::panic;
+use std::panic::{self, UnwindSafe};
 
 pub mod wrapping {
     use rtf_parser_wrap as rtf_parser;
@@ -28,9 +29,21 @@ thread_local! {
     static LAST_PANIC: RefCell<String> = const { RefCell::new(String::new()) };
 }
 
-/// Keeps the message of a panic for the report instead of printing it at once.
-fn caught<T>(read: impl FnOnce() -> T + panic::UnwindSafe) -> Reading<T> {
-    match panic::catch_unwind(read) {
+/// What the crate makes of a letter, by paragraphs of the mended one. Keeps the message of a panic
+/// for the report instead of printing it at once.
+fn caught<T: Placed>(
+    source: &str,
+    paragraphs: bool,
+    read: impl FnOnce(&str) -> T + UnwindSafe,
+) -> Reading<T> {
+    let answer = panic::catch_unwind(|| {
+        if !paragraphs {
+            return read(source);
+        }
+        let mended = Mended::new(source);
+        mended.told(read(&mended.letter))
+    });
+    match answer {
         Ok(answer) => Reading::Answered(answer),
         Err(_) => Reading::Panicked(LAST_PANIC.with_borrow(String::clone)),
     }
@@ -45,17 +58,20 @@ pub fn quietly<T>(work: impl FnOnce() -> T) -> T {
     result
 }
 
-pub fn wrapping_reading(source: &str) -> Reading {
-    caught(|| wrapping::cut(source))
+pub fn wrapping_reading(source: &str, paragraphs: bool) -> Reading {
+    caught(source, paragraphs, wrapping::cut)
 }
 
-pub fn checked_reading(source: &str) -> Reading {
-    caught(|| checked::cut(source))
+pub fn checked_reading(source: &str, paragraphs: bool) -> Reading {
+    caught(source, paragraphs, checked::cut)
 }
 
 /// What the two builds make of a letter, overflow checks off and on.
 pub fn whole_readings(source: &str, paragraphs: bool) -> [Reading<Whole>; 2] {
-    [caught(|| wrapping::read(source, paragraphs)), caught(|| checked::read(source, paragraphs))]
+    [
+        caught(source, paragraphs, |source| wrapping::read(source, paragraphs)),
+        caught(source, paragraphs, |source| checked::read(source, paragraphs)),
+    ]
 }
 
 /// Our numbers for the crate's words are the places of their names in the table.

@@ -6,7 +6,7 @@ use rtf_parser::{
 };
 
 /// The crate's reading; with `paragraphs`, its reading of the tokens with `line` for each `par`,
-/// which is what 01 says that paragraph reading adds.
+/// which is what 01 says that paragraph reading adds. What A2 adds is `mended`'s.
 pub fn read(source: &str, paragraphs: bool) -> Whole {
     let mut tokens = match Lexer::scan(source) {
         Ok(tokens) => tokens,

@@ -27,16 +27,29 @@ const UNITS: [&str; 12] =
     ["65", "233", "255", "256", "8212", "-3913", "-1", "0", "65535", "2048", "2047", "128"];
 const NO_UNITS: [&str; 5] = ["", "65536", "-65537", "2147483647", "-2147483648"];
 const SKIPS: [&str; 10] = ["", "0", "1", "1", "2", "2", "3", "10", "1000", "65535"];
-const HIDDEN: [&str; 5] = ["{\\*", "{\\*\\gen ", "{\\stylesheet", "{\\\n\\*", "{\\\n\\stylesheet "];
+const LINE_BREAKS: [&str; 4] = ["\\\n", "\\\n", "\\\r\n", "\\\r"];
+#[rustfmt::skip]
+const HIDDEN: [&str; 7] = [
+    "{\\*", "{\\*\\gen ", "{\\stylesheet", "{\\\n\\*", "{\\\n\\stylesheet ", "{\\\r\\*",
+    "{\\\r\n\\stylesheet ",
+];
 const KEYS: [&str; 9] = ["0", "1", "1", "2", "3", "65535", "65536", "-1", "70001"];
-const FAMILIES: [&str; 5] = ["", "\\fswiss", "\\fcharset0", "\\froman\\fcharset2", "\\\n"];
+const FAMILIES: [&str; 6] =
+    ["", "\\fswiss", "\\fcharset0", "\\froman\\fcharset2", "\\\n", "\\\r\n"];
+const BROKEN_TABLES: [&str; 4] = [
+    "{\\\n\\fonttbl{\\f0 A;}}",
+    "{\\\r\n\\fonttbl{\\f0 A;}}",
+    "{\\\n\\colortbl;}",
+    "{\\\r\\colortbl;}",
+];
 const FONTS: [&str; 6] = ["", " Arial;", " Times New Roman;", " ;;", " A;B;", "x"];
 /// What a letter may hold and seldom does.
 #[rustfmt::skip]
-const ODDITIES: [&str; 22] = [
+const ODDITIES: [&str; 24] = [
     "\n", " ", "\\{", "\\}", "\\\\", "\\\\{", "\\~", "\\-", "\\ ", "\\zz ", "\\fonttbl1 ",
     "\\fonttbl ", "\\colortbl ", "\\stylesheet ", "\\red1 ", "\\blue ", "\\par1 ", "\x0b",
-    "\\line7 ", "{\\fonttbl1 A;}", "{\\colortbl0 \\blue1 }", "{\\stylesheet2 a}",
+    "\\line7 ", "{\\fonttbl1 A;}", "{\\colortbl0 \\blue1 }", "{\\stylesheet2 a}", "\r\n",
+    "\\\\\r\n",
 ];
 /// The three things outside 01's equality with the crate.
 const OUTSIDE: [&str; 5] =
@@ -114,7 +127,7 @@ impl Draft<'_> {
             14 | 15 => self.style(&INDENTS, &INDENT_NUMBERS),
             16..19 => self.style(&BARE, &["", "", "", "1"]),
             19..22 => self.units(),
-            22 => self.put("\\\n"),
+            22 => self.any(&LINE_BREAKS),
             23 => self.hidden(depth),
             24 if self.random.once_in(4) => self.table(),
             24 => self.style(&NAMES, &["", "1"]),
@@ -202,8 +215,7 @@ impl Draft<'_> {
     fn fault(&mut self) {
         match self.random.below(12) {
             0 => self.put("\\*"),
-            1 => self.put("{\\\n\\fonttbl{\\f0 A;}}"),
-            2 => self.put("{\\\n\\colortbl;}"),
+            1 | 2 => self.any(&BROKEN_TABLES),
             3 => self.put("{\\fonttbl{\\f0 A;}{\\f B;}}"),
             4 => self.put("{\\colortbl\\red256\\blue0;}"),
             5 => self.style(&SIZES, &["-1", "65536", "2147483647", "-2147483648"]),

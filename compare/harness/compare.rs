@@ -44,6 +44,9 @@ fn listed(judge: &mut Judge, depth: usize) {
     part(judge, "all strings of white space", |judge| {
         letters::every_string(letters::SPACES, depth, &mut |letter| judge.letter(letter))
     });
+    part(judge, "all strings of returns", |judge| {
+        letters::every_string(letters::RETURNS, depth + 1, &mut |letter| judge.letter(letter))
+    });
     for (name, family) in FAMILIES {
         part(judge, name, |judge| family(&mut |letter| judge.letter(letter)));
     }

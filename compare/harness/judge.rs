@@ -1,17 +1,21 @@
-//! One letter on all sides: the model against the crate, ours against the model, word by word.
+//! One letter on all sides, in both readings: the model against the crate, ours against the model,
+//! word by word.
 
 use crate::ours;
 use crate::report;
 use crate::seen::Seen;
-use common::cut::ROOM_SMALL;
+use common::cut::{PARAGRAPHS, PLAIN, ROOM_SMALL};
+use common::mended::has_return;
 use common::oracle::{self, Reading};
 use common::random::Random;
 use common::room::{Room, Source};
-use model::{Cut, Refusal, Token, TOKEN_WORDS};
+use model::{Cut, Kind, Refusal, Token, KINDS, TOKEN_WORDS};
 
 /// One letter in so many is also tried in small rooms, and each that is so short.
 const SMALL_ROOMS: usize = 8;
 const SHORT: usize = 4;
+/// One plain cutting in so many says so by another number than 0.
+const OTHER_NUMBER: usize = 8;
 
 pub struct Judge {
     pub letters: u64,
@@ -27,6 +31,8 @@ pub struct Judge {
 
 /// Our answer in one room, where it is not the one expected.
 pub struct Fault {
+    /// The number of the reading.
+    pub reading: u32,
     pub words: usize,
     /// Refusal number, its place, token count.
     pub numbers: [u32; 3],
@@ -52,46 +58,69 @@ impl Judge {
     /// with the model, which alone has slices and places.
     pub fn letter(&mut self, letter: &[u8]) {
         let text = std::str::from_utf8(letter).expect("a letter for the crate is ASCII");
-        let wrapping = oracle::wrapping_reading(text);
-        let checked = oracle::checked_reading(text);
-        let cut = model::cut(letter);
-        let answer = cut.as_deref().map_err(|refusal| refusal.number);
-        let agrees = matches!(&wrapping, Reading::Answered(told) if told.agrees(answer))
-            && wrapping == checked;
-        if agrees {
-            let small_rooms = letter.len() <= SHORT || self.random.once_in(SMALL_ROOMS);
-            self.expect(letter, &cut, small_rooms);
-        } else {
-            self.letters += 1;
-            self.differ(|| report::builds(letter, &cut, &wrapping, &checked));
+        let cuts = KINDS.map(|kind| model::cut(letter, kind));
+        let mut says =
+            [oracle::wrapping_reading(text, false), oracle::checked_reading(text, false)];
+        for (kind, cut) in KINDS.into_iter().zip(&cuts) {
+            // Without these bytes the crate is asked the same.
+            if kind == Kind::Paragraphs && has_return(text) {
+                says = [oracle::wrapping_reading(text, true), oracle::checked_reading(text, true)];
+            }
+            let answer = cut.as_deref().map_err(|refusal| refusal.number);
+            let [wrapping, checked] = &says;
+            let agrees = matches!(wrapping, Reading::Answered(told) if told.agrees(answer));
+            if !agrees || wrapping != checked {
+                self.letters += 1;
+                return self.differ(|| report::builds(letter, kind, cut, wrapping, checked));
+            }
         }
+        let small_rooms = letter.len() <= SHORT || self.random.once_in(SMALL_ROOMS);
+        self.expect(letter, &cuts, small_rooms);
     }
 
-    /// Compares our answer with `cut`, in an ample room and, if wanted, in small ones.
-    pub fn expect(&mut self, letter: &[u8], cut: &Cut, small_rooms: bool) {
+    /// Expects a refusal without a place in both readings.
+    pub fn expect_refused(&mut self, letter: &[u8], number: u32, small_rooms: bool) {
+        self.expect(letter, &KINDS.map(|_| Err(Refusal::nowhere(number))), small_rooms);
+    }
+
+    /// Compares our answers with `cuts`, in an ample room and, if wanted, in small ones.
+    fn expect(&mut self, letter: &[u8], cuts: &[Cut; 2], small_rooms: bool) {
         self.letters += 1;
-        self.seen.count(cut);
+        self.seen.count(cuts);
         // No byte gives more than one token, so this is ample whatever the answer is.
         let ample = (letter.len() + 2) * TOKEN_WORDS - 1;
-        let mut fault = self.call(letter, cut, ample).err();
-        if small_rooms && fault.is_none() {
-            fault = rooms(enough(cut))
-                .into_iter()
-                .find_map(|words| self.call(letter, cut, words).err());
-        }
-        if let Some(fault) = fault {
-            self.differ(|| report::fault(letter, cut, &fault));
+        for (kind, cut) in KINDS.into_iter().zip(cuts) {
+            let mut fault = self.call(letter, kind, cut, ample).err();
+            if small_rooms && fault.is_none() {
+                fault = rooms(enough(cut))
+                    .into_iter()
+                    .find_map(|words| self.call(letter, kind, cut, words).err());
+            }
+            if let Some(fault) = fault {
+                return self.differ(|| report::fault(letter, cut, &fault));
+            }
         }
     }
 
-    fn call(&mut self, letter: &[u8], cut: &Cut, words: usize) -> Result<(), Fault> {
+    fn reading(&mut self, kind: Kind) -> u32 {
+        match kind {
+            Kind::Paragraphs => PARAGRAPHS,
+            Kind::Plain if self.random.once_in(OTHER_NUMBER) => {
+                *self.random.pick(&[2, 3, 256, 257, 1 << 31, u32::MAX])
+            }
+            Kind::Plain => PLAIN,
+        }
+    }
+
+    fn call(&mut self, letter: &[u8], kind: Kind, cut: &Cut, words: usize) -> Result<(), Fault> {
         self.calls += 1;
         let (refusal, records) = in_room(cut, words);
         if refusal.number == ROOM_SMALL {
             self.seen.count_small_room();
         }
+        let reading = self.reading(kind);
         let junk = self.random.draw() as u32 | 0x8000_0001;
-        let numbers = ours::cut(self.source.lend(letter), self.room.lend(words, junk));
+        let numbers = ours::cut(self.source.lend(letter), reading, self.room.lend(words, junk));
         let wrong = wrong_word(self.room.lent(), records.as_flattened(), junk);
         let what = if !self.room.guards_hold() {
             "a word outside the room was written".to_string()
@@ -103,7 +132,7 @@ impl Judge {
             return Ok(());
         };
         let room = self.room.lent().to_vec();
-        Err(Fault { words, numbers, what, room })
+        Err(Fault { reading, words, numbers, what, room })
     }
 
     fn differ(&mut self, print: impl FnOnce()) {

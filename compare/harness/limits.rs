@@ -3,7 +3,6 @@
 use crate::judge::Judge;
 use common::cut::{NOT_ASCII, SOURCE_LIMIT, TOO_LONG};
 use common::letters::{repeated, TELLING};
-use model::Refusal;
 
 /// Each byte above 127 in each place of each telling letter, whatever else is wrong with it.
 pub fn bytes_above_127(judge: &mut Judge) {
@@ -12,12 +11,12 @@ pub fn bytes_above_127(judge: &mut Judge) {
             for byte in 128..=255 {
                 let mut put = letter.to_vec();
                 put.insert(place, byte);
-                judge.expect(&put, &Err(Refusal::nowhere(NOT_ASCII)), byte % 16 == 0);
+                judge.expect_refused(&put, NOT_ASCII, byte % 16 == 0);
             }
         }
     }
     for text in ["\u{e9}", "{\u{2014}}", "{\u{1f600}}", "\u{a0}{}", "{}\u{2003}", "{\\\u{e9}}"] {
-        judge.expect(text.as_bytes(), &Err(Refusal::nowhere(NOT_ASCII)), true);
+        judge.expect_refused(text.as_bytes(), NOT_ASCII, true);
     }
 }
 
@@ -29,7 +28,7 @@ pub fn length(judge: &mut Judge) {
             for place in [0, size / 2, size - 1] {
                 let mut put = letter.clone();
                 put[place] = 0xe9;
-                judge.expect(&put, &Err(Refusal::nowhere(NOT_ASCII)), false);
+                judge.expect_refused(&put, NOT_ASCII, false);
             }
         }
     }
@@ -37,9 +36,9 @@ pub fn length(judge: &mut Judge) {
         [SOURCE_LIMIT + 1, SOURCE_LIMIT + 2, 2 * SOURCE_LIMIT, 2 * SOURCE_LIMIT + 2, 1 << 20]
     {
         for mut letter in of_size(size) {
-            judge.expect(&letter, &Err(Refusal::nowhere(TOO_LONG)), true);
+            judge.expect_refused(&letter, TOO_LONG, true);
             letter[size / 2] = 0xe9;
-            judge.expect(&letter, &Err(Refusal::nowhere(TOO_LONG)), false);
+            judge.expect_refused(&letter, TOO_LONG, false);
         }
     }
 }

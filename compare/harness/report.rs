@@ -3,7 +3,7 @@
 use crate::judge::{in_room, Fault};
 use common::cut;
 use common::oracle::Reading;
-use model::{Cut, Refusal, TOKEN_WORDS};
+use model::{Cut, Kind, Refusal, TOKEN_WORDS};
 use std::fmt::Debug;
 
 /// Bytes of a letter, and records of an answer, that are shown.
@@ -11,8 +11,11 @@ const SHOWN_BYTES: usize = 200;
 const SHOWN_RECORDS: usize = 12;
 
 /// The two builds of the crate and the model do not agree, or a build panicked.
-pub fn builds(letter: &[u8], cut: &Cut, wrapping: &Reading, checked: &Reading) {
-    println!("CRATE DIFFERS FROM ITSELF OR FROM THE MODEL, OR PANICS: {}", escaped(letter));
+pub fn builds(letter: &[u8], kind: Kind, cut: &Cut, wrapping: &Reading, checked: &Reading) {
+    println!(
+        "CRATE DIFFERS FROM ITSELF OR FROM THE MODEL, OR PANICS, {kind:?}: {}",
+        escaped(letter)
+    );
     println!("  overflow checks off: {}", reading(wrapping));
     println!("  overflow checks on:  {}", reading(checked));
     match cut {
@@ -23,7 +26,7 @@ pub fn builds(letter: &[u8], cut: &Cut, wrapping: &Reading, checked: &Reading) {
 
 /// Our answer is not the one expected.
 pub fn fault(letter: &[u8], cut: &Cut, fault: &Fault) {
-    println!("DIFFERENCE: {}", escaped(letter));
+    println!("DIFFERENCE, reading {}: {}", fault.reading, escaped(letter));
     println!("  room of {} words: {}", fault.words, fault.what);
     let (Refusal { number, place }, records) = in_room(cut, fault.words);
     let count = records.len();

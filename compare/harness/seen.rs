@@ -1,8 +1,9 @@
 //! What the letters have covered, so that a run that tested little shows.
 
-use common::cut::{NAMES, ROOM_SMALL, WORD};
-use model::Cut;
+use common::cut::{LINE_BREAK, NAMES, ROOM_SMALL, WORD};
+use model::{Cut, Token};
 
+/// Of plain cuttings, but for what is said of `returns`.
 #[derive(Default)]
 pub struct Seen {
     refusals: [u64; ROOM_SMALL as usize + 1],
@@ -11,11 +12,17 @@ pub struct Seen {
     kinds: [u64; WORD as usize + 1],
     words: Vec<u64>,
     longest: usize,
+    /// Letters that are cut and have more line breaks by paragraphs, those of them with more texts,
+    /// and the most line breaks more.
+    returns: [u64; 3],
 }
 
 impl Seen {
-    pub fn count(&mut self, cut: &Cut) {
-        match cut {
+    pub fn count(&mut self, [plain, paragraphs]: &[Cut; 2]) {
+        if let (Ok(plain), Ok(paragraphs)) = (plain, paragraphs) {
+            self.count_returns(plain, paragraphs);
+        }
+        match plain {
             Err(refusal) => {
                 self.refusals[refusal.number as usize] += 1;
                 self.placed[refusal.number as usize] += u64::from(refusal.place > 0);
@@ -32,6 +39,16 @@ impl Seen {
                 self.longest = self.longest.max(records.len());
             }
         }
+    }
+
+    fn count_returns(&mut self, plain: &[Token], paragraphs: &[Token]) {
+        let breaks =
+            |tokens: &[Token]| tokens.iter().filter(|token| token[0] == LINE_BREAK).count();
+        let more = breaks(paragraphs) - breaks(plain);
+        let [letters, with_texts, most] = &mut self.returns;
+        *letters += u64::from(more > 0);
+        *with_texts += u64::from(paragraphs.len() > plain.len() + more);
+        *most = (more as u64).max(*most);
     }
 
     pub fn count_small_room(&mut self) {
@@ -57,5 +74,10 @@ impl Seen {
         );
         let met = self.words.iter().filter(|count| **count > 0).count();
         println!("words:   {met} of {} met", NAMES.len() + 1);
+        let [letters, with_texts, most] = self.returns;
+        println!(
+            "by paragraphs: {letters} letters with line breaks more, at most {most}, {with_texts} \
+             of them with texts more"
+        );
     }
 }

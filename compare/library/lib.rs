@@ -67,6 +67,7 @@ extern "C" {
     fn elduvarn_cut(
         source: *const u8,
         source_len: usize,
+        reading: u32,
         tokens: *mut u32,
         tokens_len: usize,
     ) -> CutAnswer;
@@ -95,11 +96,12 @@ pub struct Slices<'a> {
     pub text: &'a mut [u8],
 }
 
-/// Cuts a source of any length and bytes into a room of any size: refusal number, its place, token
-/// count.
-pub fn cut(source: &[u8], room: &mut [u32]) -> [u32; 3] {
-    let CutAnswer { refusal, place, tokens } =
-        unsafe { elduvarn_cut(source.as_ptr(), source.len(), room.as_mut_ptr(), room.len()) };
+/// Cuts a source of any length and bytes, by the reading of any number, into a room of any size:
+/// refusal number, its place, token count.
+pub fn cut(source: &[u8], reading: u32, room: &mut [u32]) -> [u32; 3] {
+    let CutAnswer { refusal, place, tokens } = unsafe {
+        elduvarn_cut(source.as_ptr(), source.len(), reading, room.as_mut_ptr(), room.len())
+    };
     [refusal, place, tokens]
 }
 

@@ -1,6 +1,6 @@
-//! 01's "Cutting", with the mended rules on byte 11.
+//! 01's "Cutting", with the mended rules on byte 11, and A2's on a carriage return.
 
-use crate::{Cut, Refusal, Token};
+use crate::{Cut, Kind, Refusal, Token};
 
 pub const TEXT: u32 = 0;
 pub const OPEN: u32 = 1;
@@ -49,7 +49,7 @@ struct Part<'a> {
     end: usize,
 }
 
-pub fn tokens(source: &[u8]) -> Cut {
+pub fn tokens(source: &[u8], kind: Kind) -> Cut {
     if source.len() > 65_536 {
         return Err(Refusal::nowhere(1));
     }
@@ -63,9 +63,9 @@ pub fn tokens(source: &[u8]) -> Cut {
     let end = source.iter().rposition(|byte| !white(*byte)).map_or(start, |last| last + 1);
     let mut told = Vec::new();
     for place in start + 1..end {
-        if special(source[place]) && source[place - 1] != b'\\' {
-            let whole = Part { source, start, end: place };
-            slice(whole, &mut told).map_err(|number| whole.refused(number))?;
+        let whole = Part { source, start, end: place };
+        if whole.ends_before(source[place], kind) {
+            slice(whole, kind, &mut told).map_err(|number| whole.refused(number))?;
             tokens.extend(told.drain(..).map(|told| whole.token(told)));
             start = place;
         }
@@ -78,22 +78,22 @@ pub fn tokens(source: &[u8]) -> Cut {
     Ok(tokens)
 }
 
-fn slice(part: Part, tokens: &mut Vec<Told>) -> Result<(), u32> {
+fn slice(part: Part, kind: Kind, tokens: &mut Vec<Told>) -> Result<(), u32> {
     match part.bytes().first() {
         None => return Ok(()),
         Some(b'{') => tokens.push(bare(OPEN)),
         Some(b'}') => tokens.push(bare(CLOSE)),
         Some(b'\n') => {}
-        Some(b'\\') => return escape(part, tokens),
+        Some(b'\\') => return escape(part, kind, tokens),
         Some(_) => {
             plain_tail(part, tokens);
             return Ok(());
         }
     }
-    slice(part.after(1), tokens)
+    slice(part.after(1), kind, tokens)
 }
 
-fn escape(part: Part, tokens: &mut Vec<Told>) -> Result<(), u32> {
+fn escape(part: Part, kind: Kind, tokens: &mut Vec<Told>) -> Result<(), u32> {
     match part.after(1).bytes().first() {
         Some(b'{' | b'}' | b'\\') => tokens.push(text(part.after(1))),
         Some(b'\'') => {
@@ -104,6 +104,11 @@ fn escape(part: Part, tokens: &mut Vec<Told>) -> Result<(), u32> {
         Some(b'\n') => {
             tokens.push(bare(LINE_BREAK));
             plain_tail(part.after(2), tokens);
+        }
+        Some(b'\r') if kind == Kind::Paragraphs => {
+            tokens.push(bare(LINE_BREAK));
+            let taken = if part.bytes().get(2) == Some(&b'\n') { 3 } else { 2 };
+            plain_tail(part.after(taken), tokens);
         }
         Some(b'a'..=b'z') => return word(part, tokens),
         Some(b'*') => tokens.push(bare(IGNORABLE)),
@@ -191,6 +196,13 @@ impl<'a> Part<'a> {
     /// Without so many bytes in front, or the empty part at its end.
     fn after(self, bytes: usize) -> Self {
         Part { start: (self.start + bytes).min(self.end), ..self }
+    }
+
+    /// Whether the byte behind what there is of a slice starts the next one. By paragraphs a line
+    /// feed directly behind a backslash and a carriage return is theirs.
+    fn ends_before(self, byte: u8, kind: Kind) -> bool {
+        let theirs = kind == Kind::Paragraphs && byte == b'\n' && self.bytes() == b"\\\r";
+        special(byte) && !self.bytes().ends_with(b"\\") && !theirs
     }
 
     /// A token that was cut from this slice.

@@ -1,7 +1,7 @@
-//! A model of both readings, written from document 01, requests A4 and A5 and the mended rules of
-//! docs/DIFFERENCES.md. It knows neither the crate nor our library, and takes the shortest way that
-//! a rule allows: it judges what the crate has no answer for, as are slices, refusals' places and
-//! indents.
+//! A model of both readings, written from document 01, requests A2, A4 and A5 and the mended rules
+//! of docs/DIFFERENCES.md. It knows neither the crate nor our library, and takes the shortest way
+//! that a rule allows: it judges what the crate has no answer for, as are slices, refusals' places
+//! and indents.
 //!
 //!   cut      tokens
 //!   header   the walk and the tables
@@ -131,8 +131,8 @@ impl Answer {
 }
 
 /// Cuts a source of any length and bytes, in a room that holds everything.
-pub fn cut(source: &[u8]) -> Cut {
-    cut::tokens(source)
+pub fn cut(source: &[u8], kind: Kind) -> Cut {
+    cut::tokens(source, kind)
 }
 
 /// What a token room of so many words shows of a cutting.
@@ -155,7 +155,7 @@ pub fn read(source: &[u8], kind: Kind, rooms: &Rooms) -> (Answer, Met) {
 }
 
 fn answer(source: &[u8], kind: Kind, rooms: &Rooms, met: &mut Met) -> Result<Answer, Refusal> {
-    let cut = cut(source);
+    let cut = cut(source, kind);
     let tokens = in_room(&cut, rooms[TOKENS])?;
     let first = tokens.first().ok_or(Refusal::nowhere(8))?;
     if first[0] != cut::OPEN {

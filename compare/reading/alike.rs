@@ -13,7 +13,7 @@ use crate::{ours, report, small};
 use common::oracle::{self, Reading};
 use common::random::Random;
 use common::whole::{Document, Whole};
-use model::{Kind, Rooms, KINDS, TOKENS, WIDTHS};
+use model::{Answer, Kind, Rooms, KINDS, TOKENS, WIDTHS};
 
 /// How often each pair is read in small rooms.
 const TIMES: usize = 2;
@@ -46,8 +46,8 @@ pub struct Judge {
 }
 
 /// Whether both letters are cut and differ only inside hidden groups.
-pub fn premise(letters: &Letters) -> bool {
-    let [one, two] = letters.each_ref().map(|letter| veil(letter));
+pub fn premise(letters: &Letters, kind: Kind) -> bool {
+    let [one, two] = letters.each_ref().map(|letter| veil(letter, kind));
     one.is_some() && one == two
 }
 
@@ -107,10 +107,10 @@ impl Judge {
         self.most_holes = self.most_holes.max(pair.holes);
         self.largest = self.largest.max(pair.largest);
         self.compare(&pair.letters);
-        if !premise(&pair.letters) {
+        for kind in KINDS.into_iter().filter(|kind| !premise(&pair.letters, *kind)) {
             let nothing = ["", ""].map(String::from);
-            let told = || difference("outside the premise", &pair.letters, &nothing);
-            self.differences.found(self.pairs, told);
+            let side = format!("outside the premise, {kind:?}");
+            self.differences.found(self.pairs, || difference(&side, &pair.letters, &nothing));
         }
     }
 
@@ -120,17 +120,19 @@ impl Judge {
         let bytes = letters.iter().map(Vec::len).max().unwrap_or(0);
         self.longest = self.longest.max(bytes);
         let ample = small::ample(bytes);
-        let inside = letters.iter().all(|letter| {
-            let (answer, met) = model::read(letter, Kind::Plain, &ample);
-            Outside::of(&answer, &met).is_none()
+        let inside = KINDS.map(|kind| {
+            letters.iter().all(|letter| {
+                let (answer, met) = model::read(letter, kind, &ample);
+                Outside::of(&answer, &met).is_none()
+            })
         });
-        let (answer, _) = model::read(&letters[0], Kind::Plain, &ample);
-        self.seen.letter(&answer, inside);
+        let answers = KINDS.map(|kind| model::read(&letters[0], kind, &ample).0);
+        self.seen.letter(&answers, inside[Kind::Plain as usize]);
         for kind in KINDS {
-            if inside {
+            if inside[kind as usize] {
                 self.with_crate(letters, kind);
             }
-            self.with_ours(letters, kind, bytes);
+            self.with_ours(letters, kind, &answers[kind as usize], bytes);
         }
     }
 
@@ -154,19 +156,15 @@ impl Judge {
     }
 
     /// Calls in rooms that hold everything, and in small ones.
-    fn with_ours(&mut self, letters: &Letters, kind: Kind, bytes: usize) {
+    fn with_ours(&mut self, letters: &Letters, kind: Kind, answer: &Answer, bytes: usize) {
         let ample = small::ample(bytes);
-        let (answer, _) = model::read(&letters[0], kind, &ample);
-        if kind == Kind::Paragraphs {
-            self.seen.indents(&answer);
-        }
         let tokens = letters
             .each_ref()
-            .map(|letter| veil::tokens(letter).map_or(letter.len(), |tokens| tokens.len()));
-        let large = small::large(&mut self.random, &answer, bytes);
+            .map(|letter| veil::tokens(letter, kind).map_or(letter.len(), |tokens| tokens.len()));
+        let large = small::large(&mut self.random, answer, bytes);
         self.call(letters, kind, &large, tokens);
         for _ in 0..TIMES {
-            let mut rooms = small::tight(&mut self.random, &answer, bytes);
+            let mut rooms = small::tight(&mut self.random, answer, bytes);
             rooms[TOKENS] = ample[TOKENS];
             let (answer, _) = model::read(&letters[0], kind, &rooms);
             self.seen.small_rooms(kind, &answer);

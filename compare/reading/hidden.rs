@@ -5,12 +5,14 @@ use crate::parts::{part, Judging};
 use crate::{ours, pairs, read};
 use common::random::Random;
 use common::{fragments, grammar, oracle};
+use model::KINDS;
 
 /// How often the holes of a listed letter are filled.
 const FILLS: usize = 8;
 
-/// Pairs that each lack one premise, and that each side must tell apart.
-const KNOWN: [(&str, [&str; 2]); 8] = [
+/// Pairs that each lack one premise, and that each side must tell apart; the last two by paragraphs
+/// alone.
+const KNOWN: [(&str, [&str; 2]); 10] = [
     ("not cut", ["{a{\\*x}b}", "{a{\\*{\\'zz}}b}"]),
     ("no brace of its own", ["{a{\\*x}b}", "{a{\\*{x}b}"]),
     ("its brace escaped", ["{a{\\*x}b}", "{a{\\*x\\}b}"]),
@@ -19,6 +21,8 @@ const KNOWN: [(&str, [&str; 2]); 8] = [
     ("the mark behind text", ["{a{\\*x}b}", "{a{x\\*}b}"]),
     ("a stylesheet with a number", ["{a{\\stylesheet x}b}", "{a{\\stylesheet1 x}b}"]),
     ("no group in one", ["{\\u8212 {\\*x}\\u65 }", "{\\u8212 \\u65 }"]),
+    ("a line break before it in one", ["{a\\\r{\\*x}b}", "{a\\~\r{\\*x}b}"]),
+    ("a text before its mark", ["{a{\\\rc\\stylesheet x}b}", "{a{\\\rc\\stylesheet y}b}"]),
 ];
 
 /// True if there is no difference, and the known ones are seen.
@@ -48,7 +52,7 @@ fn told_apart(name: &str, letters: &[&str; 2]) -> bool {
     let mut judge = Judge::new(0);
     judge.compare(&letters);
     judge.finish();
-    let outside = !premise(&letters);
+    let outside = KINDS.into_iter().any(|kind| !premise(&letters, kind));
     let apart = judge.apart.iter().all(|count| *count > 0);
     if !outside || !apart {
         println!(

@@ -6,6 +6,7 @@ use crate::parts::{Differences, Judging};
 use crate::seen::Seen;
 use crate::{ours, report, small};
 use common::bridge;
+use common::mended::has_return;
 use common::oracle::{self, Reading};
 use common::random::Random;
 use model::{Answer, Kind, Rooms, KINDS};
@@ -101,12 +102,10 @@ impl Judge {
     fn judged(&mut self, letter: &[u8]) -> [Answer; 2] {
         self.letters += 1;
         let ample = small::ample(letter.len());
-        let (plain, met) = model::read(letter, Kind::Plain, &ample);
-        let (paragraphs, _) = model::read(letter, Kind::Paragraphs, &ample);
-        let outside = Outside::of(&plain, &met);
-        self.seen.letter(&plain, outside.is_none());
-        self.seen.indents(&paragraphs);
-        let answers = [plain, paragraphs];
+        let readings = KINDS.map(|kind| model::read(letter, kind, &ample));
+        let outside = readings.each_ref().map(|(answer, met)| Outside::of(answer, met));
+        let answers = readings.map(|(answer, _)| answer);
+        self.seen.letter(&answers, outside[Kind::Plain as usize].is_none());
         if let Err(told) = self.with_crate(letter, &answers, outside) {
             self.differences.found(self.letters, || told);
         }
@@ -122,32 +121,35 @@ impl Judge {
         &mut self,
         letter: &[u8],
         answers: &[Answer; 2],
-        outside: Option<Outside>,
+        outside: [Option<Outside>; 2],
     ) -> Result<(), String> {
-        if let Some(outside) = outside {
-            self.outside.count(outside);
-            if !outside.asked() {
-                return Ok(());
-            }
-        }
-        let text = std::str::from_utf8(letter).expect("a letter for the crate is ASCII");
-        let mut says = oracle::whole_readings(text, false);
-        if let Some(outside) = outside {
-            self.outside.asked(outside, letter, &answers[Kind::Plain as usize], &says);
-            return Ok(());
-        }
+        let mut says = None;
         for kind in KINDS {
-            // Without this name the crate's two readings are one.
-            if kind == Kind::Paragraphs && text.contains("\\par") {
-                says = oracle::whole_readings(text, true);
+            let (answer, outside) = (&answers[kind as usize], outside[kind as usize]);
+            if let (Some(outside), Kind::Plain) = (outside, kind) {
+                self.outside.count(outside);
             }
-            let answer = &answers[kind as usize];
+            // What is outside is asked plainly alone.
+            if outside.is_some_and(|outside| kind == Kind::Paragraphs || !outside.asked()) {
+                continue;
+            }
+            let text = std::str::from_utf8(letter).expect("a letter for the crate is ASCII");
+            // Without the name and the carriage return the crate's two readings are one.
+            let paragraphs = kind == Kind::Paragraphs;
+            if paragraphs && (text.contains("\\par") || has_return(text)) {
+                says = None;
+            }
+            let says = says.get_or_insert_with(|| oracle::whole_readings(text, paragraphs));
+            if let Some(outside) = outside {
+                self.outside.asked(outside, letter, answer, says);
+                continue;
+            }
             let same = |reading: &Reading<_>| match reading {
                 Reading::Answered(whole) => agrees(letter, kind, answer, whole),
                 Reading::Panicked(_) => false,
             };
             if !says.iter().all(same) {
-                return Err(report::model_against_crate(letter, kind, answer, &says));
+                return Err(report::model_against_crate(letter, kind, answer, says));
             }
         }
         Ok(())

@@ -4,6 +4,7 @@ use crate::veil;
 use common::cut::{NAMES, SOURCE_LIMIT};
 use common::random::Random;
 use common::{fragments, grammar, reading_grammar};
+use model::{Kind, KINDS};
 
 /// What stands in a hole while it is not yet known whether the walk reaches it.
 const MARKER: &[u8] = b"{\\*\\hole}";
@@ -11,15 +12,18 @@ const MARKER: &[u8] = b"{\\*\\hole}";
 const WORD: usize = 3;
 
 /// What may stand between a brace and the mark: line breaks, and what gives no token.
-const FRONTS: [&str; 10] =
-    ["", "", "", "", "\\\n", "\\\n\\\n", "\n", " \t\n", "\\~", "\\\n \n\\-x"];
+#[rustfmt::skip]
+const FRONTS: [&str; 14] = [
+    "", "", "", "", "\\\n", "\\\n\\\n", "\n", " \t\n", "\\~", "\\\n \n\\-x", "\\\r", "\\\r\n",
+    "\\\r \n\r", "\r\\\r\n\n\\\r\\\n",
+];
 #[rustfmt::skip]
 const MARKS: [&str; 8] = [
     "\\*", "\\*", "\\*\\gen ", "\\*lost", "\\**", "\\stylesheet", "\\stylesheet ", "\\stylesheet;",
 ];
 /// What would tell if it were read.
 #[rustfmt::skip]
-const SECRETS: [&str; 61] = [
+const SECRETS: [&str; 70] = [
     "\\{", "\\}", "\\\\ ", "\\\\a", "\\\\{", "\\\\}", "\\\\\\}x", "\\{\\{", "\\'7d", "\\'7B",
     "\\'5c", "\\'+f", "\\u125 ", "\\u8212 ", "\\u-10179 ", "\\u-8704 ", "\\u8212 \\'97",
     "\\u70000 ", "\\u ", "\\uc ", "\\uc0 ", "\\uc2 ", "\\uc-1 \\u65 ", "\\uc2147483647 \\u65 ",
@@ -29,7 +33,8 @@ const SECRETS: [&str; 61] = [
     "\\stylesheet ", "{\\fonttbl{\\f5 X;}}", "{\\*{\\fonttbl{\\f0 X;}}}", "{\\fonttbl\\f}",
     "{\\\n\\fonttbl{\\f1 X;}}", "{\\colortbl;\\red256\\blue9;}", "{\\colortbl\\blue7;}",
     "{\\stylesheet{\\s1 a}}", "{\\b bold}", "{}", "\\\n", "\n", " ", "\x0b", "\\~", "\\ ", "a;b",
-    "some text",
+    "some text", "\\\r", "\\\r\n", "\\\ra", "\\\r\na", "\\\\\r", "\\\\\r\n", "\r\n", "\\\r\\}",
+    "{\\\r\\fonttbl{\\f1 X;}}",
 ];
 
 pub struct Pair {
@@ -42,7 +47,8 @@ pub struct Pair {
 /// A letter in parts: between each two stands a hole.
 struct Holed {
     parts: Vec<Vec<u8>>,
-    /// For each hole, whether the walk reaches it. The others hold the marker in both letters.
+    /// For each hole, whether the walk reaches it in both readings. The others hold the marker in
+    /// both letters.
     reached: Vec<bool>,
 }
 
@@ -77,24 +83,24 @@ impl Holed {
             parts.push(letter[start..end].to_vec());
             start = end;
         }
-        let mut holed = Holed { parts, reached: Vec::new() };
-        holed.find_reached()?;
+        let mut holed = Holed { parts, reached: vec![true; places.len()] };
+        KINDS.into_iter().try_for_each(|kind| holed.find_reached(kind))?;
         holed.reached.contains(&true).then_some(holed)
     }
 
     /// Asks where the walk finds the markers; none if the letter is not cut.
-    fn find_reached(&mut self) -> Option<()> {
-        let holes = self.parts.len() - 1;
-        let tokens = veil::tokens(&self.filled(&vec![MARKER.to_vec(); holes]))?;
+    fn find_reached(&mut self, kind: Kind) -> Option<()> {
+        let holes = self.reached.len();
+        let tokens = veil::tokens(&self.filled(&vec![MARKER.to_vec(); holes]), kind)?;
         let found: Vec<usize> = veil::hidden_groups(&tokens)
             .into_iter()
             .filter(|group| group.len() == 4)
             .map(|group| tokens[group.start + 2][4] as usize)
             .collect();
         let mut place = 0;
-        for part in &self.parts[..holes] {
+        for (part, reached) in self.parts.iter().zip(&mut self.reached) {
             place += part.len();
-            self.reached.push(found.contains(&(place + WORD)));
+            *reached &= found.contains(&(place + WORD));
             place += MARKER.len();
         }
         Some(())

@@ -22,7 +22,7 @@ pub fn run(plan: &Plan) -> bool {
     let mut judge = Judge::new(!seed);
     oracle::quietly(|| {
         sequences(&mut judge, depth);
-        listed(&mut judge);
+        listed(&mut judge, depth);
         drawn(&mut judge, seed, count);
         judge.outside.print();
     });
@@ -41,7 +41,7 @@ fn sequences(judge: &mut Judge, depth: usize) {
     }
 }
 
-fn listed(judge: &mut Judge) {
+fn listed(judge: &mut Judge, depth: usize) {
     type Family = fn(&mut letters::Sink);
     const FAMILIES: [(&str, Family); 9] = [
         ("words with numbers", fragments::words_with_numbers),
@@ -54,6 +54,9 @@ fn listed(judge: &mut Judge) {
         ("the cutter's numbers", letters::numbers),
         ("long letters", letters::long),
     ];
+    part(judge, "all strings of returns", |judge| {
+        letters::every_string(letters::RETURNS, depth + 2, &mut |letter| judge.letter(letter))
+    });
     part(judge, "rooms of every size", |judge| {
         telling().for_each(|letter| judge.letter_in_every_size(letter.as_bytes()))
     });

@@ -1,6 +1,6 @@
 //! What the letters have covered, so that a run that tested little shows.
 
-use common::cut::WORD;
+use common::cut::{LINE_BREAK, WORD};
 use model::{Answer, Block, Kind, Refusal, INDENTS};
 
 const REFUSALS: usize = 21;
@@ -16,6 +16,8 @@ pub struct Seen {
     small: [[u64; REFUSALS]; 2],
     /// Letters that have an indent by paragraphs, and two blocks that indents alone part.
     indented: [u64; 2],
+    /// Letters with more line breaks by paragraphs, and with another refusal or place there.
+    returns: [u64; 2],
     words: [u64; 50],
     most: [usize; 5],
 }
@@ -28,12 +30,22 @@ impl Seen {
             placed: [0; REFUSALS],
             small: [[0; REFUSALS]; 2],
             indented: [0; 2],
+            returns: [0; 2],
             words: [0; 50],
             most: [0; 5],
         }
     }
 
-    pub fn letter(&mut self, answer: &Answer, with_crate: bool) {
+    /// The answers of both readings, plain first, which is counted.
+    pub fn letter(&mut self, [answer, paragraphs]: &[Answer; 2], with_crate: bool) {
+        self.indents(paragraphs);
+        let breaks =
+            |answer: &Answer| answer.tokens.iter().filter(|token| token[0] == LINE_BREAK).count();
+        if answer.refusal != paragraphs.refusal {
+            self.returns[1] += 1;
+        } else if breaks(paragraphs) > breaks(answer) {
+            self.returns[0] += 1;
+        }
         let counts = if with_crate { &mut self.with_crate } else { &mut self.by_model };
         let Refusal { number, place } = answer.refusal;
         counts[number as usize] += 1;
@@ -46,8 +58,7 @@ impl Seen {
         }
     }
 
-    /// Of paragraph reading, since plain reading has none.
-    pub fn indents(&mut self, answer: &Answer) {
+    fn indents(&mut self, answer: &Answer) {
         let indented = |block: &Block| block[INDENTS].iter().any(|word| *word != 0);
         // No two neighbours have one style.
         let same_rest = |two: &[Block]| two[0][..INDENTS.start] == two[1][..INDENTS.start];
@@ -89,6 +100,11 @@ impl Seen {
         println!(
             "by paragraphs: {indented} letters with an indent, {parted} with blocks that indents \
              alone part"
+        );
+        let [more, refused] = self.returns;
+        println!(
+            "by paragraphs: {more} letters with line breaks more, {refused} with another refusal \
+             or place than in plain reading"
         );
         let met = self.words.iter().filter(|count| **count > 0).count();
         println!("words: {met} of {} met in letters that were read", self.words.len());

@@ -1,9 +1,11 @@
 //! The premise of a pair, told on the crate's tokens: both letters are cut, and are the same but
 //! for what stands in hidden groups that the header walk reaches and that a brace of their own
-//! closes. This walk shares no code with the model's.
+//! closes. This walk shares no code with the model's. By paragraphs the tokens are others, and so
+//! may the hidden groups be.
 
 use common::cut::{Cut, Told, CLOSE, IGNORABLE, LINE_BREAK, NAMES, OPEN, WORD};
 use common::oracle::{self, Reading};
+use model::{Kind, KINDS};
 use std::ops::Range;
 
 /// A token without its places, and the bytes that these stand for; or a hidden group.
@@ -20,17 +22,17 @@ enum Group {
 }
 
 /// The crate's tokens; none if it refuses the letter.
-pub fn tokens(letter: &[u8]) -> Option<Vec<Told>> {
+pub fn tokens(letter: &[u8], kind: Kind) -> Option<Vec<Told>> {
     let text = std::str::from_utf8(letter).ok()?;
-    match oracle::wrapping_reading(text) {
+    match oracle::wrapping_reading(text, kind == Kind::Paragraphs) {
         Reading::Answered(Cut::Tokens(tokens)) => Some(tokens),
         _ => None,
     }
 }
 
 /// What is left of a letter if nobody may look into its hidden groups; none if it is not cut.
-pub fn veil(letter: &[u8]) -> Option<Vec<Step<'_>>> {
-    let tokens = tokens(letter)?;
+pub fn veil(letter: &[u8], kind: Kind) -> Option<Vec<Step<'_>>> {
+    let tokens = tokens(letter, kind)?;
     let mut steps = Vec::new();
     let mut at = 0;
     for group in hidden_groups(&tokens) {
@@ -46,12 +48,11 @@ fn step<'a>(letter: &'a [u8], &[kind, word, present, number, place, length]: &To
     Step::Token([kind, word, present, number], &letter[place as usize..][..length as usize])
 }
 
-/// Whether a group, alone, is hidden and closed by its last byte.
+/// Whether a group, alone, is hidden and closed by its last byte, in both readings.
 pub fn is_hidden(group: &[u8]) -> bool {
-    let Some(tokens) = tokens(group) else {
-        return false;
-    };
-    hidden_groups(&tokens) == [0..tokens.len()]
+    KINDS.into_iter().all(|kind| {
+        tokens(group, kind).is_some_and(|tokens| hidden_groups(&tokens) == [0..tokens.len()])
+    })
 }
 
 /// The hidden groups that the walk reaches, brace to brace, without one that is never closed.

@@ -5,7 +5,7 @@
 
 use common::oracle::{self, Reading};
 use common::random::Random;
-use model::{Cut, Refusal, Token, TOKEN_WORDS};
+use model::{Cut, Kind, Refusal, Token, TOKEN_WORDS};
 use std::collections::{BTreeMap, BTreeSet};
 
 pub const LONGEST_LETTER: usize = 400;
@@ -116,9 +116,9 @@ fn enough(cut: &Cut) -> usize {
 /// What both builds of the crate say, with the model's slices and places.
 pub fn answer(letter: &[u8]) -> Cut {
     let text = std::str::from_utf8(letter).expect("a letter for the crate is ASCII");
-    let wrapping = oracle::wrapping_reading(text);
-    assert_eq!(wrapping, oracle::checked_reading(text), "the two builds differ on {text:?}");
-    let cut = model::cut(letter);
+    let wrapping = oracle::wrapping_reading(text, false);
+    assert_eq!(wrapping, oracle::checked_reading(text, false), "the two builds differ on {text:?}");
+    let cut = model::cut(letter, Kind::Plain);
     match wrapping {
         Reading::Answered(told) => {
             let answer = cut.as_deref().map_err(|refusal| refusal.number);

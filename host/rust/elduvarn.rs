@@ -172,7 +172,8 @@ pub struct Refused {
     /// counts the source's bytes from 0, white space in front too.
     ///
     /// A slice starts where the letter does, and at each `{`, `}`, `\` and line feed that has no
-    /// `\` before it. So the text behind a bracket belongs to the bracket's slice.
+    /// `\` before it; by paragraphs, at no line feed that is directly behind the `\` and carriage
+    /// return of a line break. So the text behind a bracket belongs to the bracket's slice.
     pub place: usize,
 }
 
@@ -232,7 +233,8 @@ mod exported {
     #[rustfmt::skip]
     extern "C" {
         pub fn elduvarn_cut(
-            source: *const u8, source_len: usize, tokens: *mut u32, tokens_len: usize,
+            source: *const u8, source_len: usize, reading: u32,
+            tokens: *mut u32, tokens_len: usize,
         ) -> CutAnswer;
         pub fn elduvarn_read_plain(
             source: *const u8, source_len: usize, tokens: *mut u32, tokens_len: usize,
@@ -256,29 +258,45 @@ mod exported {
     }
 }
 
+/// What becomes of `\` and a carriage return, of `\par`, and of the indents `\li`, `\ri` and `\fi`.
+#[repr(u32)]
+#[derive(Clone, Copy, Debug, PartialEq, Eq, Hash)]
+pub enum Reading {
+    /// As in the crate rtf-parser: a slice that starts with `\` and a carriage return is lost,
+    /// `\par` adds nothing and indents stay 0.
+    Plain = 0,
+    /// A slice that starts with `\` and a carriage return is a line break, to which a line feed
+    /// directly behind belongs, and text; each `\par` adds a line feed to the text, and indents are
+    /// set.
+    Paragraphs = 1,
+}
+
+impl Reading {
+    /// The number in `host/elduvarn.h`.
+    pub const fn number(self) -> u32 {
+        self as u32
+    }
+}
+
 /// Cuts a letter into tokens. Refusals 1 to 7. A letter of n bytes has at most n tokens.
-pub fn cut<'a>(source: &[u8], tokens: &'a mut [Token]) -> Result<&'a [Token], Refused> {
+pub fn cut<'a>(
+    source: &[u8],
+    reading: Reading,
+    tokens: &'a mut [Token],
+) -> Result<&'a [Token], Refused> {
     // SAFETY: both are slices, so not null, aligned, and of that many elements; the room is
     // borrowed for writing, so it overlaps nothing.
     let answer = unsafe {
         exported::elduvarn_cut(
             source.as_ptr(),
             source.len(),
+            reading.number(),
             tokens.as_mut_ptr().cast(),
             tokens.len() * TOKEN_WORDS,
         )
     };
     Refused::told(answer.refusal, answer.place)?;
     Ok(&tokens[..answer.tokens as usize])
-}
-
-/// What becomes of `\par`, and of the indents `\li`, `\ri` and `\fi`.
-#[derive(Clone, Copy, Debug, PartialEq, Eq, Hash)]
-pub enum Reading {
-    /// `\par` adds nothing and indents stay 0, as in the crate rtf-parser.
-    Plain,
-    /// Each `\par` adds a line feed to the text, and indents are set.
-    Paragraphs,
 }
 
 /// What is lent to [`read`]. A letter of n bytes has at most n tokens, n blocks, n bytes of text.

@@ -3,8 +3,8 @@
 //!     test          makes all calls; the last line counts them
 //!     test names    lists the refusals by number and name
 //!
-//! Exit status: 0 all passed, 1 not. Expected answers are read off document 01, request A5 and
-//! docs/REFUSALS.md. What happens at the borders of a room is tested by ../test.c.
+//! Exit status: 0 all passed, 1 not. Expected answers are read off document 01, requests A2 and A5
+//! and docs/REFUSALS.md. What happens at the borders of a room is tested by ../test.c.
 
 use elduvarn::{
     cut, read, stored, Block, Colour, Font, Letter, Reading, Refusal, Refused, Rooms, Token,
@@ -72,6 +72,7 @@ impl Lent {
     }
 }
 
+const READINGS: [Reading; 2] = [Reading::Plain, Reading::Paragraphs];
 const AMPLE: [usize; 5] = [100, 20, 20, 20, 100];
 const NONE: [usize; 5] = [0; 5];
 
@@ -182,6 +183,7 @@ fn test_refusals(counts: &mut Counts) {
         (br"{\rtf1 hello\b-}", Refusal::NumberBad, 12),
         (b"a", Refusal::LastSlice, 0),
         (b"\t {a} b\n", Refusal::LastSlice, 4),
+        (b"{}\\\r\n", Refusal::LastSlice, 2),
         (b"", Refusal::NoTokens, 0),
         (b" \n ", Refusal::NoTokens, 0),
         (b"}", Refusal::FirstToken, 0),
@@ -205,7 +207,7 @@ fn test_refusals(counts: &mut Counts) {
         (too_deep_later.as_bytes(), Refusal::TooDeep, 64),
     ];
     for &(source, refusal, place) in refused {
-        for reading in [Reading::Plain, Reading::Paragraphs] {
+        for reading in READINGS {
             refuses(counts, source, reading, AMPLE, at(refusal, place));
         }
     }
@@ -230,6 +232,7 @@ fn test_read(counts: &mut Counts) {
         Ok(&[block(0, 0, 1), block(1, 1, 1)]),
     );
     test_indents(counts, &mut rooms);
+    test_returns(counts, &mut rooms);
     let mut letter = vec![b'a'; MOST_SOURCE];
     (letter[0], letter[MOST_SOURCE - 1]) = (b'{', b'}');
     let mut lent = Lent::of([3, 0, 0, 1, MOST_SOURCE - 2]);
@@ -259,6 +262,33 @@ fn test_indents(counts: &mut Counts, rooms: &mut Rooms<'_>) {
     }
 }
 
+/// Letters with `\` and a carriage return: their text, or refusal, plain and by paragraphs.
+fn test_returns(counts: &mut Counts, rooms: &mut Rooms<'_>) {
+    type Shown = Result<&'static str, Refused>;
+    let letters: &[(&[u8], [Shown; 2])] = &[
+        (b"{a\\\rb}", [Ok("a"), Ok("a\nb")]),
+        (b"{a\\\r\nb}", [Ok("ab"), Ok("a\nb")]),
+        (b"{a\\\r\n\nb}", [Ok("ab"), Ok("a\nb")]),
+        (b"{\\\r \\\r\n}", [Ok(""), Ok("\n\n")]),
+        (b"{\\\\\r\nb}", [Ok("\\\rb"), Ok("\\\rb")]),
+        (b"{\\\n\rb}", [Ok("\n\rb"), Ok("\n\rb")]),
+        (b"{\\u65 \\\r\\u66 }", [Ok("A"), Ok("A\nB")]),
+        (b"{{\\\rc\\stylesheet x}b}", [Ok("b"), Ok("\ncxb")]),
+        (b"{\\\r\\fonttbl}", [Ok(""), Err(at(Refusal::TableLineBreak, 3))]),
+        (b"{{\\\r\n\\colortbl}}", [Ok(""), Err(at(Refusal::TableLineBreak, 5))]),
+        (b"\\\r{}", [Ok(""), Err(at(Refusal::FirstToken, 0))]),
+        (b"{}}\\\r}", [Err(at(Refusal::NoState, 5)), Err(at(Refusal::NoState, 3))]),
+    ];
+    for (source, shown) in letters {
+        for (reading, should) in READINGS.into_iter().zip(*shown) {
+            let what = format!("{reading:?} reading of {}", source.escape_ascii());
+            let is = read(source, reading, rooms);
+            let is = is.map(|letter| letter.text_str().unwrap_or("not UTF-8"));
+            counts.check(&what, is, should);
+        }
+    }
+}
+
 fn test_cut(counts: &mut Counts) {
     // 01's table of names has b at 13 and fs at 10.
     let styled = [
@@ -269,19 +299,20 @@ fn test_cut(counts: &mut Counts) {
         [2, 0, 0, 0, 0, 0, 11, 1],
     ];
     let letter = br"{\b1\fs24 a}";
-    for size in 0..8 {
+    for (size, reading) in (0..8).flat_map(|size| READINGS.map(|reading| (size, reading))) {
         let mut room = vec![[9; TOKEN_WORDS]; size];
         let should = if size < 5 { Err(at(Refusal::TokenRoom, 0)) } else { Ok(&styled[..]) };
-        counts.check(&format!("cutting in a room of {size}"), cut(letter, &mut room), should);
+        let what = format!("{reading:?} cutting in a room of {size}");
+        counts.check(&what, cut(letter, reading, &mut room), should);
         let used = if size < 5 { 0 } else { 5 };
         let zero = room[used..].iter().flatten().all(|&word| word == 0);
         counts.check(&format!("behind the tokens in a room of {size}"), zero, true);
     }
     let mut room = [[9; TOKEN_WORDS]; 3];
-    let minus = cut(br"{\u-3913 }", &mut room).map(|tokens| tokens[1][3] as i32);
-    counts.check("a negative number", minus, Ok(-3913));
-    counts.check("cutting nothing", cut(b"", &mut []), Ok(&[][..]));
-    counts.check("cutting blanks", cut(b" ", &mut room), Ok(&[][..]));
+    let minus = cut(br"{\u-3913 }", Reading::Plain, &mut room);
+    counts.check("a negative number", minus.map(|tokens| tokens[1][3] as i32), Ok(-3913));
+    counts.check("cutting nothing", cut(b"", Reading::Plain, &mut []), Ok(&[][..]));
+    counts.check("cutting blanks", cut(b" ", Reading::Plain, &mut room), Ok(&[][..]));
     let refused: &[(&[u8], Refused)] = &[
         (b"\x80", at(Refusal::NotAscii, 0)),
         (br"{a\'e}", at(Refusal::HexShort, 2)),
@@ -291,9 +322,24 @@ fn test_cut(counts: &mut Counts) {
         (b"\t {a} b\n", at(Refusal::LastSlice, 4)),
     ];
     for &(source, refused) in refused {
-        let what = format!("cutting {}", source.escape_ascii());
-        counts.check(&what, cut(source, &mut room), Err(refused));
+        for reading in READINGS {
+            let what = format!("{reading:?} cutting of {}", source.escape_ascii());
+            counts.check(&what, cut(source, reading, &mut room), Err(refused));
+        }
     }
+    test_returns_cut(counts);
+}
+
+/// A line break of a backslash, a carriage return and a line feed is one slice with its tail.
+fn test_returns_cut(counts: &mut Counts) {
+    let [open, close] = [[1, 0, 0, 0, 0, 0, 0, 1], [2, 0, 0, 0, 0, 0, 5, 1]];
+    let plain = [open, [0, 0, 0, 0, 4, 1, 3, 2], close];
+    let paragraphs = [open, [3, 0, 0, 0, 0, 0, 1, 4], [0, 0, 0, 0, 4, 1, 1, 4], close];
+    let mut room = [[9; TOKEN_WORDS]; 5];
+    let letter = b"{\\\r\nb}";
+    counts.check("a return, plain", cut(letter, Reading::Plain, &mut room), Ok(&plain[..]));
+    let is = cut(letter, Reading::Paragraphs, &mut room);
+    counts.check("a return, by paragraphs", is, Ok(&paragraphs[..]));
 }
 
 /// The sample listing, and its list.
@@ -434,6 +480,7 @@ fn test_header(counts: &mut Counts) {
         ("MostColours", MOST_COLOURS),
     ];
     ours.extend(sizes.map(|(name, size)| (name.to_owned(), size as u32)));
+    ours.extend(READINGS.map(|reading| (format!("{reading:?}"), reading.number())));
     counts.check("what the header declares", ours, header);
 }
 

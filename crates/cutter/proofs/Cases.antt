@@ -12,9 +12,11 @@ use Rattle.names.specs.Names.{sameBytes, placeIn, wordNumber}
 use Rattle.numbers.specs.Numbers.{hexDigit, hexPair, digitsFrom, digits, decimal}
 use Rattle.rooms.specs.Streams.{andThen, each, answer, ended}
 use Rattle.rooms.specs.Rooms.{encode, settled, content}
-use Rattle.slices.specs.Slices.{split, slices}
+use Rattle.readings.specs.declared.Reading.{Reading}
+use Rattle.readings.specs.declared.Reading.the-variants.{Plain, Paragraphs}
+use Rattle.slices.specs.Slices.{split, slices, withFeeds}
 use Rattle.tokens.specs.Tokens.{recordOf}
-use Rattle.tokenize.specs.Tokenize.{mark, plain, hexValue, hexEscape, lineBreakAnd, shownWord, numbered, named, bareLength, wordTail, word, other, escaped, tokens}
+use Rattle.tokenize.specs.Tokenize.{mark, plain, hexValue, hexEscape, lineBreakAnd, shownWord, numbered, named, bareLength, wordTail, word, other, otherBy, escaped, tokens}
 use Rattle.cutter.specs.Cutting.{located, last, allSlices, trimmed, tokenStream, cutAnswer, cutRoom}
 
 -- a letter, a room's words, the answer's number, place and count, and the room's first words, of which the rest are zero
@@ -61,6 +63,25 @@ cases =
     ∷ record { letter = "{}\\b-2147483649}"; room = 0; number = 5; place = 2; count = 0; holds = [] }
     ∷ []
 
+-- 02, A2: a backslash and a carriage return, without a line feed and with one, which belongs to the slice; behind `\\` and behind a line feed the
+-- carriage return is text; a white tail is none; what is trimmed makes no break, and is refused by 6
+returns : List Case
+returns =
+    record { letter = "{\\\rb}"; room = 32; number = 0; place = 0; count = 4; holds = (1 ∷ 0 ∷ 0 ∷ 0 ∷ 0 ∷ 0 ∷ 0 ∷ 1 ∷ []) ++ (3 ∷ 0 ∷ 0 ∷ 0 ∷ 0 ∷ 0 ∷ 1 ∷ 3 ∷ []) ++ (0 ∷ 0 ∷ 0 ∷ 0 ∷ 3 ∷ 1 ∷ 1 ∷ 3 ∷ []) ++ (2 ∷ 0 ∷ 0 ∷ 0 ∷ 0 ∷ 0 ∷ 4 ∷ 1 ∷ []) }
+    ∷ record { letter = "{\\\r\nb}"; room = 32; number = 0; place = 0; count = 4; holds = (1 ∷ 0 ∷ 0 ∷ 0 ∷ 0 ∷ 0 ∷ 0 ∷ 1 ∷ []) ++ (3 ∷ 0 ∷ 0 ∷ 0 ∷ 0 ∷ 0 ∷ 1 ∷ 4 ∷ []) ++ (0 ∷ 0 ∷ 0 ∷ 0 ∷ 4 ∷ 1 ∷ 1 ∷ 4 ∷ []) ++ (2 ∷ 0 ∷ 0 ∷ 0 ∷ 0 ∷ 0 ∷ 5 ∷ 1 ∷ []) }
+    ∷ record { letter = "{\\\\\rb}"; room = 24; number = 0; place = 0; count = 3; holds = (1 ∷ 0 ∷ 0 ∷ 0 ∷ 0 ∷ 0 ∷ 0 ∷ 1 ∷ []) ++ (0 ∷ 0 ∷ 0 ∷ 0 ∷ 2 ∷ 3 ∷ 1 ∷ 4 ∷ []) ++ (2 ∷ 0 ∷ 0 ∷ 0 ∷ 0 ∷ 0 ∷ 5 ∷ 1 ∷ []) }
+    ∷ record { letter = "{\\\n\rb}"; room = 32; number = 0; place = 0; count = 4; holds = (1 ∷ 0 ∷ 0 ∷ 0 ∷ 0 ∷ 0 ∷ 0 ∷ 1 ∷ []) ++ (3 ∷ 0 ∷ 0 ∷ 0 ∷ 0 ∷ 0 ∷ 1 ∷ 4 ∷ []) ++ (0 ∷ 0 ∷ 0 ∷ 0 ∷ 3 ∷ 2 ∷ 1 ∷ 4 ∷ []) ++ (2 ∷ 0 ∷ 0 ∷ 0 ∷ 0 ∷ 0 ∷ 5 ∷ 1 ∷ []) }
+    ∷ record { letter = "{\\\r\n \n}"; room = 24; number = 0; place = 0; count = 3; holds = (1 ∷ 0 ∷ 0 ∷ 0 ∷ 0 ∷ 0 ∷ 0 ∷ 1 ∷ []) ++ (3 ∷ 0 ∷ 0 ∷ 0 ∷ 0 ∷ 0 ∷ 1 ∷ 4 ∷ []) ++ (2 ∷ 0 ∷ 0 ∷ 0 ∷ 0 ∷ 0 ∷ 6 ∷ 1 ∷ []) }
+    ∷ record { letter = "{\\\r\n"; room = 24; number = 6; place = 1; count = 0; holds = [] }
+    ∷ []
+
+-- the same in plain reading: the carriage return is "any other byte", its tail is lost, and the line feed starts a slice
+returnsPlain : List Case
+returnsPlain =
+    record { letter = "{\\\rb}"; room = 16; number = 0; place = 0; count = 2; holds = (1 ∷ 0 ∷ 0 ∷ 0 ∷ 0 ∷ 0 ∷ 0 ∷ 1 ∷ []) ++ (2 ∷ 0 ∷ 0 ∷ 0 ∷ 0 ∷ 0 ∷ 4 ∷ 1 ∷ []) }
+    ∷ record { letter = "{\\\r\nb}"; room = 24; number = 0; place = 0; count = 3; holds = (1 ∷ 0 ∷ 0 ∷ 0 ∷ 0 ∷ 0 ∷ 0 ∷ 1 ∷ []) ++ (0 ∷ 0 ∷ 0 ∷ 0 ∷ 4 ∷ 1 ∷ 3 ∷ 2 ∷ []) ++ (2 ∷ 0 ∷ 0 ∷ 0 ∷ 0 ∷ 0 ∷ 5 ∷ 1 ∷ []) }
+    ∷ []
+
 -- the room's words are those that a case lists, and zeros behind them
 sameRoom : List ℕ → List ℕ → Bool
 sameRoom [] [] = true
@@ -68,16 +89,16 @@ sameRoom [] (y ∷ ys) = false
 sameRoom (x ∷ xs) [] = eqb x 0 && sameRoom xs []
 sameRoom (x ∷ xs) (y ∷ ys) = eqb x y && sameRoom xs ys
 
-right : Case → Bool
-right c =
+right : Reading → Case → Bool
+right rd c =
     let src = bytesOf (c .letter) in
-    let o = cutAnswer src (c .room) in
-    ((eqb (outcomeNumber o) (c .number) && eqb (outcomePlace o) (c .place)) && eqb (outcomeCount o) (c .count)) && sameRoom (cutRoom src (c .room)) (c .holds)
+    let o = cutAnswer rd src (c .room) in
+    ((eqb (outcomeNumber o) (c .number) && eqb (outcomePlace o) (c .place)) && eqb (outcomeCount o) (c .count)) && sameRoom (cutRoom rd src (c .room)) (c .holds)
 
-every : List Case → Bool
-every [] = true
-every (c ∷ cs) = right c && every cs
+every : Reading → List Case → Bool
+every rd [] = true
+every rd (c ∷ cs) = right rd c && every rd cs
 
-cases-right : every cases ≡ true
-unfolding cases right every sameRoom lead body any sameBytes placeIn wordNumber hexDigit hexPair digitsFrom digits decimal andThen each ended encode settled content split slices recordOf mark plain hexValue hexEscape lineBreakAnd shownWord numbered named bareLength wordTail word other escaped tokens located last allSlices trimmed tokenStream cutAnswer cutRoom
+cases-right : (every Plain cases && every Plain returnsPlain) && every Paragraphs returns ≡ true
+unfolding cases returns returnsPlain right every sameRoom lead body any sameBytes placeIn wordNumber hexDigit hexPair digitsFrom digits decimal andThen each ended encode settled content split slices withFeeds recordOf mark plain hexValue hexEscape lineBreakAnd shownWord numbered named bareLength wordTail word other otherBy escaped tokens located last allSlices trimmed tokenStream cutAnswer cutRoom
 cases-right = refl

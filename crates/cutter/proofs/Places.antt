@@ -16,9 +16,11 @@ use Rattle.answers.specs.Answers.{refusal, refusalAt}
 use Rattle.bytes.specs.declared.Class.the-variants.{White}
 use Rattle.bytes.specs.Bytes.{inClass, body, isHigh, any}
 use Rattle.bytes.proofs.Runs.{lead-length}
+use Rattle.readings.specs.declared.Reading.{Reading}
 use Rattle.rooms.specs.Streams.{end, stop, _▸_}
-use Rattle.slices.specs.Slices.{slices}
-use Rattle.slices.proofs.Slices.{joined, joined-slices}
+use Rattle.slices.specs.Slices.{slicesBy, slices}
+use Rattle.slices.proofs.Slices.{joined}
+use Rattle.slices.proofs.Feeds.{joined-slicesBy}
 use Rattle.tokens.specs.Tokens.{Shown, Token, token, sliceOf, sliceLengthOf, shownIn}
 use Rattle.tokens.specs.Tokens
 use Rattle.tokenize.specs.Tokenize.{tokens}
@@ -40,49 +42,50 @@ placed-after x s p t h = (stands-after x s p (shownIn t) (h .0), rw length-appen
 placed-before : (y s : List ℕ) (p : ℕ) (t : Token) → PlacedIn s p t → PlacedIn (s ++ y) p t
 placed-before y s p t h = (stands-before y s p (shownIn t) (h .0), rw length-append (omega arith))
 
-pub located-places : (p : ℕ) (s : List ℕ) → Each (PlacedIn s p) (located p s)
-unfolding located
-located-places p s =
-    Each-each (PlacedIn s p) (λ (w : Why). refusalAt w p) (token p (length s)) (tokens p s)
-    (Each-weaken (Stands s p) (λ (t : Shown). PlacedIn s p (token p (length s) t)) (λ t h. (h, omega arith)) (tokens p s) (tokens-stand p s))
+module _ (rd : Reading) where
+  pub located-places : (p : ℕ) (s : List ℕ) → Each (PlacedIn s p) (located rd p s)
+  unfolding located
+  located-places p s =
+      Each-each (PlacedIn s p) (λ (w : Why). refusalAt w p) (token p (length s)) (tokens rd p s)
+      (Each-weaken (Stands s p) (λ (t : Shown). PlacedIn s p (token p (length s) t)) (λ t h. (h, omega arith)) (tokens rd p s) (tokens-stand rd p s))
 
-pub last-places : (p : ℕ) (s : List ℕ) → Each (PlacedIn s p) (last p s)
-unfolding last
-last-places p [] = tt
-last-places p (b ∷ []) = go (eqb b 125)
-  where
-    go : (t : Bool) → Each (PlacedIn (b ∷ []) p) (cond t (token p 1 Shown.closing ▸ end) (stop (refusalAt LastSlice p)))
-    go true = ((tt, omega arith), tt)
-    go false = tt
-last-places p (b ∷ c ∷ s) = tt
+  pub last-places : (p : ℕ) (s : List ℕ) → Each (PlacedIn s p) (last p s)
+  unfolding last
+  last-places p [] = tt
+  last-places p (b ∷ []) = go (eqb b 125)
+    where
+      go : (t : Bool) → Each (PlacedIn (b ∷ []) p) (cond t (token p 1 Shown.closing ▸ end) (stop (refusalAt LastSlice p)))
+      go true = ((tt, omega arith), tt)
+      go false = tt
+  last-places p (b ∷ c ∷ s) = tt
 
-pub all-places : (p : ℕ) (ss : List (List ℕ)) → Each (PlacedIn (joined ss) p) (allSlices p ss)
-unfolding allSlices joined
-all-places p [] = tt
-all-places p (s ∷ []) = Each-weaken (PlacedIn s p) _ (placed-before [] s p) (last p s) (last-places p s)
-all-places p (s ∷ t ∷ ss) =
-    Each-then (PlacedIn (s ++ joined (t ∷ ss)) p) (located p s) (allSlices (p + length s) (t ∷ ss))
-    (Each-weaken (PlacedIn s p) _ (placed-before (joined (t ∷ ss)) s p) (located p s) (located-places p s))
-    (Each-weaken (PlacedIn (joined (t ∷ ss)) (p + length s)) _ (placed-after s (joined (t ∷ ss)) p) (allSlices (p + length s) (t ∷ ss)) (all-places (p + length s) (t ∷ ss)))
+  pub all-places : (p : ℕ) (ss : List (List ℕ)) → Each (PlacedIn (joined ss) p) (allSlices rd p ss)
+  unfolding allSlices joined
+  all-places p [] = tt
+  all-places p (s ∷ []) = Each-weaken (PlacedIn s p) _ (placed-before [] s p) (last p s) (last-places p s)
+  all-places p (s ∷ t ∷ ss) =
+      Each-then (PlacedIn (s ++ joined (t ∷ ss)) p) (located rd p s) (allSlices rd (p + length s) (t ∷ ss))
+      (Each-weaken (PlacedIn s p) _ (placed-before (joined (t ∷ ss)) s p) (located rd p s) (located-places p s))
+      (Each-weaken (PlacedIn (joined (t ∷ ss)) (p + length s)) _ (placed-after s (joined (t ∷ ss)) p) (allSlices rd (p + length s) (t ∷ ss)) (all-places (p + length s) (t ∷ ss)))
 
--- the trimmed source stands in the source behind its white front
-trimmed-places : (src : List ℕ) (t : Token) → PlacedIn (trimmed src) (trimStart src) t → Placed src t
-unfolding trimmed
-trimmed-places src t h =
-    let k = trimStart src in
-    let m = body (inClass White) (drop k src) in
-    let e : 0 + length (take k src) ≡ k = rw length-take (omega (arith, lead-length (inClass White) src)) in
-    let d : PlacedIn (drop k src) k t = rw take-append-drop at (placed-before (drop m (drop k src)) (take m (drop k src)) k t h) in
-    let a : PlacedIn src 0 t = rw take-append-drop at (placed-after (take k src) (drop k src) 0 t (rw e d)) in
-    (a .0, omega arith)
+  -- the trimmed source stands in the source behind its white front
+  trimmed-places : (src : List ℕ) (t : Token) → PlacedIn (trimmed src) (trimStart src) t → Placed src t
+  unfolding trimmed
+  trimmed-places src t h =
+      let k = trimStart src in
+      let m = body (inClass White) (drop k src) in
+      let e : 0 + length (take k src) ≡ k = rw length-take (omega (arith, lead-length (inClass White) src)) in
+      let d : PlacedIn (drop k src) k t = rw take-append-drop at (placed-before (drop m (drop k src)) (take m (drop k src)) k t h) in
+      let a : PlacedIn src 0 t = rw take-append-drop at (placed-after (take k src) (drop k src) 0 t (rw e d)) in
+      (a .0, omega arith)
 
-pub stream-places : (src : List ℕ) → Each (Placed src) (tokenStream src)
-unfolding tokenStream
-stream-places src = go (ltb 65536 (length src)) (any isHigh src)
-  where
-    go : (t u : Bool) → Each (Placed src) (cond t (stop (refusal SourceTooLong)) (cond u (stop (refusal NotAscii)) (allSlices (trimStart src) (slices (trimmed src)))))
-    go true u = tt
-    go false true = tt
-    go false false =
-        Each-weaken (PlacedIn (trimmed src) (trimStart src)) (Placed src) (trimmed-places src) (allSlices (trimStart src) (slices (trimmed src)))
-        (rw joined-slices at (all-places (trimStart src) (slices (trimmed src))))
+  pub stream-places : (src : List ℕ) → Each (Placed src) (tokenStream rd src)
+  unfolding tokenStream
+  stream-places src = go (ltb 65536 (length src)) (any isHigh src)
+    where
+      go : (t u : Bool) → Each (Placed src) (cond t (stop (refusal SourceTooLong)) (cond u (stop (refusal NotAscii)) (allSlices rd (trimStart src) (slicesBy rd (trimmed src)))))
+      go true u = tt
+      go false true = tt
+      go false false =
+          Each-weaken (PlacedIn (trimmed src) (trimStart src)) (Placed src) (trimmed-places src) (allSlices rd (trimStart src) (slicesBy rd (trimmed src)))
+          (rw (joined-slicesBy rd) at (all-places (trimStart src) (slicesBy rd (trimmed src))))

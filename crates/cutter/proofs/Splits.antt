@@ -9,45 +9,48 @@ use mathlib.Core.Bool.{true}
 use Prim.Native.Nat.{ℕ, _+_}
 use native.Mathlib.Omega.{arith}
 use lib.ListN.{length, take, drop, length-append}
+use Rattle.readings.specs.declared.Reading.{Reading}
 use Rattle.rooms.specs.Streams.{Stream, end, andThen}
 use Rattle.rooms.proofs.Streams.{then-then}
-use Rattle.slices.specs.Slices.{startsSlice, slices, sliceLength}
-use Rattle.slices.proofs.Slices.{slices-first, slices-append, lastByte, joined, joined-slices}
+use Rattle.slices.specs.Slices.{startsSlice, slicesBy, lengthBy}
+use Rattle.slices.proofs.Slices.{lastByte, joined}
+use Rattle.slices.proofs.Feeds.{slicesBy-first, slicesBy-append, joined-slicesBy}
 use Rattle.tokens.specs.Tokens.{Token}
 use Rattle.cutter.specs.Cutting.{located, allSlices}
 use Rattle.answers.specs.declared.Refusal.{Refusal}
 
--- the tokens of slices none of which is the last
-unfoldable pub before : ℕ → List (List ℕ) → Stream Refusal Token
-before p [] = end
-before p (s ∷ ss) = andThen (located p s) (before (p + length s) ss)
+module _ (rd : Reading) where
+  -- the tokens of slices none of which is the last
+  unfoldable pub before : ℕ → List (List ℕ) → Stream Refusal Token
+  before p [] = end
+  before p (s ∷ ss) = andThen (located rd p s) (before (p + length s) ss)
 
-module _ (t : List ℕ) (ts : List (List ℕ)) where
-  all-cons : (p : ℕ) (s : List ℕ) (xs : List (List ℕ)) → allSlices p (s ∷ (xs ++ (t ∷ ts))) ≡ andThen (located p s) (allSlices (p + length s) (xs ++ (t ∷ ts)))
-  unfolding allSlices
-  all-cons p s [] = refl
-  all-cons p s (x ∷ xs) = refl
+  module _ (t : List ℕ) (ts : List (List ℕ)) where
+    all-cons : (p : ℕ) (s : List ℕ) (xs : List (List ℕ)) → allSlices rd p (s ∷ (xs ++ (t ∷ ts))) ≡ andThen (located rd p s) (allSlices rd (p + length s) (xs ++ (t ∷ ts)))
+    unfolding allSlices
+    all-cons p s [] = refl
+    all-cons p s (x ∷ xs) = refl
 
-  pub all-append : (p : ℕ) (xs : List (List ℕ)) → allSlices p (xs ++ (t ∷ ts)) ≡ andThen (before p xs) (allSlices (p + length (joined xs)) (t ∷ ts))
-  unfolding before joined andThen
-  all-append p [] = ap (λ (q : ℕ). allSlices q (t ∷ ts)) (omega arith)
-  all-append p (s ∷ xs) =
-      let l : p + length s + length (joined xs) ≡ p + length (s ++ joined xs) = omega (arith, length-append s (joined xs)) in
-      all-cons p s xs
-      ∙ ap (andThen (located p s)) (all-append (p + length s) xs)
-      ∙ sym (then-then (located p s) (before (p + length s) xs) (allSlices (p + length s + length (joined xs)) (t ∷ ts)))
-      ∙ ap (λ (q : ℕ). andThen (andThen (located p s) (before (p + length s) xs)) (allSlices q (t ∷ ts))) l
+    pub all-append : (p : ℕ) (xs : List (List ℕ)) → allSlices rd p (xs ++ (t ∷ ts)) ≡ andThen (before p xs) (allSlices rd (p + length (joined xs)) (t ∷ ts))
+    unfolding before joined andThen
+    all-append p [] = ap (λ (q : ℕ). allSlices rd q (t ∷ ts)) (omega arith)
+    all-append p (s ∷ xs) =
+        let l : p + length s + length (joined xs) ≡ p + length (s ++ joined xs) = omega (arith, length-append s (joined xs)) in
+        all-cons p s xs
+        ∙ ap (andThen (located rd p s)) (all-append (p + length s) xs)
+        ∙ sym (then-then (located rd p s) (before (p + length s) xs) (allSlices rd (p + length s + length (joined xs)) (t ∷ ts)))
+        ∙ ap (λ (q : ℕ). andThen (andThen (located rd p s) (before (p + length s) xs)) (allSlices rd q (t ∷ ts))) l
 
--- x and then c ∷ y, where a new slice starts at c
-pub all-split : (p : ℕ) (x : List ℕ) (c : ℕ) (y : List ℕ) → startsSlice (lastByte 32 x) c ≡ true
-    → allSlices p (slices (x ++ (c ∷ y))) ≡ andThen (before p (slices x)) (allSlices (p + length x) (slices (c ∷ y)))
-all-split p x c y h =
-    let n : ℕ = sliceLength (c ∷ y) in
-    let t : List ℕ = take n (c ∷ y) in
-    let ts : List (List ℕ) = slices (drop n (c ∷ y)) in
-    let f : slices (c ∷ y) ≡ t ∷ ts = slices-first (c ∷ y) (omega arith) in
-    let e : slices (x ++ (c ∷ y)) ≡ slices x ++ (t ∷ ts) = slices-append c y x h ∙ ap (λ (l : List (List ℕ)). slices x ++ l) f in
-    ap (allSlices p) e
-    ∙ all-append t ts p (slices x)
-    ∙ ap (λ (k : ℕ). andThen (before p (slices x)) (allSlices (p + k) (t ∷ ts))) (ap length (joined-slices x))
-    ∙ ap (λ (l : List (List ℕ)). andThen (before p (slices x)) (allSlices (p + length x) l)) (sym f)
+  -- x and then c ∷ y, where a new slice starts at c, which is no line feed
+  pub all-split : (p : ℕ) (x : List ℕ) (c : ℕ) (y : List ℕ) → (c ≡ 10 → ⊥) → startsSlice (lastByte 32 x) c ≡ true
+      → allSlices rd p (slicesBy rd (x ++ (c ∷ y))) ≡ andThen (before p (slicesBy rd x)) (allSlices rd (p + length x) (slicesBy rd (c ∷ y)))
+  all-split p x c y m h =
+      let n : ℕ = lengthBy rd (c ∷ y) in
+      let t : List ℕ = take n (c ∷ y) in
+      let ts : List (List ℕ) = slicesBy rd (drop n (c ∷ y)) in
+      let f : slicesBy rd (c ∷ y) ≡ t ∷ ts = slicesBy-first rd (c ∷ y) (omega arith) in
+      let e : slicesBy rd (x ++ (c ∷ y)) ≡ slicesBy rd x ++ (t ∷ ts) = slicesBy-append rd c y x m h ∙ ap (λ (l : List (List ℕ)). slicesBy rd x ++ l) f in
+      ap (allSlices rd p) e
+      ∙ all-append t ts p (slicesBy rd x)
+      ∙ ap (λ (k : ℕ). andThen (before p (slicesBy rd x)) (allSlices rd (p + k) (t ∷ ts))) (ap length (joined-slicesBy rd x))
+      ∙ ap (λ (l : List (List ℕ)). andThen (before p (slicesBy rd x)) (allSlices rd (p + length x) l)) (sym f)

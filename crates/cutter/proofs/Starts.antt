@@ -4,7 +4,7 @@
 -- Assumes nothing.
 use mathlib.Core.Path.{_≡_, refl, sym, ap, _∙_}
 use mathlib.Core.List.{List, [], _∷_, _++_}
-use mathlib.Core.Bool.{Bool, true, false, cond, _||_, false≢true}
+use mathlib.Core.Bool.{Bool, true, false, cond, _&&_, _||_, false≢true}
 use Prim.Native.Nat.{ℕ, _+_, _≤_, _<_}
 use native.Mathlib.Omega.{arith}
 use borrow.Author.Tests.{eq-eqb, eqb-true}
@@ -19,10 +19,13 @@ use Rattle.bytes.specs.declared.Class.the-variants.{White}
 use Rattle.answers.specs.declared.Outcome.the-variants.{Refused}
 use Rattle.bytes.specs.Bytes.{inClass, isHigh, any}
 use Rattle.bytes.proofs.Runs.{lead-length}
+use Rattle.readings.specs.declared.Reading.{Reading}
 use Rattle.rooms.specs.Streams.{Stream, end, stop, _▸_, andThen, each, items, answer, ended}
 use Rattle.rooms.proofs.Streams.{Each, done-refused}
-use Rattle.slices.specs.Slices.{startsSlice, onto, split, slices}
-use Rattle.slices.proofs.Slices.{joined, joined-slices}
+use Rattle.readings.specs.declared.Reading.the-variants.{Plain, Paragraphs}
+use Rattle.slices.specs.Slices.{startsSlice, onto, split, slices, slicesBy, isReturn, startsWithFeed, takeFeed, withFeeds}
+use Rattle.slices.proofs.Slices.{joined}
+use Rattle.slices.proofs.Feeds.{joined-slicesBy}
 use Rattle.tokens.specs.Tokens.{Shown, Token, token, sliceOf}
 use Rattle.tokens.specs.Tokens
 use Rattle.tokenize.specs.Tokenize.{tokens}
@@ -62,6 +65,23 @@ unfolding slices
 slices-full [] = tt
 slices-full (b ∷ s) = onto-full b (split b s) (split-full b s)
 
+take-full : (s : List ℕ) (ts : List (List ℕ)) → 0 < length s → Full ts → Full (takeFeed s ts)
+take-full s [] h f = (h, tt)
+take-full s (t ∷ ts) h f = go (isReturn s && startsWithFeed t)
+  where
+    go : (b : Bool) → Full (cond b ((s ++ t) ∷ ts) (s ∷ t ∷ ts))
+    go true = (omega (arith, length-append s t), f .1)
+    go false = (h, f)
+
+feeds-full : (ss : List (List ℕ)) → Full ss → Full (withFeeds ss)
+unfolding withFeeds
+feeds-full [] f = tt
+feeds-full (s ∷ ss) f = take-full s (withFeeds ss) (f .0) (feeds-full ss (f .1))
+
+slicesBy-full : (rd : Reading) (s : List ℕ) → Full (slicesBy rd s)
+slicesBy-full Plain s = slices-full s
+slicesBy-full Paragraphs s = feeds-full (slices s) (slices-full s)
+
 -- ---- where a slice starts
 
 starts-first : (p : ℕ) (s : List ℕ) (ss : List (List ℕ)) → startsFrom p p (s ∷ ss) ≡ true
@@ -86,88 +106,89 @@ starts-inside q p (s ∷ ss) f h = go (eqb p q) refl h (λ k. starts-inside q (p
     go true e k ih = let d : p ≡ q = eqb-true p q e in omega (arith, length-append s (joined ss), f .0)
     go false e k ih = omega (arith, length-append s (joined ss), ih k)
 
-slice-at : (src : List ℕ) (q : ℕ) → startsFrom q (trimStart src) (slices (trimmed src)) ≡ true → SliceAt src q
-unfolding trimmed
-slice-at src q h =
-    let k = trimStart src in
-    let j : length (joined (slices (trimmed src))) ≡ length (trimmed src) = ap length (joined-slices (trimmed src)) in
-    let l : k + length (trimmed src) ≤ length src = simp (length-take, length-drop) (omega (arith, lead-length (inClass White) src)) in
-    record { inside = omega (arith, starts-inside q k (slices (trimmed src)) (slices-full (trimmed src)) h); starts = h }
+module _ (rd : Reading) where
+  slice-at : (src : List ℕ) (q : ℕ) → startsFrom q (trimStart src) (slicesBy rd (trimmed src)) ≡ true → SliceAt rd src q
+  unfolding trimmed
+  slice-at src q h =
+      let k = trimStart src in
+      let j : length (joined (slicesBy rd (trimmed src))) ≡ length (trimmed src) = ap length (joined-slicesBy rd (trimmed src)) in
+      let l : k + length (trimmed src) ≤ length src = simp (length-take, length-drop) (omega (arith, lead-length (inClass White) src)) in
+      record { inside = omega (arith, starts-inside q k (slicesBy rd (trimmed src)) (slicesBy-full rd (trimmed src)) h); starts = h }
 
--- ---- tokens and refusals of slices: each has the place of one
+  -- ---- tokens and refusals of slices: each has the place of one
 
-abbrev All : (ℕ → Type 0) → Stream Refusal Token → Type 0
-All P end = Unit {0}
-All P (stop r) = Told P r
-All P (t ▸ s) = P (sliceOf t) × All P s
+  abbrev All : (ℕ → Type 0) → Stream Refusal Token → Type 0
+  All P end = Unit {0}
+  All P (stop r) = Told P r
+  All P (t ▸ s) = P (sliceOf t) × All P s
 
-all-then : (P : ℕ → Type 0) (a b : Stream Refusal Token) → All P a → All P b → All P (andThen a b)
-unfolding andThen
-all-then P end b h k = k
-all-then P (stop r) b h k = h
-all-then P (t ▸ a) b h k = (h .0, all-then P a b (h .1) k)
+  all-then : (P : ℕ → Type 0) (a b : Stream Refusal Token) → All P a → All P b → All P (andThen a b)
+  unfolding andThen
+  all-then P end b h k = k
+  all-then P (stop r) b h k = h
+  all-then P (t ▸ a) b h k = (h .0, all-then P a b (h .1) k)
 
-all-weaken : (P Q : ℕ → Type 0) → ((q : ℕ) → P q → Q q) → (s : Stream Refusal Token) → All P s → All Q s
-all-weaken P Q f end h = tt
-all-weaken P Q f (stop r) h = told-weaken P Q f h
-all-weaken P Q f (t ▸ s) h = (f (sliceOf t) (h .0), all-weaken P Q f s (h .1))
+  all-weaken : (P Q : ℕ → Type 0) → ((q : ℕ) → P q → Q q) → (s : Stream Refusal Token) → All P s → All Q s
+  all-weaken P Q f end h = tt
+  all-weaken P Q f (stop r) h = told-weaken P Q f h
+  all-weaken P Q f (t ▸ s) h = (f (sliceOf t) (h .0), all-weaken P Q f s (h .1))
 
-all-each : (P : ℕ → Type 0) (p n : ℕ) → P p → (s : Stream Why Shown) → All P (each (λ (w : Why). refusalAt w p) (token p n) s)
-unfolding each
-all-each P p n h end = tt
-all-each P p n h (stop w) = told-at P w p h
-all-each P p n h (x ▸ s) = (h, all-each P p n h s)
+  all-each : (P : ℕ → Type 0) (p n : ℕ) → P p → (s : Stream Why Shown) → All P (each (λ (w : Why). refusalAt w p) (token p n) s)
+  unfolding each
+  all-each P p n h end = tt
+  all-each P p n h (stop w) = told-at P w p h
+  all-each P p n h (x ▸ s) = (h, all-each P p n h s)
 
-all-last : (P : ℕ → Type 0) (p : ℕ) → P p → (s : List ℕ) → All P (last p s)
-unfolding last
-all-last P p h [] = told-at P LastSlice p h
-all-last P p h (b ∷ []) = go (eqb b 125)
-  where
-    go : (t : Bool) → All P (cond t (token p 1 Shown.closing ▸ end) (stop (refusalAt LastSlice p)))
-    go true = (h, tt)
-    go false = told-at P LastSlice p h
-all-last P p h (b ∷ c ∷ s) = told-at P LastSlice p h
+  all-last : (P : ℕ → Type 0) (p : ℕ) → P p → (s : List ℕ) → All P (last p s)
+  unfolding last
+  all-last P p h [] = told-at P LastSlice p h
+  all-last P p h (b ∷ []) = go (eqb b 125)
+    where
+      go : (t : Bool) → All P (cond t (token p 1 Shown.closing ▸ end) (stop (refusalAt LastSlice p)))
+      go true = (h, tt)
+      go false = told-at P LastSlice p h
+  all-last P p h (b ∷ c ∷ s) = told-at P LastSlice p h
 
--- a place at which one of the slices starts
-abbrev From : ℕ → List (List ℕ) → ℕ → Type 0
-From p ss q = startsFrom q p ss ≡ true
+  -- a place at which one of the slices starts
+  abbrev From : ℕ → List (List ℕ) → ℕ → Type 0
+  From p ss q = startsFrom q p ss ≡ true
 
-all-starts : (p : ℕ) (ss : List (List ℕ)) → All (From p ss) (allSlices p ss)
-unfolding allSlices
-all-starts p [] = tt
-all-starts p (s ∷ []) = all-last (From p (s ∷ [])) p (starts-first p s []) s
-all-starts p (s ∷ t ∷ ss) =
-    all-then (From p (s ∷ t ∷ ss)) (located p s) (allSlices (p + length s) (t ∷ ss))
-    (unfold located in all-each (From p (s ∷ t ∷ ss)) p (length s) (starts-first p s (t ∷ ss)) (tokens p s))
-    (all-weaken (From (p + length s) (t ∷ ss)) (From p (s ∷ t ∷ ss)) (λ q h. starts-later q p s (t ∷ ss) h) (allSlices (p + length s) (t ∷ ss)) (all-starts (p + length s) (t ∷ ss)))
+  all-starts : (p : ℕ) (ss : List (List ℕ)) → All (From p ss) (allSlices rd p ss)
+  unfolding allSlices
+  all-starts p [] = tt
+  all-starts p (s ∷ []) = all-last (From p (s ∷ [])) p (starts-first p s []) s
+  all-starts p (s ∷ t ∷ ss) =
+      all-then (From p (s ∷ t ∷ ss)) (located rd p s) (allSlices rd (p + length s) (t ∷ ss))
+      (unfold located in all-each (From p (s ∷ t ∷ ss)) p (length s) (starts-first p s (t ∷ ss)) (tokens rd p s))
+      (all-weaken (From (p + length s) (t ∷ ss)) (From p (s ∷ t ∷ ss)) (λ q h. starts-later q p s (t ∷ ss) h) (allSlices rd (p + length s) (t ∷ ss)) (all-starts (p + length s) (t ∷ ss)))
 
-all-stream : (src : List ℕ) → All (SliceAt src) (tokenStream src)
-unfolding tokenStream
-all-stream src = go (ltb 65536 (length src)) (any isHigh src)
-  where
-    go : (t u : Bool) → All (SliceAt src) (cond t (stop (refusal SourceTooLong)) (cond u (stop (refusal NotAscii)) (allSlices (trimStart src) (slices (trimmed src)))))
-    go true u = told-none (SliceAt src) SourceTooLong refl
-    go false true = told-none (SliceAt src) NotAscii refl
-    go false false = all-weaken (From (trimStart src) (slices (trimmed src))) (SliceAt src) (slice-at src) (allSlices (trimStart src) (slices (trimmed src))) (all-starts (trimStart src) (slices (trimmed src)))
+  all-stream : (src : List ℕ) → All (SliceAt rd src) (tokenStream rd src)
+  unfolding tokenStream
+  all-stream src = go (ltb 65536 (length src)) (any isHigh src)
+    where
+      go : (t u : Bool) → All (SliceAt rd src) (cond t (stop (refusal SourceTooLong)) (cond u (stop (refusal NotAscii)) (allSlices rd (trimStart src) (slicesBy rd (trimmed src)))))
+      go true u = told-none (SliceAt rd src) SourceTooLong refl
+      go false true = told-none (SliceAt rd src) NotAscii refl
+      go false false = all-weaken (From (trimStart src) (slicesBy rd (trimmed src))) (SliceAt rd src) (slice-at src) (allSlices rd (trimStart src) (slicesBy rd (trimmed src))) (all-starts (trimStart src) (slicesBy rd (trimmed src)))
 
--- ---- of a source
+  -- ---- of a source
 
-slices-in : (src : List ℕ) (s : Stream Refusal Token) → All (SliceAt src) s → Each (Placed src) s → SlicesIn src (items s)
-unfolding items
-slices-in src end h k = tt
-slices-in src (stop r) h k = tt
-slices-in src (t ▸ s) h k = (record { at = h .0; ends = k .0 .1 }, slices-in src s (h .1) (k .1))
+  slices-in : (src : List ℕ) (s : Stream Refusal Token) → All (SliceAt rd src) s → Each (Placed src) s → SlicesIn rd src (items s)
+  unfolding items
+  slices-in src end h k = tt
+  slices-in src (stop r) h k = tt
+  slices-in src (t ▸ s) h k = (record { at = h .0; ends = k .0 .1 }, slices-in src s (h .1) (k .1))
 
--- a slice starts at the place of each token, and ends in the source
-pub stream-slices : (src : List ℕ) → SlicesIn src (items (tokenStream src))
-stream-slices src = slices-in src (tokenStream src) (all-stream src) (stream-places src)
+  -- a slice starts at the place of each token, and ends in the source
+  pub stream-slices : (src : List ℕ) → SlicesIn rd src (items (tokenStream rd src))
+  stream-slices src = slices-in src (tokenStream rd src) (all-stream src) (stream-places rd src)
 
-stops-at : (P : ℕ → Type 0) (s : Stream Refusal Token) (n : ℕ) {q : Refusal} → All P s → answer n s ≡ Refused q → Told P q
-unfolding ended
-stops-at P end n {q} h e = absurd (done-refused e)
-stops-at P (stop r) n {q} h e = let d : r ≡ q = cc in rw d at h
-stops-at P (t ▸ s) n {q} h e = stops-at P s (n + 1) (h .1) e
+  stops-at : (P : ℕ → Type 0) (s : Stream Refusal Token) (n : ℕ) {q : Refusal} → All P s → answer n s ≡ Refused q → Told P q
+  unfolding ended
+  stops-at P end n {q} h e = absurd (done-refused e)
+  stops-at P (stop r) n {q} h e = let d : r ≡ q = cc in rw d at h
+  stops-at P (t ▸ s) n {q} h e = stops-at P s (n + 1) (h .1) e
 
--- a slice starts at the place that a refusal of cutting carries
-pub stream-stops : (src : List ℕ) {q : Refusal} → answer 0 (tokenStream src) ≡ Refused q → Told (SliceAt src) q
-stream-stops src e = stops-at (SliceAt src) (tokenStream src) 0 (all-stream src) e
+  -- a slice starts at the place that a refusal of cutting carries
+  pub stream-stops : (src : List ℕ) {q : Refusal} → answer 0 (tokenStream rd src) ≡ Refused q → Told (SliceAt rd src) q
+  stream-stops src e = stops-at (SliceAt rd src) (tokenStream rd src) 0 (all-stream src) e

@@ -4,7 +4,8 @@ use mathlib.Core.Path.{_≡_, sym, _∙_}
 use mathlib.Core.List.{List}
 use Prim.Native.Nat.{ℕ}
 use Rattle.answers.specs.declared.Outcome.{Outcome}
+use Rattle.readings.specs.declared.Reading.{Reading}
 use Rattle.cutter.specs.Cutting.{Cuts}
 
-pub cut-tight : {source room : List ℕ} {r q : Outcome} {a b : List ℕ} → Cuts source room r a → Cuts source room q b → (r ≡ q) × (a ≡ b)
+pub cut-tight : {rd : Reading} {source room : List ℕ} {r q : Outcome} {a b : List ℕ} → Cuts rd source room r a → Cuts rd source room q b → (r ≡ q) × (a ≡ b)
 cut-tight x y = (x .answer ∙ sym (y .answer), x .content ∙ sym (y .content))

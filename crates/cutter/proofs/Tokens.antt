@@ -18,6 +18,7 @@ use Rattle.answers.specs.declared.Why.the-variants.{TokenRoom}
 use Rattle.answers.specs.declared.Outcome.{Outcome}
 use Rattle.answers.specs.declared.Outcome.the-variants.{Done, Refused}
 use Rattle.answers.specs.Answers.{refusal, outcomeCount}
+use Rattle.readings.specs.declared.Reading.{Reading}
 use Rattle.rooms.specs.Streams.{Stream, end, stop, _▸_, count, items, answer}
 use Rattle.rooms.specs.Rooms.{encode, capacity, filled, settled, content}
 use Rattle.rooms.proofs.Streams.{Each, answer-count, done-refused}
@@ -75,52 +76,53 @@ length-items end = refl
 length-items (stop r) = refl
 length-items (x ▸ s) = ap suc (length-items s)
 
-module _ (src : List ℕ) (total : ℕ) {o : Outcome} {n : ℕ} (e : o ≡ cutAnswer src total) (d : o ≡ Done n) where
-  cut-counts : (n ≡ count (tokenStream src)) × (n * tokenWords ≤ total)
-  unfolding cutAnswer settled
-  cut-counts = go (answer 0 (tokenStream src)) refl (sym d ∙ e)
-    where
-      pick : (m : ℕ) → answer 0 (tokenStream src) ≡ Done m → (u : Bool) → leb m (capacity tokenWords total) ≡ u → Done n ≡ cond u (Done m) (Refused (refusal TokenRoom))
-          → (n ≡ count (tokenStream src)) × (n * tokenWords ≤ total)
-      pick m a true b q =
-          let x : n ≡ m = cc in
-          let y : m ≡ 0 + count (tokenStream src) = answer-count (tokenStream src) 0 m a in
-          let k : m ≤ capacity tokenWords total = leb-true m (capacity tokenWords total) b in
-          (omega arith, rw x (le-trans (mul-le-mul-right tokenWords k) (div-mul-le-self total tokenWords)))
-      pick m a false b q = absurd (done-refused q)
+module _ (rd : Reading) where
+  module _ (src : List ℕ) (total : ℕ) {o : Outcome} {n : ℕ} (e : o ≡ cutAnswer rd src total) (d : o ≡ Done n) where
+    cut-counts : (n ≡ count (tokenStream rd src)) × (n * tokenWords ≤ total)
+    unfolding cutAnswer settled
+    cut-counts = go (answer 0 (tokenStream rd src)) refl (sym d ∙ e)
+      where
+        pick : (m : ℕ) → answer 0 (tokenStream rd src) ≡ Done m → (u : Bool) → leb m (capacity tokenWords total) ≡ u → Done n ≡ cond u (Done m) (Refused (refusal TokenRoom))
+            → (n ≡ count (tokenStream rd src)) × (n * tokenWords ≤ total)
+        pick m a true b q =
+            let x : n ≡ m = cc in
+            let y : m ≡ 0 + count (tokenStream rd src) = answer-count (tokenStream rd src) 0 m a in
+            let k : m ≤ capacity tokenWords total = leb-true m (capacity tokenWords total) b in
+            (omega arith, rw x (le-trans (mul-le-mul-right tokenWords k) (div-mul-le-self total tokenWords)))
+        pick m a false b q = absurd (done-refused q)
 
-      go : (a : Outcome) → answer 0 (tokenStream src) ≡ a → Done n ≡ settled tokenLayout (refusal TokenRoom) total a → (n ≡ count (tokenStream src)) × (n * tokenWords ≤ total)
-      go (Done m) a q = pick m a (leb m (capacity tokenWords total)) refl q
-      go (Refused r) a q = absurd (done-refused q)
+        go : (a : Outcome) → answer 0 (tokenStream rd src) ≡ a → Done n ≡ settled tokenLayout (refusal TokenRoom) total a → (n ≡ count (tokenStream rd src)) × (n * tokenWords ≤ total)
+        go (Done m) a q = pick m a (leb m (capacity tokenWords total)) refl q
+        go (Refused r) a q = absurd (done-refused q)
 
-  cut-few : n ≤ 65536
-  cut-few = let h = cut-counts .0 in let k = count-stream src in omega arith
+    cut-few : n ≤ 65536
+    cut-few = let h = cut-counts .0 in let k = count-stream rd src in omega arith
 
-  -- the room's content is the records and zeros
-  cut-room : cutRoom src total ≡ filled total (encode tokenLayout (tokenStream src))
-  unfolding cutRoom content
-  cut-room = ap (λ (a : Outcome). content tokenLayout total a (tokenStream src)) (sym e ∙ d)
+    -- the room's content is the records and zeros
+    cut-room : cutRoom rd src total ≡ filled total (encode tokenLayout (tokenStream rd src))
+    unfolding cutRoom content
+    cut-room = ap (λ (a : Outcome). content tokenLayout total a (tokenStream rd src)) (sym e ∙ d)
 
-  cut-tokens : {room : List ℕ} → room ≡ cutRoom src total → tokensAll src n room ≡ items (tokenStream src)
-  cut-tokens {room} q =
-      ap (λ (ws : List ℕ). tokensAll src n ws) (q ∙ cut-room)
-      ∙ ap (λ (m : ℕ). tokensAll src m (filled total (encode tokenLayout (tokenStream src)))) (cut-counts .0)
-      ∙ tokens-stream src (tokenStream src) (replicate (total - length (encode tokenLayout (tokenStream src))) 0) (stream-places src)
+    cut-tokens : {room : List ℕ} → room ≡ cutRoom rd src total → tokensAll src n room ≡ items (tokenStream rd src)
+    cut-tokens {room} q =
+        ap (λ (ws : List ℕ). tokensAll src n ws) (q ∙ cut-room)
+        ∙ ap (λ (m : ℕ). tokensAll src m (filled total (encode tokenLayout (tokenStream rd src)))) (cut-counts .0)
+        ∙ tokens-stream src (tokenStream rd src) (replicate (total - length (encode tokenLayout (tokenStream rd src))) 0) (stream-places rd src)
 
--- an answer that is no count counts nothing
-few-counted : (src : List ℕ) (total : ℕ) (o : Outcome) → o ≡ cutAnswer src total → (outcomeCount o ≤ 65536) × (outcomeCount o * tokenWords ≤ total)
-few-counted src total (Done n) e = (cut-few src total e refl, cut-counts src total e refl .1)
-few-counted src total (Refused r) e = (omega arith, omega arith)
+  -- an answer that is no count counts nothing
+  few-counted : (src : List ℕ) (total : ℕ) (o : Outcome) → o ≡ cutAnswer rd src total → (outcomeCount o ≤ 65536) × (outcomeCount o * tokenWords ≤ total)
+  few-counted src total (Done n) e = (cut-few src total e refl, cut-counts src total e refl .1)
+  few-counted src total (Refused r) e = (omega arith, omega arith)
 
-pub cuts : (src room : List ℕ) {r : Outcome} {room′ : List ℕ} → r ≡ cutAnswer src (length room) → room′ ≡ cutRoom src (length room) → Cuts src room r room′
-cuts src room {r} {room′} e q =
-    let f = few-counted src (length room) r e in
-    record {
-      answer = e;
-      content = q;
-      few = f .0;
-      fits = f .1;
-      counts = λ n d. cut-counts src (length room) e d .0 ∙ sym (length-items (tokenStream src));
-      reads = λ n d. cut-tokens src (length room) e d q;
-      slices = stream-slices src;
-    }
+  pub cuts : (src room : List ℕ) {r : Outcome} {room′ : List ℕ} → r ≡ cutAnswer rd src (length room) → room′ ≡ cutRoom rd src (length room) → Cuts rd src room r room′
+  cuts src room {r} {room′} e q =
+      let f = few-counted src (length room) r e in
+      record {
+        answer = e;
+        content = q;
+        few = f .0;
+        fits = f .1;
+        counts = λ n d. cut-counts src (length room) e d .0 ∙ sym (length-items (tokenStream rd src));
+        reads = λ n d. cut-tokens src (length room) e d q;
+        slices = stream-slices rd src;
+      }

@@ -1,4 +1,4 @@
--- 01, Cutting and Answer numbers, and 02, A4: a source's tokens, the one answer and the one content of the token room.
+-- 01, Cutting and Answer numbers, and 02, A2 and A4: a source's tokens by the reading, the one answer and the one content of the token room.
 -- Assumes nothing: these are definitions.
 use Prim.Native.Nat.{ℕ, _+_, _*_, _≤_, _<_}
 use mathlib.Core.Path.{_≡_}
@@ -15,15 +15,16 @@ use Rattle.bytes.specs.declared.Class.the-variants.{White}
 use Rattle.bytes.specs.Bytes.{isHigh, inClass, lead, body, any}
 use Rattle.rooms.specs.Streams.{Stream, end, stop, _▸_, andThen, items, answer, each}
 use Rattle.rooms.specs.Rooms.{settled, content}
-use Rattle.slices.specs.Slices.{slices}
+use Rattle.readings.specs.declared.Reading.{Reading}
+use Rattle.slices.specs.Slices.{slicesBy}
 use Rattle.tokens.specs.Tokens.{Shown, Token, token, sliceOf, sliceLengthOf, tokenWords, tokenLayout}
 use Rattle.tokens.specs.Items.{tokensAll}
 use Rattle.tokenize.specs.Tokenize.{tokens}
 use Rattle.answers.specs.declared.Refusal.{Refusal}
 
 -- the tokens of a slice at place p, each with the slice's place and length; its refusals have that place too (02, A4)
-unfoldable pub located : ℕ → List ℕ → Stream Refusal Token
-located p s = each (λ (w : Why). refusalAt w p) (token p (length s)) (tokens p s)
+unfoldable pub located : Reading → ℕ → List ℕ → Stream Refusal Token
+located rd p s = each (λ (w : Why). refusalAt w p) (token p (length s)) (tokens rd p s)
 
 -- "the last slice is not `}` alone": 6
 unfoldable pub last : ℕ → List ℕ → Stream Refusal Token
@@ -32,10 +33,10 @@ last p (b ∷ []) = cond (eqb b 125) (token p 1 Shown.closing ▸ end) (stop (re
 last p (b ∷ c ∷ s) = stop (refusalAt LastSlice p)
 
 -- "cutting left to right, all slices but the last, gives the first of 3 to 5; then 6"
-unfoldable pub allSlices : ℕ → List (List ℕ) → Stream Refusal Token
-allSlices p [] = end
-allSlices p (s ∷ []) = last p s
-allSlices p (s ∷ t ∷ ss) = andThen (located p s) (allSlices (p + length s) (t ∷ ss))
+unfoldable pub allSlices : Reading → ℕ → List (List ℕ) → Stream Refusal Token
+allSlices rd p [] = end
+allSlices rd p (s ∷ []) = last p s
+allSlices rd p (s ∷ t ∷ ss) = andThen (located rd p s) (allSlices rd (p + length s) (t ∷ ss))
 
 -- "Trim both ends.": where the trimmed source starts, and its bytes
 abbrev pub trimStart : List ℕ → ℕ
@@ -47,19 +48,19 @@ trimmed src =
     take (body (inClass White) t) t
 
 -- a source's tokens, or its refusal of 1 to 6. "Source places count from 0, before trimming."
-unfoldable pub tokenStream : List ℕ → Stream Refusal Token
-tokenStream src =
+unfoldable pub tokenStream : Reading → List ℕ → Stream Refusal Token
+tokenStream rd src =
     cond (ltb 65536 (length src)) (stop (refusal SourceTooLong))
     (cond (any isHigh src) (stop (refusal NotAscii))
-    (allSlices (trimStart src) (slices (trimmed src))))
+    (allSlices rd (trimStart src) (slicesBy rd (trimmed src))))
 
 -- the one answer for a source and a room of so many words: "more tokens than the token room holds" is 7
-unfoldable pub cutAnswer : List ℕ → ℕ → Outcome
-cutAnswer src total = settled tokenLayout (refusal TokenRoom) total (answer 0 (tokenStream src))
+unfoldable pub cutAnswer : Reading → List ℕ → ℕ → Outcome
+cutAnswer rd src total = settled tokenLayout (refusal TokenRoom) total (answer 0 (tokenStream rd src))
 
 -- the one content of that room
-unfoldable pub cutRoom : List ℕ → ℕ → List ℕ
-cutRoom src total = content tokenLayout total (cutAnswer src total) (tokenStream src)
+unfoldable pub cutRoom : Reading → List ℕ → ℕ → List ℕ
+cutRoom rd src total = content tokenLayout total (cutAnswer rd src total) (tokenStream rd src)
 
 -- whether a slice starts at q, where the first of them starts at p
 unfoldable pub startsFrom : ℕ → ℕ → List (List ℕ) → Bool
@@ -69,27 +70,27 @@ startsFrom q p (s ∷ ss) =
     eqb p q || later
 
 -- "the source byte place of the slice": a place of the source, at which a slice starts
-pub record SliceAt (src : List ℕ) (q : ℕ) : Type 0 where
+pub record SliceAt (rd : Reading) (src : List ℕ) (q : ℕ) : Type 0 where
   pub inside : q < length src
-  pub starts : startsFrom q (trimStart src) (slices (trimmed src)) ≡ true
+  pub starts : startsFrom q (trimStart src) (slicesBy rd (trimmed src)) ≡ true
 
 -- a token's slice: it starts at the token's place, and its length ends in the source
-pub record SliceIn (src : List ℕ) (t : Token) : Type 0 where
-  pub at : SliceAt src (sliceOf t)
+pub record SliceIn (rd : Reading) (src : List ℕ) (t : Token) : Type 0 where
+  pub at : SliceAt rd src (sliceOf t)
   pub ends : sliceOf t + sliceLengthOf t ≤ length src
 
-abbrev pub SlicesIn : List ℕ → List Token → Type 0
-SlicesIn src [] = Unit {0}
-SlicesIn src (t ∷ ts) = SliceIn src t × SlicesIn src ts
+abbrev pub SlicesIn : Reading → List ℕ → List Token → Type 0
+SlicesIn rd src [] = Unit {0}
+SlicesIn rd src (t ∷ ts) = SliceIn rd src t × SlicesIn rd src ts
 
 -- What `cut` promises: the one answer, and the one content of the room. What who reads the tokens needs follows from these two, and
 -- is said with them: there are at most 65,536 tokens, their records are in the room, there is one for each token, read back they are
 -- the source's tokens, and the slice of each stands in the source.
-pub record Cuts (src room : List ℕ) (r : Outcome) (room′ : List ℕ) : Type 0 where
-  pub answer : r ≡ cutAnswer src (length room)
-  pub content : room′ ≡ cutRoom src (length room)
+pub record Cuts (rd : Reading) (src room : List ℕ) (r : Outcome) (room′ : List ℕ) : Type 0 where
+  pub answer : r ≡ cutAnswer rd src (length room)
+  pub content : room′ ≡ cutRoom rd src (length room)
   pub few : outcomeCount r ≤ 65536
   pub fits : outcomeCount r * tokenWords ≤ length room
-  pub counts : (n : ℕ) → r ≡ Done n → n ≡ length (items (tokenStream src))
-  pub reads : (n : ℕ) → r ≡ Done n → tokensAll src n room′ ≡ items (tokenStream src)
-  pub slices : SlicesIn src (items (tokenStream src))
+  pub counts : (n : ℕ) → r ≡ Done n → n ≡ length (items (tokenStream rd src))
+  pub reads : (n : ℕ) → r ≡ Done n → tokensAll src n room′ ≡ items (tokenStream rd src)
+  pub slices : SlicesIn rd src (items (tokenStream rd src))

@@ -15,8 +15,9 @@ use bytes::body_of;
 use bytes::has_high;
 use bytes::lead_of;
 use names::Table;
+use readings::Reading;
 use rooms::clear_from;
-use slices::slice_end;
+use slices::slice_end_by;
 use tokenize::quick::slice_tokens;
 use tokens::Record;
 use tokens::TOKEN_WORDS;
@@ -27,7 +28,7 @@ ghost use Prim.Native.Nat.{_+_, _≤_, _<_};
 ghost use lib.ListN.{length, replicate};
 ghost use Rattle.names.specs.Names.{rows};
 ghost use Rattle.rooms.specs.Rooms.{Wrote};
-ghost use Rattle.slices.specs.Slices.{slices as slicesOf};
+ghost use Rattle.slices.specs.Slices.{slicesBy};
 ghost use Rattle.tokens.specs.Tokens.{tokenLayout};
 ghost use Rattle.cutter.specs.Cutting.{last as lastOf, allSlices, tokenStream, Cuts};
 ghost use Rattle.rooms.specs.Streams.{byRefusal};
@@ -50,9 +51,9 @@ fn last(s: &[u8], place: usize, room: &mut [u32], n: usize) -> Outcome
 }
 
 // All slices of a trimmed source that stands at `place`.
-fn all_slices(s: &[u8], place: usize, names: &Table, room: &mut [u32]) -> Outcome
+fn all_slices(reading: Reading, s: &[u8], place: usize, names: &Table, room: &mut [u32]) -> Outcome
     requires { ⌜ (place + length (now s) ≤ 65536) × (now names ≡ rows) ⌝ }
-    ensures { λ r. ⌜ Wrote tokenLayout byRefusal 0 (now (room .entry)) (allSlices place (slicesOf (now (s .entry)))) r (now (room .exit)) ⌝ }
+    ensures { λ r. ⌜ Wrote tokenLayout byRefusal 0 (now (room .entry)) (allSlices reading place (slicesBy reading (now (s .entry)))) r (now (room .exit)) ⌝ }
 {
     if s.len() == 0 {
         return Outcome::Done(0);
@@ -61,11 +62,11 @@ fn all_slices(s: &[u8], place: usize, names: &Table, room: &mut [u32]) -> Outcom
     let mut p = place;
     let mut n = 0;
     loop {
-        let e = slice_end(t);
+        let e = slice_end_by(reading, t);
         if t.len() <= e {
             break;
         }
-        let one = slice_tokens(&t[..e], p, names, room, n);
+        let one = slice_tokens(reading, &t[..e], p, names, room, n);
         match one {
             Written::Refused(why) => {
                 return Outcome::Refused(Refusal::at(why, p as u32));
@@ -82,9 +83,9 @@ fn all_slices(s: &[u8], place: usize, names: &Table, room: &mut [u32]) -> Outcom
 }
 
 // The source, if it is short enough and of bytes below 128, trimmed and cut.
-fn whole(source: &[u8], names: &Table, room: &mut [u32]) -> Outcome
+fn whole(reading: Reading, source: &[u8], names: &Table, room: &mut [u32]) -> Outcome
     requires { ⌜ now names ≡ rows ⌝ }
-    ensures { λ r. ⌜ Wrote tokenLayout byRefusal 0 (now (room .entry)) (tokenStream (now (source .entry))) r (now (room .exit)) ⌝ }
+    ensures { λ r. ⌜ Wrote tokenLayout byRefusal 0 (now (room .entry)) (tokenStream reading (now (source .entry))) r (now (room .exit)) ⌝ }
 {
     if 65536 < source.len() {
         return Outcome::Refused(Refusal::of(Why::SourceTooLong));
@@ -95,7 +96,7 @@ fn whole(source: &[u8], names: &Table, room: &mut [u32]) -> Outcome
     let start = lead_of(source, Class::White);
     let t = &source[start..];
     let end = body_of(t, Class::White);
-    all_slices(&t[..end], start, names, room)
+    all_slices(reading, &t[..end], start, names, room)
 }
 
 // A refusal, and the whole room zero.
@@ -107,12 +108,12 @@ fn refuse(refusal: Refusal, room: &mut [u32]) -> Outcome
     Outcome::Refused(refusal)
 }
 
-// Cuts a source into tokens. Every word of the room is written once or set to zero once.
-pub fn cut(source: &[u8], room: &mut [u32]) -> Outcome
-    ensures { λ r. ⌜ Cuts (now (source .entry)) (now (room .entry)) r (now (room .exit)) ⌝ }
+// Cuts a source into tokens by the reading. Every word of the room is written once or set to zero once.
+pub fn cut(source: &[u8], reading: Reading, room: &mut [u32]) -> Outcome
+    ensures { λ r. ⌜ Cuts reading (now (source .entry)) (now (room .entry)) r (now (room .exit)) ⌝ }
 {
     let names = names::table();
-    let outcome = whole(source, &names, room);
+    let outcome = whole(reading, source, &names, room);
     match outcome {
         Outcome::Refused(refusal) => refuse(refusal, room),
         Outcome::Done(n) => {

@@ -29,7 +29,7 @@ module _ (letter : List ℕ) where
   unfolding extractedAnswer letterText readAnswer
   text-count = go (longer letter) (letterOf Plain letter extractorRooms)
     where
-      go : (t : Bool) (x : Found Letter) → (answerCounts (cond t (Refuses (refusal SourceTooLong)) (answered letter x))) .text ≡ length (cond t [] (textIn x))
+      go : (t : Bool) (x : Found Letter) → (answerCounts (cond t (Refuses (refusal SourceTooLong)) (answered Plain letter x))) .text ≡ length (cond t [] (textIn x))
       go true x = refl
       go false (found l) = refl
       go false (refused r) = refl

@@ -11,7 +11,7 @@ use Rattle.host.specs.declared.answer.StoredAnswer.{StoredAnswer}
 use Rattle.host.specs.declared.answer.WriteAnswer.{WriteAnswer}
 use Rattle.host.specs.Exports.{CutFor, ReadFor, CheckFor, StoredFor, WriteFor}
 
-pub cut-tight : {src room : List ℕ} {r q : CutAnswer} {a b : List ℕ} → CutFor src room r a → CutFor src room q b → (r ≡ q) × (a ≡ b)
+pub cut-tight : {rd : Reading} {src room : List ℕ} {r q : CutAnswer} {a b : List ℕ} → CutFor rd src room r a → CutFor rd src room q b → (r ≡ q) × (a ≡ b)
 cut-tight x y = (x .answer ∙ sym (y .answer), x .tokens ∙ sym (y .tokens))
 
 pub read-tight : {rd : Reading} {src : List ℕ} {z : Sizes} {r r′ : ReadAnswer} {tk fs cs bs tx tk′ fs′ cs′ bs′ tx′ : List ℕ}

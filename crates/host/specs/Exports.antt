@@ -44,9 +44,9 @@ abbrev pub writeOf : Outcome → WriteAnswer
 writeOf o = record { refusal = outcomeNumber o; bytes = outcomeCount o }
 
 -- What each function promises: the one answer, and the one content of each room.
-pub record CutFor (src room : List ℕ) (r : CutAnswer) (room′ : List ℕ) : Type 0 where
-  pub answer : r ≡ cutOf (cutAnswer src (length room))
-  pub tokens : room′ ≡ cutRoom src (length room)
+pub record CutFor (rd : Reading) (src room : List ℕ) (r : CutAnswer) (room′ : List ℕ) : Type 0 where
+  pub answer : r ≡ cutOf (cutAnswer rd src (length room))
+  pub tokens : room′ ≡ cutRoom rd src (length room)
 
 pub record ReadFor (rd : Reading) (src : List ℕ) (z : Sizes) (r : ReadAnswer) (tk fs cs bs tx : List ℕ) : Type 0 where
   pub answer : r ≡ readOf (readAnswer rd src z)

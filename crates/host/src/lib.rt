@@ -1,7 +1,7 @@
 // What hosts written in C or Rust call: six exported functions over sources, lists and lent rooms, each a pointer and a length.
 // host/elduvarn.h declares them.
 //
-//   elduvarn_cut                                     a letter's tokens
+//   elduvarn_cut                                     a letter's tokens, by a reading that is said by its number
 //   elduvarn_read_plain, elduvarn_read_paragraphs    a letter, read whole
 //   elduvarn_stored_check, _read, _write             the stored form
 //
@@ -21,14 +21,16 @@ use readings::Reading;
 use stored::check::check;
 use stored::read_list;
 use storing::write_list;
+ghost use Rattle.readings.specs.Readings.{readingOf};
 ghost use Rattle.parser.specs.Parsing.{sizes};
 ghost use Rattle.host.specs.Exports.{CutFor, ReadFor, CheckFor, StoredFor, WriteFor};
 
 #[no_mangle]
-pub extern "C" fn elduvarn_cut(source: &[u8], tokens: &mut [u32]) -> CutAnswer
-    ensures { λ r. ⌜ CutFor (now (source .entry)) (now (tokens .entry)) r (now (tokens .exit)) ⌝ }
+pub extern "C" fn elduvarn_cut(source: &[u8], reading: u32, tokens: &mut [u32]) -> CutAnswer
+    ensures { λ r. ⌜ CutFor (readingOf reading) (now (source .entry)) (now (tokens .entry)) r (now (tokens .exit)) ⌝ }
 {
-    let outcome = cutter::cut(source, tokens);
+    let by = Reading::of(reading);
+    let outcome = cutter::cut(source, by, tokens);
     of_cut(outcome)
 }
 

@@ -5,6 +5,7 @@ use lib.ListN.{take}
 use Rattle.answers.specs.declared.Outcome.{Outcome}
 use Rattle.answers.specs.Answers.{outcomeNumber, outcomePlace, outcomeCount}
 use Rattle.tokens.specs.Tokens.{tokenWords}
+use Rattle.readings.specs.declared.Reading.the-variants.{Plain}
 use Rattle.cutter.specs.Cutting.{cutAnswer, cutRoom}
 use Rattle.lines.specs.Lines.{item, placeItem, lines}
 
@@ -15,8 +16,8 @@ firstLine o = item (outcomeNumber o) 32 ++ (placeItem (outcomeNumber o) (outcome
 -- then the words of each token, one a line; the letter is cut in a room of so many words
 unfoldable pub tokenLines : List ℕ → ℕ → List ℕ
 tokenLines letter words =
-    let o = cutAnswer letter words in
-    firstLine o ++ lines tokenWords (outcomeCount o) (cutRoom letter words)
+    let o = cutAnswer Plain letter words in
+    firstLine o ++ lines tokenWords (outcomeCount o) (cutRoom Plain letter words)
 
 -- the first part of the lines of so many tokens: those of 1,024
 abbrev pub partTokens : ℕ

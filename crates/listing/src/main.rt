@@ -10,6 +10,7 @@ use libc::STDOUT_FILENO;
 use lines::number;
 use lines::place_item;
 use lines::records;
+use readings::Reading;
 use tokens::TOKEN_WORDS;
 ghost use mathlib.Core.Path.{_≡_};
 ghost use mathlib.Core.List.{_++_};
@@ -107,7 +108,7 @@ fn write_list(letter: &[u8], outcome: Outcome, room: &[u32], page: &mut [u8; PAG
 }
 
 fn print(letter: &[u8], room: &mut [u32], page: &mut [u8; PAGE_BYTES]) {
-    let outcome = cutter::cut(letter, room);
+    let outcome = cutter::cut(letter, Reading::Plain, room);
     write_list(letter, outcome, room, page);
 }
 

@@ -43,23 +43,23 @@ abbrev OutcomeAt : (ℕ → Type 0) → Outcome → Type 0
 OutcomeAt P (Done n) = Unit {0}
 OutcomeAt P (Refused r) = Told P r
 
-cut-at : (src : List ℕ) (total : ℕ) → OutcomeAt (SliceAt src) (cutAnswer src total)
+cut-at : (rd : Reading) (src : List ℕ) (total : ℕ) → OutcomeAt (SliceAt rd src) (cutAnswer rd src total)
 unfolding cutAnswer settled
-cut-at src total = go (answer 0 (tokenStream src)) refl
+cut-at rd src total = go (answer 0 (tokenStream rd src)) refl
   where
-    fits : (n : ℕ) (t : Bool) → OutcomeAt (SliceAt src) (cond t (Done n) (Refused (refusal TokenRoom)))
+    fits : (n : ℕ) (t : Bool) → OutcomeAt (SliceAt rd src) (cond t (Done n) (Refused (refusal TokenRoom)))
     fits n true = tt
-    fits n false = told-none (SliceAt src) TokenRoom refl
+    fits n false = told-none (SliceAt rd src) TokenRoom refl
 
-    go : (o : Outcome) → answer 0 (tokenStream src) ≡ o → OutcomeAt (SliceAt src) (settled tokenLayout (refusal TokenRoom) total o)
+    go : (o : Outcome) → answer 0 (tokenStream rd src) ≡ o → OutcomeAt (SliceAt rd src) (settled tokenLayout (refusal TokenRoom) total o)
     go (Done n) e = fits n (leb n (capacity tokenWords total))
-    go (Refused r) e = stream-stops src e
+    go (Refused r) e = stream-stops rd src e
 
 refused-told : (P : ℕ → Type 0) {o : Outcome} {r : Refusal} → OutcomeAt P o → o ≡ Refused r → Told P r
 refused-told P h e = rw e at h
 
 pub cut-kept : CutPromise
-cut-kept src total r e = refused-told (SliceAt src) (cut-at src total) e
+cut-kept rd src total r e = refused-told (SliceAt rd src) (cut-at rd src total) e
 
 -- ---- reading
 
@@ -93,22 +93,22 @@ module _ (P : ℕ → Type 0) where
   begun-at rd z (token p n (Shown.unknown q bs num) ∷ ts) k = told-at P FirstToken p (k .0)
 
 -- the tokens of a source
-tokens-at : (src : List ℕ) (ts : List Token) → SlicesIn src ts → TokensAt (SliceAt src) ts
-tokens-at src [] h = tt
-tokens-at src (t ∷ ts) h = (h .0 .at, tokens-at src ts (h .1))
+tokens-at : (rd : Reading) (src : List ℕ) (ts : List Token) → SlicesIn rd src ts → TokensAt (SliceAt rd src) ts
+tokens-at rd src [] h = tt
+tokens-at rd src (t ∷ ts) h = (h .0 .at, tokens-at rd src ts (h .1))
 
-whole-at : (rd : Reading) (src : List ℕ) (z : Sizes) → FoundAt (SliceAt src) (letterOf rd src z)
+whole-at : (rd : Reading) (src : List ℕ) (z : Sizes) → FoundAt (SliceAt rd src) (letterOf rd src z)
 unfolding letterOf
-whole-at rd src z = go (cutAnswer src (z .tokens)) (cut-at src (z .tokens))
+whole-at rd src z = go (cutAnswer rd src (z .tokens)) (cut-at rd src (z .tokens))
   where
-    go : (o : Outcome) → OutcomeAt (SliceAt src) o → FoundAt (SliceAt src) (cut rd z (items (tokenStream src)) o)
-    go (Done n) h = begun-at (SliceAt src) rd z (items (tokenStream src)) (tokens-at src (items (tokenStream src)) (stream-slices src))
+    go : (o : Outcome) → OutcomeAt (SliceAt rd src) o → FoundAt (SliceAt rd src) (cut rd z (items (tokenStream rd src)) o)
+    go (Done n) h = begun-at (SliceAt rd src) rd z (items (tokenStream rd src)) (tokens-at rd src (items (tokenStream rd src)) (stream-slices rd src))
     go (Refused r) h = h
 
 pub read-kept : ReadPromise
 unfolding readAnswer
 read-kept rd src z r e = go (letterOf rd src z) (whole-at rd src z) e
   where
-    go : (x : Found Letter) → FoundAt (SliceAt src) x → answered src x ≡ Refuses r → Told (SliceAt src) r
+    go : (x : Found Letter) → FoundAt (SliceAt rd src) x → answered rd src x ≡ Refuses r → Told (SliceAt rd src) r
     go (found l) h e = absurd (let w : Read _ ≡ Refuses r = e in let v : _≡_ {A = ℕ} 0 1 = cc in omega arith)
     go (refused q) h e = let d : q ≡ r = cc in rw d at h

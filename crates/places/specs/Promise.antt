@@ -17,8 +17,8 @@ use Rattle.reader.specs.Reading.{readAnswer}
 
 -- Cutting: any source, any room. ` {}\'zz}` is refused by 4 at byte 3; in a room of one token ` {}` is refused by 7, at 0
 abbrev pub CutPromise : Type 0
-CutPromise = (src : List ℕ) (total : ℕ) (r : Refusal) → cutAnswer src total ≡ Refused r → Told (SliceAt src) r
+CutPromise = (rd : Reading) (src : List ℕ) (total : ℕ) (r : Refusal) → cutAnswer rd src total ≡ Refused r → Told (SliceAt rd src) r
 
 -- Reading: any reading, source and rooms. `{}}b}` is refused by 14 at byte 2: the text b is of the slice of its bracket
 abbrev pub ReadPromise : Type 0
-ReadPromise = (rd : Reading) (src : List ℕ) (z : Sizes) (r : Refusal) → readAnswer rd src z ≡ Refuses r → Told (SliceAt src) r
+ReadPromise = (rd : Reading) (src : List ℕ) (z : Sizes) (r : Refusal) → readAnswer rd src z ≡ Refuses r → Told (SliceAt rd src) r

@@ -89,9 +89,9 @@ module _ (rd : Reading) (z : Sizes) where
   cut-laid ts (Done n) = begun-laid ts
   cut-laid ts (Refused r) = tt
 
-  letter-laid : (src : List ℕ) → Laid rd (z .blocks) (z .text) (items (tokenStream src)) (letterOf rd src z)
+  letter-laid : (src : List ℕ) → Laid rd (z .blocks) (z .text) (items (tokenStream rd src)) (letterOf rd src z)
   unfolding letterOf
-  letter-laid src = cut-laid (items (tokenStream src)) (cutAnswer src (z .tokens))
+  letter-laid src = cut-laid (items (tokenStream rd src)) (cutAnswer rd src (z .tokens))
 
 -- ---- pieces that found room
 
@@ -170,13 +170,13 @@ record Blocks (rd : Reading) (src : List ℕ) (z : Sizes) (c : Counts) : Type 0 
 
 module _ (rd : Reading) (src : List ℕ) (z : Sizes) where
   letter-blocks : (l : Letter) → letterOf rd src z ≡ found l
-      → Laid rd (z .blocks) (z .text) (items (tokenStream src)) (found l) → Blocks rd src z (countsOf src l)
+      → Laid rd (z .blocks) (z .text) (items (tokenStream rd src)) (found l) → Blocks rd src z (countsOf rd src l)
   letter-blocks l e (n, d, p) =
       let xs : List Piece = blocks (l .pieces) in
-      let ts : List Token = items (tokenStream src) in
-      let c : Counts = countsOf src l in
+      let ts : List Token = items (tokenStream rd src) in
+      let c : Counts = countsOf rd src l in
       let h : All (Storable rd) (l .pieces) =
-      subst (All (Storable rd)) (sym p) (placed-storable rd (z .blocks) (z .text) ts d (tokens-fine src)) in
+      subst (All (Storable rd)) (sym p) (placed-storable rd (z .blocks) (z .text) ts d (tokens-fine rd src)) in
       let same : textOf xs ≡ textOf (l .pieces) = text-blocks (l .pieces) in
       let short : length (textOf xs) ≤ 2147483647 = rw (same, p) (placed-short rd (z .blocks) (z .text) ts d) in
       record {
@@ -196,10 +196,10 @@ module _ (rd : Reading) (src : List ℕ) (z : Sizes) where
   unfolding readAnswer
   read-blocks c a = go (letterOf rd src z) refl (letter-laid rd z src) a
     where
-      go : (x : Found Letter) → letterOf rd src z ≡ x → Laid rd (z .blocks) (z .text) (items (tokenStream src)) x
-          → answered src x ≡ Read c → Blocks rd src z c
+      go : (x : Found Letter) → letterOf rd src z ≡ x → Laid rd (z .blocks) (z .text) (items (tokenStream rd src)) x
+          → answered rd src x ≡ Read c → Blocks rd src z c
       go (found l) e d b =
-          let same : countsOf src l ≡ c = cc in
+          let same : countsOf rd src l ≡ c = cc in
           subst (λ (k : Counts). Blocks rd src z k) same (letter-blocks l e d)
       go (refused r) e d b = let w : _≡_ {A = ℕ} 0 1 = cc in absurd (omega arith)
 

@@ -22,12 +22,14 @@ use Rattle.numbers.specs.Numbers.{hexPair, decimal}
 use Rattle.names.specs.Names.{wordNumber}
 use Rattle.rooms.specs.Streams.{Stream, end, stop, _▸_, items}
 use Rattle.rooms.proofs.Streams.{Each, Each-then, Each-each, Each-either}
-use Rattle.slices.specs.Slices.{slices}
+use Rattle.slices.specs.Slices.{slicesBy}
 use Rattle.tokens.specs.declared.Property.{Property}
 use Rattle.tokens.specs.declared.Property.the-variants.{None, Value}
 use Rattle.tokens.specs.Tokens.{Shown, Token, token, shownIn, valueOf}
 use Rattle.tokens.specs.Tokens
-use Rattle.tokenize.specs.Tokenize.{isMark, isEscape, mark, plain, hexValue, hexEscape, lineBreakAnd, shownWord, numbered}
+use Rattle.readings.specs.declared.Reading.{Reading}
+use Rattle.readings.specs.declared.Reading.the-variants.{Plain, Paragraphs}
+use Rattle.tokenize.specs.Tokenize.{behindFeed, otherBy, isMark, isEscape, mark, plain, hexValue, hexEscape, lineBreakAnd, shownWord, numbered}
 use Rattle.tokenize.specs.Tokenize.{named, bareLength, wordTail, word, other, escaped, tokens}
 use Rattle.tokenize.proofs.Places.{At, Stands}
 use Rattle.cutter.specs.Cutting.{located, last, allSlices, trimStart, trimmed, tokenStream}
@@ -105,30 +107,40 @@ other-some : (p : ℕ) (s : List ℕ) → Each Some (other p s)
 unfolding other
 other-some p s = Each-either Some (ltb (lead (inClass Space) s) (length s)) _ _ tt (omega arith, tt)
 
-escaped-some : (p : ℕ) (s : List ℕ) → Each Some (escaped p s)
+feed-some : (p : ℕ) (s : List ℕ) → Each Some (behindFeed p s)
+feed-some p [] = plain-some p []
+feed-some p (b ∷ s) = Each-either Some (eqb b 10) _ _ (plain-some (p + 1) s) (plain-some p (b ∷ s))
+
+otherBy-some : (rd : Reading) (p : ℕ) (s : List ℕ) → Each Some (otherBy rd p s)
+unfolding otherBy
+otherBy-some Plain p s = other-some p s
+otherBy-some Paragraphs p [] = other-some p []
+otherBy-some Paragraphs p (b ∷ s) = Each-either Some (eqb b 13) _ _ (tt, feed-some (p + 2) s) (other-some p (b ∷ s))
+
+escaped-some : (rd : Reading) (p : ℕ) (s : List ℕ) → Each Some (escaped rd p s)
 unfolding escaped lineBreakAnd
-escaped-some p [] = other-some p []
-escaped-some p (b ∷ s) =
+escaped-some rd p [] = other-some p []
+escaped-some rd p (b ∷ s) =
     Each-either Some (isLetter b) _ _ (word-some p (b ∷ s))
     (Each-either Some (isEscape b) _ _ (omega arith, tt)
     (Each-either Some (eqb b 39) _ _ (hex-some p s)
     (Each-either Some (eqb b 10) _ _ (tt, plain-some (p + 2) s)
-    (Each-either Some (eqb b 42) _ _ (tt, tt) (other-some p (b ∷ s))))))
+    (Each-either Some (eqb b 42) _ _ (tt, tt) (otherBy-some rd p (b ∷ s))))))
 
-tokens-some : (p : ℕ) (s : List ℕ) → Each Some (tokens p s)
+tokens-some : (rd : Reading) (p : ℕ) (s : List ℕ) → Each Some (tokens rd p s)
 unfolding tokens
-tokens-some p [] = tt
-tokens-some p (b ∷ s) =
-    Each-either Some (isMark b) _ _ (Each-then Some (mark b) (tokens (p + 1) s) (mark-some b) (tokens-some (p + 1) s))
-    (Each-either Some (eqb b 92) _ _ (escaped-some p s) (plain-some p (b ∷ s)))
+tokens-some rd p [] = tt
+tokens-some rd p (b ∷ s) =
+    Each-either Some (isMark b) _ _ (Each-then Some (mark b) (tokens rd (p + 1) s) (mark-some b) (tokens-some rd (p + 1) s))
+    (Each-either Some (eqb b 92) _ _ (escaped-some rd p s) (plain-some p (b ∷ s)))
 
 -- the same of located tokens
 abbrev SomeIn : Token → Type 0
 SomeIn t = Some (shownIn t)
 
-located-some : (p : ℕ) (s : List ℕ) → Each SomeIn (located p s)
+located-some : (rd : Reading) (p : ℕ) (s : List ℕ) → Each SomeIn (located rd p s)
 unfolding located
-located-some p s = Each-each SomeIn (λ (w : Why). refusalAt w p) (token p (length s)) (tokens p s) (tokens-some p s)
+located-some rd p s = Each-each SomeIn (λ (w : Why). refusalAt w p) (token p (length s)) (tokens rd p s) (tokens-some rd p s)
 
 last-some : (p : ℕ) (s : List ℕ) → Each SomeIn (last p s)
 unfolding last
@@ -136,18 +148,18 @@ last-some p [] = tt
 last-some p (b ∷ []) = Each-either SomeIn (eqb b 125) _ _ (tt, tt) tt
 last-some p (b ∷ c ∷ s) = tt
 
-all-some : (p : ℕ) (ss : List (List ℕ)) → Each SomeIn (allSlices p ss)
+all-some : (rd : Reading) (p : ℕ) (ss : List (List ℕ)) → Each SomeIn (allSlices rd p ss)
 unfolding allSlices
-all-some p [] = tt
-all-some p (s ∷ []) = last-some p s
-all-some p (s ∷ t ∷ ss) =
-    Each-then SomeIn (located p s) (allSlices (p + length s) (t ∷ ss)) (located-some p s) (all-some (p + length s) (t ∷ ss))
+all-some rd p [] = tt
+all-some rd p (s ∷ []) = last-some p s
+all-some rd p (s ∷ t ∷ ss) =
+    Each-then SomeIn (located rd p s) (allSlices rd (p + length s) (t ∷ ss)) (located-some rd p s) (all-some rd (p + length s) (t ∷ ss))
 
-stream-some : (src : List ℕ) → Each SomeIn (tokenStream src)
+stream-some : (rd : Reading) (src : List ℕ) → Each SomeIn (tokenStream rd src)
 unfolding tokenStream
-stream-some src =
+stream-some rd src =
     Each-either SomeIn (ltb 65536 (length src)) _ _ tt
-    (Each-either SomeIn (any isHigh src) _ _ tt (all-some (trimStart src) (slices (trimmed src))))
+    (Each-either SomeIn (any isHigh src) _ _ tt (all-some rd (trimStart src) (slicesBy rd (trimmed src))))
 
 -- ---- no byte above 127
 
@@ -196,9 +208,9 @@ fine-all src h (stop r) a b = tt
 fine-all src h (t ▸ s) a b = (fine-one src h (shownIn t) (a .0 .0) (b .0), fine-all src h s (a .1) (b .1))
 
 -- a source with a byte above 127 has no tokens
-none-high : (src : List ℕ) → any isHigh src ≡ true → items (tokenStream src) ≡ []
+none-high : (rd : Reading) (src : List ℕ) → any isHigh src ≡ true → items (tokenStream rd src) ≡ []
 unfolding tokenStream items
-none-high src h = rw h (go (ltb 65536 (length src)))
+none-high rd src h = rw h (go (ltb 65536 (length src)))
   where
     none : Bool → Stream Refusal Token
     none t = cond t (stop (refusal SourceTooLong)) (stop (refusal NotAscii))
@@ -207,9 +219,9 @@ none-high src h = rw h (go (ltb 65536 (length src)))
     go true = refl
     go false = refl
 
-pub tokens-fine : (src : List ℕ) → All FineIn (items (tokenStream src))
-tokens-fine src = go (any isHigh src) refl
+pub tokens-fine : (rd : Reading) (src : List ℕ) → All FineIn (items (tokenStream rd src))
+tokens-fine rd src = go (any isHigh src) refl
   where
-    go : (t : Bool) → any isHigh src ≡ t → All FineIn (items (tokenStream src))
-    go true h = rw (none-high src h) tt
-    go false h = fine-all src h (tokenStream src) (stream-places src) (stream-some src)
+    go : (t : Bool) → any isHigh src ≡ t → All FineIn (items (tokenStream rd src))
+    go true h = rw (none-high rd src h) tt
+    go false h = fine-all src h (tokenStream rd src) (stream-places rd src) (stream-some rd src)

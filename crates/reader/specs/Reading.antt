@@ -26,28 +26,28 @@ cut rd z ts (Refused r) = refused r
 
 -- a source, read into rooms of such sizes
 unfoldable pub letterOf : Reading → List ℕ → Sizes → Found Letter
-letterOf rd src z = cut rd z (items (tokenStream src)) (cutAnswer src (z .tokens))
+letterOf rd src z = cut rd z (items (tokenStream rd src)) (cutAnswer rd src (z .tokens))
 
-abbrev pub tokenCount : List ℕ → ℕ
-tokenCount src = length (items (tokenStream src))
+abbrev pub tokenCount : Reading → List ℕ → ℕ
+tokenCount rd src = length (items (tokenStream rd src))
 
 -- "Success returns counts of tokens, fonts, colours, blocks and text bytes"
-abbrev pub countsOf : List ℕ → Letter → Counts
-countsOf src l = record {
-  tokens = tokenCount src;
+abbrev pub countsOf : Reading → List ℕ → Letter → Counts
+countsOf rd src l = record {
+  tokens = tokenCount rd src;
   fonts = length (l .tables .fonts);
   colours = length (l .tables .colours);
   blocks = length (blocks (l .pieces));
   text = length (textOf (l .pieces));
 }
 
-abbrev pub answered : List ℕ → Found Letter → Answer
-answered src (found l) = Read (countsOf src l)
-answered src (refused r) = Refuses r
+abbrev pub answered : Reading → List ℕ → Found Letter → Answer
+answered rd src (found l) = Read (countsOf rd src l)
+answered rd src (refused r) = Refuses r
 
 -- the one answer
 unfoldable pub readAnswer : Reading → List ℕ → Sizes → Answer
-readAnswer rd src z = answered src (letterOf rd src z)
+readAnswer rd src z = answered rd src (letterOf rd src z)
 
 -- "room beyond them is zero. Any refusal .. zeroes all lent rooms."
 abbrev pub holding : ℕ → (Letter → List ℕ) → Found Letter → List ℕ
@@ -56,7 +56,7 @@ holding total words (refused r) = replicate total 0
 
 -- the one content of each room
 unfoldable pub tokenRoom : Reading → List ℕ → Sizes → List ℕ
-tokenRoom rd src z = holding (z .tokens) (λ (l : Letter). encode tokenLayout (tokenStream src)) (letterOf rd src z)
+tokenRoom rd src z = holding (z .tokens) (λ (l : Letter). encode tokenLayout (tokenStream rd src)) (letterOf rd src z)
 
 unfoldable pub fontRoom : Reading → List ℕ → Sizes → List ℕ
 fontRoom rd src z = holding (z .fonts) (λ (l : Letter). tableWords (l .tables .fonts)) (letterOf rd src z)

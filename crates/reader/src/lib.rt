@@ -30,11 +30,11 @@ fn attempt(
     blocks: &mut [u32],
     text: &mut [u8],
 ) -> Answer
-    ensures token_room { λ _. ⌜ now (tokens .exit) ≡ cutRoom (now (source .entry)) (length (now (tokens .entry))) ⌝ }
-    ensures few { λ r. ⌜ ((k : Counts) → r ≡ Answer.Read k → tokenCount (now (source .entry)) ≤ 65536) ⌝ }
-    ensures letter { λ r. ⌜ LetterInto (letterOf reading (now (source .entry)) (sizes (now (tokens .entry)) (now (fonts .entry)) (now (colours .entry)) (now (blocks .entry)) (now (text .entry)))) (tokenCount (now (source .entry))) r (now (fonts .exit)) (now (colours .exit)) (now (blocks .exit)) (now (text .exit)) (length (now (fonts .entry))) (length (now (colours .entry))) (length (now (blocks .entry))) (length (now (text .entry))) ⌝ }
+    ensures token_room { λ _. ⌜ now (tokens .exit) ≡ cutRoom reading (now (source .entry)) (length (now (tokens .entry))) ⌝ }
+    ensures few { λ r. ⌜ ((k : Counts) → r ≡ Answer.Read k → tokenCount reading (now (source .entry)) ≤ 65536) ⌝ }
+    ensures letter { λ r. ⌜ LetterInto (letterOf reading (now (source .entry)) (sizes (now (tokens .entry)) (now (fonts .entry)) (now (colours .entry)) (now (blocks .entry)) (now (text .entry)))) (tokenCount reading (now (source .entry))) r (now (fonts .exit)) (now (colours .exit)) (now (blocks .exit)) (now (text .exit)) (length (now (fonts .entry))) (length (now (colours .entry))) (length (now (blocks .entry))) (length (now (text .entry))) ⌝ }
 {
-    let outcome = cut(source, tokens);
+    let outcome = cut(source, reading, tokens);
     match outcome {
         Outcome::Refused(refusal) => Answer::Refuses(refusal),
         Outcome::Done(n) => parse(source, reading, tokens, n, fonts, colours, blocks, text),

@@ -1,7 +1,22 @@
-// How a letter is read (01, Body): plain, as the crate does, or by paragraphs. Below the cutter, so that cutting can go by it too.
+// How a letter is read (01, Body; 02, A2): plain, as the crate does, or by paragraphs. Below the cutter, which goes by it too.
+ghost use mathlib.Core.Path.{_≡_};
+ghost use Rattle.readings.specs.Readings.{readingOf};
+
 pub enum Reading {
     // as the crate
     Plain,
-    // the same, but `par` adds a line feed
+    // the same, but `par` adds a line feed, indents are set, and a backslash and a carriage return are a line break
     Paragraphs,
+}
+
+impl Reading {
+    // A reading by its number, as hosts say it: 1 is by paragraphs, any other number plain.
+    pub fn of(number: u32) -> Reading
+        ensures { λ r. ⌜ r ≡ readingOf number ⌝ }
+    {
+        if number == 1 {
+            return Reading::Paragraphs;
+        }
+        Reading::Plain
+    }
 }

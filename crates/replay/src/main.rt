@@ -16,6 +16,7 @@ use list::Front;
 use list::HEAD_BYTES;
 use list::ROOM_MOST;
 use list::next;
+use readings::Reading;
 use say::End;
 use say::Tally;
 ghost use Prim.Native.Nat.{_≤_};
@@ -33,9 +34,9 @@ const LIST_ROOM: usize = 524288;
 fn cut_and_compare(letter: &[u8], records: &[u8], answer: Answer, room: &mut [u32]) -> Verdict
     ensures { λ r. do
       words ← ⟦room.len()⟧ .entry
-      ⌜ Judged (cutAnswer (now (letter .entry)) words) (cutRoom (now (letter .entry)) words) answer (now (records .entry)) r ⌝ }
+      ⌜ Judged (cutAnswer Reading.Plain (now (letter .entry)) words) (cutRoom Reading.Plain (now (letter .entry)) words) answer (now (records .entry)) r ⌝ }
 {
-    let outcome = cutter::cut(letter, room);
+    let outcome = cutter::cut(letter, Reading::Plain, room);
     compare(outcome, room, answer, records)
 }
 

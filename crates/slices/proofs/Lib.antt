@@ -5,3 +5,4 @@ mod Bitwise
 pub mod Marking
 pub mod Slices
 mod Ends
+pub mod Feeds

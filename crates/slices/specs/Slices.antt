@@ -1,8 +1,11 @@
 -- 01, Cutting: a letter's slices. Assumes nothing: these are definitions.
-use Prim.Native.Nat.{ℕ, zero, suc}
-use mathlib.Core.List.{List, [], _∷_}
-use mathlib.Core.Bool.{Bool, cond, not, _&&_}
+use Prim.Native.Nat.{ℕ, zero, suc, _+_}
+use mathlib.Core.List.{List, [], _∷_, _++_}
+use mathlib.Core.Bool.{Bool, false, cond, not, _&&_}
+use lib.ListN.{take, drop}
 use lib.Dec.{eqb}
+use Rattle.readings.specs.declared.Reading.{Reading}
+use Rattle.readings.specs.declared.Reading.the-variants.{Plain, Paragraphs}
 use Rattle.bytes.specs.Bytes.{isSpecial}
 
 -- "`{`, `}`, `\` and line feed start a new slice unless the byte before is `\`."
@@ -26,6 +29,30 @@ unfoldable pub slices : List ℕ → List (List ℕ)
 slices [] = []
 slices (b ∷ s) = onto b (split b s)
 
+-- 02, A2: "a line feed directly after belongs to it": a slice that is a backslash and a carriage return takes in a slice that starts with a line feed
+abbrev pub isReturn : List ℕ → Bool
+isReturn [] = false
+isReturn (a ∷ []) = false
+isReturn (a ∷ b ∷ []) = eqb a 92 && eqb b 13
+isReturn (a ∷ b ∷ c ∷ s) = false
+
+abbrev pub startsWithFeed : List ℕ → Bool
+startsWithFeed [] = false
+startsWithFeed (b ∷ s) = eqb b 10
+
+abbrev pub takeFeed : List ℕ → List (List ℕ) → List (List ℕ)
+takeFeed s [] = s ∷ []
+takeFeed s (t ∷ ts) = cond (isReturn s && startsWithFeed t) ((s ++ t) ∷ ts) (s ∷ t ∷ ts)
+
+unfoldable pub withFeeds : List (List ℕ) → List (List ℕ)
+withFeeds [] = []
+withFeeds (s ∷ ss) = takeFeed s (withFeeds ss)
+
+-- a source's slices by the reading: "Plain reading stays equal to the crate."
+abbrev pub slicesBy : Reading → List ℕ → List (List ℕ)
+slicesBy Plain s = slices s
+slicesBy Paragraphs s = withFeeds (slices s)
+
 -- how many bytes stand before the next slice
 unfoldable pub upTo : ℕ → List ℕ → ℕ
 upTo before [] = zero
@@ -35,3 +62,11 @@ upTo before (b ∷ s) = cond (startsSlice before b) zero (suc (upTo b s))
 unfoldable pub sliceLength : List ℕ → ℕ
 sliceLength [] = zero
 sliceLength (b ∷ s) = suc (upTo b s)
+
+-- the same by the reading: n bytes, and those of the slice behind them that is taken in
+abbrev pub feedLength : List ℕ → ℕ → ℕ
+feedLength s n = cond (isReturn (take n s) && startsWithFeed (drop n s)) (n + sliceLength (drop n s)) n
+
+unfoldable pub lengthBy : Reading → List ℕ → ℕ
+lengthBy Plain s = sliceLength s
+lengthBy Paragraphs s = feedLength s (sliceLength s)

@@ -1,12 +1,17 @@
 // Slices: where a letter is cut apart (01, Cutting; the loop of `Lexer::scan` in the crate).
+//
+//   slice_end      the end of the first slice, eight bytes at once
+//   slice_end_by   the same by the reading: by paragraphs `\` and a carriage return take in a line feed behind them (02, A2)
 mod eights;
 
 use crate::eights::first_mark;
 use crate::eights::marks_of;
+use readings::Reading;
 ghost use mathlib.Core.Path.{_≡_};
+ghost use mathlib.Core.Bool.{_&&_};
 ghost use Prim.Native.Nat.{_+_, _-_, _≤_, _<_};
-ghost use lib.ListN.{length, getD, drop};
-ghost use Rattle.slices.specs.Slices.{startsSlice, upTo, sliceLength};
+ghost use lib.ListN.{length, getD, take, drop};
+ghost use Rattle.slices.specs.Slices.{startsSlice, upTo, sliceLength, isReturn, startsWithFeed, lengthBy};
 
 // Whether b starts a new slice behind the byte `before`.
 fn starts_slice(before: u8, b: u8) -> bool
@@ -59,4 +64,40 @@ pub fn slice_end(s: &[u8]) -> usize
         }
     }
     end_from(s, i)
+}
+
+// Whether a backslash, a carriage return and a line feed stand in front.
+fn takes_feed(s: &[u8]) -> bool
+    ensures { λ r. ⌜ r ≡ isReturn (take 2 (now (s .entry))) && startsWithFeed (drop 2 (now (s .entry))) ⌝ }
+{
+    if s.len() < 3 {
+        return false;
+    }
+    ((s[0] == b'\\') & (s[1] == b'\r')) & (s[2] == b'\n')
+}
+
+// Where the search for the first slice's end begins: at the line feed that it takes in by the reading, or in front.
+fn search_from(reading: Reading, s: &[u8]) -> usize
+    ensures { λ r. ⌜ r + sliceLength (drop r (now (s .entry))) ≡ lengthBy reading (now (s .entry)) ⌝ }
+    ensures { λ r. ⌜ (0 < length (now (s .entry)) → r < length (now (s .entry))) × (r ≤ length (now (s .entry))) ⌝ }
+{
+    match reading {
+        Reading::Plain => 0,
+        Reading::Paragraphs => {
+            if takes_feed(s) {
+                return 2;
+            }
+            0
+        }
+    }
+}
+
+// The length of the first slice by the reading. One call of `slice_end`, so that the compiler lays it into the cutter's loop.
+pub fn slice_end_by(reading: Reading, s: &[u8]) -> usize
+    ensures length { λ r. ⌜ r ≡ lengthBy reading (now (s .entry)) ⌝ }
+    ensures within { λ r. ⌜ r ≤ length (now (s .entry)) ⌝ }
+    ensures some { λ r. ⌜ (0 < length (now (s .entry)) → 0 < r) ⌝ }
+{
+    let from = search_from(reading, s);
+    from + slice_end(&s[from..])
 }

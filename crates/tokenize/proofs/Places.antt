@@ -25,7 +25,9 @@ use Rattle.tokens.specs.declared.Property.{Property}
 use Rattle.tokens.specs.declared.Property.the-variants.{None, Value}
 use Rattle.tokens.specs.Tokens.{Shown, valueOf}
 use Rattle.tokens.specs.Tokens
-use Rattle.tokenize.specs.Tokenize.{isMark, isEscape, mark, plain, hexValue, hexEscape, lineBreakAnd, shownWord, numbered, named, bareLength, wordTail, word, other, escaped, tokens}
+use Rattle.readings.specs.declared.Reading.{Reading}
+use Rattle.readings.specs.declared.Reading.the-variants.{Plain, Paragraphs}
+use Rattle.tokenize.specs.Tokenize.{isMark, isEscape, mark, plain, hexValue, hexEscape, lineBreakAnd, shownWord, numbered, named, bareLength, wordTail, word, other, behindFeed, otherBy, escaped, tokens}
 
 -- the bytes bs stand at source place q, where s stands at p
 pub record At (s : List ℕ) (p q : ℕ) (bs : List ℕ) : Type 0 where
@@ -149,26 +151,39 @@ module _ (p : ℕ) where
   unfolding other
   other-stands s = Each-either (Stands (92 ∷ s) p) (ltb (lead (inClass Space) s) (length s)) _ _ tt (at-back [] (92 ∷ s) p p (omega arith), tt)
 
-  escaped-stands : (s : List ℕ) → Each (Stands (92 ∷ s) p) (escaped p s)
+  -- behind a backslash and another byte
+  feed-stands : (b : ℕ) (s : List ℕ) → Each (Stands (92 ∷ b ∷ s) p) (behindFeed (p + 2) s)
+  feed-stands b [] = plain-stands (92 ∷ b ∷ []) [] (p + 2) (omega arith)
+  feed-stands b (c ∷ s) =
+      Each-either (Stands (92 ∷ b ∷ c ∷ s) p) (eqb c 10) _ _ (plain-stands (92 ∷ b ∷ c ∷ []) s (p + 2 + 1) (omega arith))
+      (plain-stands (92 ∷ b ∷ []) (c ∷ s) (p + 2) (omega arith))
+
+  otherBy-stands : (rd : Reading) (s : List ℕ) → Each (Stands (92 ∷ s) p) (otherBy rd p s)
+  unfolding otherBy
+  otherBy-stands Plain s = other-stands s
+  otherBy-stands Paragraphs [] = other-stands []
+  otherBy-stands Paragraphs (b ∷ s) = Each-either (Stands (92 ∷ b ∷ s) p) (eqb b 13) _ _ (tt, feed-stands b s) (other-stands (b ∷ s))
+
+  escaped-stands : (rd : Reading) (s : List ℕ) → Each (Stands (92 ∷ s) p) (escaped rd p s)
   unfolding escaped lineBreakAnd
-  escaped-stands [] = other-stands []
-  escaped-stands (b ∷ s) =
+  escaped-stands rd [] = other-stands []
+  escaped-stands rd (b ∷ s) =
       let P = Stands (92 ∷ b ∷ s) p in
       Each-either P (isLetter b) _ _ (word-stands (b ∷ s))
       (Each-either P (isEscape b) _ _ (at-back (92 ∷ []) (b ∷ s) p (p + 1) (omega arith), tt)
       (Each-either P (eqb b 39) _ _ (hex-stands b s)
       (Each-either P (eqb b 10) _ _ (tt, plain-stands (92 ∷ b ∷ []) s (p + 2) (omega arith))
-      (Each-either P (eqb b 42) _ _ (tt, tt) (other-stands (b ∷ s))))))
+      (Each-either P (eqb b 42) _ _ (tt, tt) (otherBy-stands rd (b ∷ s))))))
 
-pub tokens-stand : (p : ℕ) (s : List ℕ) → Each (Stands s p) (tokens p s)
+pub tokens-stand : (rd : Reading) (p : ℕ) (s : List ℕ) → Each (Stands s p) (tokens rd p s)
 unfolding tokens
-tokens-stand p [] = tt
-tokens-stand p (b ∷ s) = go (isMark b) (eqb b 92) refl (tokens-stand (p + 1) s)
+tokens-stand rd p [] = tt
+tokens-stand rd p (b ∷ s) = go (isMark b) (eqb b 92) refl (tokens-stand rd (p + 1) s)
   where
-    go : (t u : Bool) → eqb b 92 ≡ u → Each (Stands s (p + 1)) (tokens (p + 1) s)
-        → Each (Stands (b ∷ s) p) (cond t (andThen (mark b) (tokens (p + 1) s)) (cond u (escaped p s) (plain p (b ∷ s))))
+    go : (t u : Bool) → eqb b 92 ≡ u → Each (Stands s (p + 1)) (tokens rd (p + 1) s)
+        → Each (Stands (b ∷ s) p) (cond t (andThen (mark b) (tokens rd (p + 1) s)) (cond u (escaped rd p s) (plain p (b ∷ s))))
     go true u e h =
-        Each-then (Stands (b ∷ s) p) (mark b) (tokens (p + 1) s) (mark-stands b (b ∷ s) p)
-        (Each-weaken (Stands s (p + 1)) (Stands (b ∷ s) p) (stands-after (b ∷ []) s p) (tokens (p + 1) s) h)
-    go false true e h = rw (eqb-true b 92 e) (escaped-stands p s)
+        Each-then (Stands (b ∷ s) p) (mark b) (tokens rd (p + 1) s) (mark-stands b (b ∷ s) p)
+        (Each-weaken (Stands s (p + 1)) (Stands (b ∷ s) p) (stands-after (b ∷ []) s p) (tokens rd (p + 1) s) h)
+    go false true e h = rw (eqb-true b 92 e) (escaped-stands p rd s)
     go false false e h = plain-stands p [] (b ∷ s) p (omega arith)

@@ -16,13 +16,15 @@ use Rattle.numbers.specs.declared.Number.{Number}
 use Rattle.numbers.specs.declared.Number.the-variants.{Is, Bad}
 use Rattle.numbers.specs.Numbers.{hexPair, decimal}
 use Rattle.names.specs.Names.{wordNumber}
+use Rattle.readings.specs.declared.Reading.{Reading}
+use Rattle.readings.specs.declared.Reading.the-variants.{Plain, Paragraphs}
 use Rattle.rooms.specs.Streams.{Stream, end, stop, _▸_, andThen}
 use Rattle.tokens.specs.declared.Property.{Property}
 use Rattle.tokens.specs.declared.Property.the-variants.{None, Value}
 use Rattle.tokens.specs.declared.Record.{Record}
 use Rattle.tokens.specs.Tokens.{Shown, wordRecord, unknownRecord, recordOf}
 use Rattle.tokens.specs.Tokens
-use Rattle.tokenize.specs.Tokenize.{isMark, isEscape, mark, plain, hexValue, hexEscape, lineBreakAnd, shownWord, numbered, named, bareLength, wordTail, word, other, escaped, tokens}
+use Rattle.tokenize.specs.Tokenize.{isMark, isEscape, mark, plain, hexValue, hexEscape, lineBreakAnd, shownWord, numbered, named, bareLength, wordTail, word, other, behindFeed, otherBy, escaped, tokens}
 use Rattle.answers.specs.declared.Why.{Why}
 
 -- the bytes from a place on, as the code has them
@@ -151,51 +153,51 @@ unfolding lineBreakAnd
 break-at p s = refl
 
 -- behind a backslash, by the byte that follows
-pub escaped-none : (p : ℕ) (s : List ℕ) → length s ≡ 0 → escaped p s ≡ other p s
+pub escaped-none : (rd : Reading) (p : ℕ) (s : List ℕ) → length s ≡ 0 → escaped rd p s ≡ other p s
 unfolding escaped
-escaped-none p [] h = refl
-escaped-none p (b ∷ s) h = absurd (omega arith)
+escaped-none rd p [] h = refl
+escaped-none rd p (b ∷ s) h = absurd (omega arith)
 
-module _ (p : ℕ) where
+module _ (rd : Reading) (p : ℕ) where
   abbrev choice : Bool → Bool → List ℕ → Stream Why Shown
   choice l t s =
       cond l (word p s)
       (cond t (Shown.text (p + 1) s ▸ end)
       (cond (eqb (getD s 0 0) 39) (hexEscape p (part 1 s))
       (cond (eqb (getD s 0 0) 10) (lineBreakAnd p (part 1 s))
-      (cond (eqb (getD s 0 0) 42) (Shown.ignorable ▸ end) (other p s)))))
+      (cond (eqb (getD s 0 0) 42) (Shown.ignorable ▸ end) (otherBy rd p s)))))
 
-  escaped-at : (s : List ℕ) → (length s ≡ 0 → ⊥) → escaped p s ≡ choice (isLetter (getD s 0 0)) (isEscape (getD s 0 0)) s
+  escaped-at : (s : List ℕ) → (length s ≡ 0 → ⊥) → escaped rd p s ≡ choice (isLetter (getD s 0 0)) (isEscape (getD s 0 0)) s
   unfolding escaped
   escaped-at [] h = absurd (h refl)
   escaped-at (b ∷ s) h = rw (part-drop 1 (b ∷ s))
 
   module _ (s : List ℕ) (z : length s ≡ 0 → ⊥) (l : Bool) (v : l ≡ isLetter (getD s 0 0)) where
-    pub escaped-word : l ≡ true → escaped p s ≡ word p s
+    pub escaped-word : l ≡ true → escaped rd p s ≡ word p s
     escaped-word e = escaped-at s z ∙ ap (λ (t : Bool). choice t (isEscape (getD s 0 0)) s) (sym v ∙ e)
 
     module _ (f : l ≡ false) (r : Bool) (q : r ≡ isEscape (getD s 0 0)) where
-      past-letter : (t : Bool) → r ≡ t → escaped p s ≡ choice false t s
+      past-letter : (t : Bool) → r ≡ t → escaped rd p s ≡ choice false t s
       past-letter t e =
           escaped-at s z
           ∙ ap (λ (t : Bool). choice t (isEscape (getD s 0 0)) s) (sym v ∙ f)
           ∙ ap (λ (t : Bool). choice false t s) (sym q ∙ e)
 
-      pub escaped-text : r ≡ true → escaped p s ≡ Shown.text (p + 1) s ▸ end
+      pub escaped-text : r ≡ true → escaped rd p s ≡ Shown.text (p + 1) s ▸ end
       escaped-text e = past-letter true e
 
-      pub escaped-hex : r ≡ false → getD s 0 0 ≡ 39 → escaped p s ≡ hexEscape p (part 1 s)
+      pub escaped-hex : r ≡ false → getD s 0 0 ≡ 39 → escaped rd p s ≡ hexEscape p (part 1 s)
       escaped-hex e b = past-letter false e ∙ rw (eq-eqb (getD s 0 0) 39 b)
 
       module _ (e : r ≡ false) (x : getD s 0 0 ≡ 39 → ⊥) where
-        pub escaped-break : getD s 0 0 ≡ 10 → escaped p s ≡ lineBreakAnd p (part 1 s)
+        pub escaped-break : getD s 0 0 ≡ 10 → escaped rd p s ≡ lineBreakAnd p (part 1 s)
         escaped-break b = past-letter false e ∙ rw (ne-eqb (getD s 0 0) 39 x, eq-eqb (getD s 0 0) 10 b)
 
         module _ (y : getD s 0 0 ≡ 10 → ⊥) where
-          pub escaped-mark : getD s 0 0 ≡ 42 → escaped p s ≡ Shown.ignorable ▸ end
+          pub escaped-mark : getD s 0 0 ≡ 42 → escaped rd p s ≡ Shown.ignorable ▸ end
           escaped-mark b = past-letter false e ∙ rw (ne-eqb (getD s 0 0) 39 x, ne-eqb (getD s 0 0) 10 y, eq-eqb (getD s 0 0) 42 b)
 
-          pub escaped-other : (getD s 0 0 ≡ 42 → ⊥) → escaped p s ≡ other p s
+          pub escaped-other : (getD s 0 0 ≡ 42 → ⊥) → escaped rd p s ≡ otherBy rd p s
           escaped-other b = past-letter false e ∙ rw (ne-eqb (getD s 0 0) 39 x, ne-eqb (getD s 0 0) 10 y, ne-eqb (getD s 0 0) 42 b)
 
 -- a bracket or a line feed
@@ -212,32 +214,69 @@ unfolding mark
 mark-none b f g = rw (ne-eqb b 123 f, ne-eqb b 125 g)
 
 -- a slice, by its first byte
-pub tokens-none : (p : ℕ) (s : List ℕ) → length s ≡ 0 → tokens p s ≡ end
+pub tokens-none : (rd : Reading) (p : ℕ) (s : List ℕ) → length s ≡ 0 → tokens rd p s ≡ end
 unfolding tokens
-tokens-none p [] h = refl
-tokens-none p (b ∷ s) h = absurd (omega arith)
+tokens-none rd p [] h = refl
+tokens-none rd p (b ∷ s) h = absurd (omega arith)
 
-module _ (p : ℕ) where
+module _ (rd : Reading) (p : ℕ) where
   abbrev pick : Bool → List ℕ → Stream Why Shown
-  pick t s = cond t (andThen (mark (getD s 0 0)) (tokens (p + 1) (part 1 s))) (cond (eqb (getD s 0 0) 92) (escaped p (part 1 s)) (plain p s))
+  pick t s = cond t (andThen (mark (getD s 0 0)) (tokens rd (p + 1) (part 1 s))) (cond (eqb (getD s 0 0) 92) (escaped rd p (part 1 s)) (plain p s))
 
-  tokens-at : (s : List ℕ) → (length s ≡ 0 → ⊥) → tokens p s ≡ pick (isMark (getD s 0 0)) s
+  tokens-at : (s : List ℕ) → (length s ≡ 0 → ⊥) → tokens rd p s ≡ pick (isMark (getD s 0 0)) s
   unfolding tokens
   tokens-at [] h = absurd (h refl)
   tokens-at (b ∷ s) h = rw (part-drop 1 (b ∷ s))
 
   module _ (s : List ℕ) (z : length s ≡ 0 → ⊥) (r : Bool) (q : r ≡ isMark (getD s 0 0)) where
-    by-mark : (t : Bool) → r ≡ t → tokens p s ≡ pick t s
+    by-mark : (t : Bool) → r ≡ t → tokens rd p s ≡ pick t s
     by-mark t e = tokens-at s z ∙ ap (λ (t : Bool). pick t s) (sym q ∙ e)
 
-    pub tokens-mark : r ≡ true → tokens p s ≡ andThen (mark (getD s 0 0)) (tokens (p + 1) (part 1 s))
+    pub tokens-mark : r ≡ true → tokens rd p s ≡ andThen (mark (getD s 0 0)) (tokens rd (p + 1) (part 1 s))
     tokens-mark e = by-mark true e
 
-    pub tokens-alone : r ≡ true → length s ≡ 1 → tokens p s ≡ andThen (mark (getD s 0 0)) end
-    tokens-alone e l = tokens-mark e ∙ ap (andThen (mark (getD s 0 0))) (tokens-none (p + 1) (part 1 s) (simp (length-take, length-drop) (omega arith)))
+    pub tokens-alone : r ≡ true → length s ≡ 1 → tokens rd p s ≡ andThen (mark (getD s 0 0)) end
+    tokens-alone e l = tokens-mark e ∙ ap (andThen (mark (getD s 0 0))) (tokens-none rd (p + 1) (part 1 s) (simp (length-take, length-drop) (omega arith)))
 
-    pub tokens-escaped : r ≡ false → getD s 0 0 ≡ 92 → tokens p s ≡ escaped p (part 1 s)
+    pub tokens-escaped : r ≡ false → getD s 0 0 ≡ 92 → tokens rd p s ≡ escaped rd p (part 1 s)
     tokens-escaped f e = by-mark false f ∙ rw (eq-eqb (getD s 0 0) 92 e)
 
-    pub tokens-plain : r ≡ false → (getD s 0 0 ≡ 92 → ⊥) → tokens p s ≡ plain p s
+    pub tokens-plain : r ≡ false → (getD s 0 0 ≡ 92 → ⊥) → tokens rd p s ≡ plain p s
     tokens-plain f e = by-mark false f ∙ rw (ne-eqb (getD s 0 0) 92 e)
+
+-- the last rule, by the reading
+module _ {rd : Reading} (p : ℕ) (s : List ℕ) where
+  pub other-plain : rd ≡ Plain → otherBy rd p s ≡ other p s
+  unfolding otherBy
+  other-plain e = rw e
+
+  pub other-by : rd ≡ Paragraphs → {x : Stream Why Shown} → otherBy Paragraphs p s ≡ x → otherBy rd p s ≡ x
+  other-by e f = rw e f
+
+pub return-none : (p : ℕ) (s : List ℕ) → length s ≡ 0 → otherBy Paragraphs p s ≡ other p s
+unfolding otherBy
+return-none p [] h = refl
+return-none p (b ∷ s) h = absurd (omega arith)
+
+pub return-other : (p : ℕ) (s : List ℕ) → (length s ≡ 0 → ⊥) → (getD s 0 0 ≡ 13 → ⊥) → otherBy Paragraphs p s ≡ other p s
+unfolding otherBy
+return-other p [] h f = refl
+return-other p (b ∷ s) h f = rw (ne-eqb b 13 f)
+
+-- a carriage return, and what is behind it
+pub return-break : (p : ℕ) (s : List ℕ) → (length s ≡ 0 → ⊥) → getD s 0 0 ≡ 13 → otherBy Paragraphs p s ≡ Shown.lineBreak ▸ behindFeed (p + 2) (part 1 s)
+unfolding otherBy
+return-break p [] h e = absurd (h refl)
+return-break p (b ∷ s) h e = rw (eq-eqb b 13 e, part-drop 1 (b ∷ s))
+
+pub feed-none : (p : ℕ) (s : List ℕ) → length s ≡ 0 → behindFeed p s ≡ plain p s
+feed-none p [] h = refl
+feed-none p (b ∷ s) h = absurd (omega arith)
+
+pub feed-some : (p : ℕ) (s : List ℕ) → (length s ≡ 0 → ⊥) → getD s 0 0 ≡ 10 → behindFeed p s ≡ plain (p + 1) (part 1 s)
+feed-some p [] h e = absurd (h refl)
+feed-some p (b ∷ s) h e = rw (eq-eqb b 10 e, part-drop 1 (b ∷ s))
+
+pub feed-other : (p : ℕ) (s : List ℕ) → (length s ≡ 0 → ⊥) → (getD s 0 0 ≡ 10 → ⊥) → behindFeed p s ≡ plain p s
+feed-other p [] h f = refl
+feed-other p (b ∷ s) h f = rw (ne-eqb b 10 f)

@@ -17,6 +17,7 @@ use Rattle.bytes.specs.declared.Class.the-variants.{InWord, Numeral}
 use Rattle.bytes.specs.Bytes.{isLetter, isNumeral, isSpecial, endsWord, inClass, lead, body, grown}
 use Rattle.bytes.proofs.Runs.{and-left, and-right, or-left, or-right}
 use Rattle.rooms.specs.Streams.{andThen}
+use Rattle.readings.specs.declared.Reading.{Reading}
 use Rattle.tokenize.specs.Tokenize.{isMark, bareLength, named, plain, wordTail, word, tokens}
 use Rattle.tokenize.proofs.Rules.{part, part-drop, word-parts, tokens-plain, tokens-escaped, escaped-word}
 use Rattle.tokenize.specs.Quick.{endsAt}
@@ -135,26 +136,26 @@ module _ (s : List ℕ) (e d : ℕ) (p : e ≡ lead isLetter s) (q : d ≡ lead 
   word-shape at h = word-parts at s (e + d) (e + d) (whole .upTo) (bare-all h) ∙ rw (part-drop (e + d + 1) s)
 
 -- a slice whose first byte is not special is plain text
-plain-slice : (at : ℕ) (s : List ℕ) → (length s ≡ 0 → ⊥) → (r : Bool) → r ≡ isSpecial (getD s 0 0) → r ≡ false → tokens at s ≡ plain at s
-plain-slice at s z r q f =
+plain-slice : (rd : Reading) (at : ℕ) (s : List ℕ) → (length s ≡ 0 → ⊥) → (r : Bool) → r ≡ isSpecial (getD s 0 0) → r ≡ false → tokens rd at s ≡ plain at s
+plain-slice rd at s z r q f =
     let n : isSpecial (getD s 0 0) ≡ false = sym q ∙ f in
     let x : eqb (getD s 0 0) 92 ≡ false = or-left (eqb (getD s 0 0) 92) _ n in
     let y = or-right (eqb (getD s 0 0) 92) _ n in
     let v : eqb (getD s 0 0) 123 ≡ false = or-left (eqb (getD s 0 0) 123) _ y in
     let w = or-right (eqb (getD s 0 0) 123) _ y in
     let m : false ≡ isMark (getD s 0 0) = sym (rw (v, or-left (eqb (getD s 0 0) 125) _ w) (or-right (eqb (getD s 0 0) 125) _ w)) in
-    tokens-plain at s z false m refl (eqb-false (getD s 0 0) 92 x)
+    tokens-plain rd at s z false m refl (eqb-false (getD s 0 0) 92 x)
 
 -- the same of what stands behind a byte
-pub tail-plain : (at : ℕ) (s : List ℕ) → 1 < length s → (r : Bool) → r ≡ isSpecial (getD (part 1 s) 0 0) → r ≡ false → tokens at (part 1 s) ≡ plain at (part 1 s)
-tail-plain at s h r q f =
+pub tail-plain : (rd : Reading) (at : ℕ) (s : List ℕ) → 1 < length s → (r : Bool) → r ≡ isSpecial (getD (part 1 s) 0 0) → r ≡ false → tokens rd at (part 1 s) ≡ plain at (part 1 s)
+tail-plain rd at s h r q f =
     let n : length (part 1 s) ≡ length s - 1 = simp (length-take, length-drop) (omega arith) in
-    plain-slice at (part 1 s) (λ z. omega (arith, n, z)) r q f
+    plain-slice rd at (part 1 s) (λ z. omega (arith, n, z)) r q f
 
 -- a backslash and a letter: a word
-pub word-slice : (at : ℕ) (s : List ℕ) → 1 < length s → getD s 0 0 ≡ 92 → (r : Bool) → r ≡ isLetter (getD s 1 0) → r ≡ true → tokens at s ≡ word at (part 1 s)
-word-slice at s h b r q t =
+pub word-slice : (rd : Reading) (at : ℕ) (s : List ℕ) → 1 < length s → getD s 0 0 ≡ 92 → (r : Bool) → r ≡ isLetter (getD s 1 0) → r ≡ true → tokens rd at s ≡ word at (part 1 s)
+word-slice rd at s h b r q t =
     let n : length (part 1 s) ≡ length s - 1 = simp (length-take, length-drop) (omega arith) in
     let g : getD (part 1 s) 0 0 ≡ getD s 1 0 = rw (part-drop 1 s) (getD-drop 1 s 0 0) in
     let m : false ≡ isMark (getD s 0 0) = rw b in
-    tokens-escaped at s (λ z. omega (arith, z)) false m refl b ∙ escaped-word at (part 1 s) (λ z. omega (arith, n, z)) r (rw g q) t
+    tokens-escaped rd at s (λ z. omega (arith, z)) false m refl b ∙ escaped-word rd at (part 1 s) (λ z. omega (arith, n, z)) r (rw g q) t

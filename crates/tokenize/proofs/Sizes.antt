@@ -17,7 +17,9 @@ use Rattle.rooms.specs.Streams.{Stream, count, byName}
 use Rattle.rooms.specs.Rooms.{Wrote}
 use Rattle.rooms.proofs.Streams.{count-then, ended-count, name-apart}
 use Rattle.tokens.specs.Tokens.{Shown, shownLayout}
-use Rattle.tokenize.specs.Tokenize.{isMark, isEscape, mark, plain, hexValue, hexEscape, lineBreakAnd, numbered, named, bareLength, wordTail, word, other, escaped, tokens}
+use Rattle.readings.specs.declared.Reading.{Reading}
+use Rattle.readings.specs.declared.Reading.the-variants.{Plain, Paragraphs}
+use Rattle.tokenize.specs.Tokenize.{isMark, isEscape, mark, plain, hexValue, hexEscape, lineBreakAnd, numbered, named, bareLength, wordTail, word, other, behindFeed, otherBy, escaped, tokens}
 use Rattle.answers.specs.declared.Why.{Why}
 
 -- a bound on both is a bound on a choice
@@ -76,22 +78,32 @@ count-other : (p : ℕ) (s : List ℕ) → count (other p s) ≤ 1
 unfolding other count
 count-other p s = either (ltb (lead (inClass Space) s) (length s)) _ _ 1 (omega arith) (omega arith)
 
-count-escaped : (p : ℕ) (s : List ℕ) → count (escaped p s) ≤ length s + 1
+count-feed : (p : ℕ) (s : List ℕ) → count (behindFeed p s) ≤ 1
+count-feed p [] = count-plain p []
+count-feed p (b ∷ s) = either (eqb b 10) _ _ 1 (count-plain (p + 1) s) (count-plain p (b ∷ s))
+
+count-otherBy : (rd : Reading) (p : ℕ) (s : List ℕ) → count (otherBy rd p s) ≤ length s + 1
+unfolding otherBy count
+count-otherBy Plain p s = omega (arith, count-other p s)
+count-otherBy Paragraphs p [] = omega (arith, count-other p [])
+count-otherBy Paragraphs p (b ∷ s) = either (eqb b 13) _ _ _ (omega (arith, count-feed (p + 2) s)) (omega (arith, count-other p (b ∷ s)))
+
+count-escaped : (rd : Reading) (p : ℕ) (s : List ℕ) → count (escaped rd p s) ≤ length s + 1
 unfolding escaped count
-count-escaped p [] = omega (arith, count-other p [])
-count-escaped p (b ∷ s) =
+count-escaped rd p [] = omega (arith, count-other p [])
+count-escaped rd p (b ∷ s) =
     either (isLetter b) _ _ _ (omega (arith, count-word p (b ∷ s)))
     (either (isEscape b) _ _ _ (omega arith)
     (either (eqb b 39) _ _ _ (omega (arith, count-hexEscape p s))
     (either (eqb b 10) _ _ _ (omega (arith, count-break p s))
-    (either (eqb b 42) _ _ _ (omega arith) (omega (arith, count-other p (b ∷ s)))))))
+    (either (eqb b 42) _ _ _ (omega arith) (omega (arith, count-otherBy rd p (b ∷ s)))))))
 
-pub count-tokens : (p : ℕ) (s : List ℕ) → count (tokens p s) ≤ length s
+pub count-tokens : (rd : Reading) (p : ℕ) (s : List ℕ) → count (tokens rd p s) ≤ length s
 unfolding tokens count
-count-tokens p [] = omega arith
-count-tokens p (b ∷ s) =
-    either (isMark b) _ _ _ (omega (arith, count-then (mark b) (tokens (p + 1) s), count-mark b, count-tokens (p + 1) s))
-    (either (eqb b 92) _ _ _ (omega (arith, count-escaped p s)) (omega (arith, count-plain p (b ∷ s))))
+count-tokens rd p [] = omega arith
+count-tokens rd p (b ∷ s) =
+    either (isMark b) _ _ _ (omega (arith, count-then (mark b) (tokens rd (p + 1) s), count-mark b, count-tokens rd (p + 1) s))
+    (either (eqb b 92) _ _ _ (omega (arith, count-escaped rd p s)) (omega (arith, count-plain p (b ∷ s))))
 
 -- the next place in the room, where a function has written and answered
 pub named-next : (p : ℕ) (w : List ℕ) {n m : ℕ} {r : Written} {room room′ : List ℕ} → Wrote shownLayout byName n room (named p w) r room′ → r ≡ Done m → m ≤ n + 1
@@ -100,5 +112,5 @@ named-next p w {n} {m} v d = omega (arith, ended-count name-apart (named p w) n 
 pub mark-next : (b : ℕ) {n m : ℕ} {room room′ : List ℕ} → Wrote shownLayout byName n room (mark b) (Done m) room′ → m ≤ n + 1
 mark-next b {n} {m} v = omega (arith, ended-count name-apart (mark b) n m (sym (v .says)), count-mark b)
 
-pub tokens-next : (p : ℕ) (s : List ℕ) {n m : ℕ} {r : Written} {room room′ : List ℕ} → Wrote shownLayout byName n room (tokens p s) r room′ → r ≡ Done m → m ≤ n + length s
-tokens-next p s {n} {m} v d = omega (arith, ended-count name-apart (tokens p s) n m (sym (v .says) ∙ d), count-tokens p s)
+pub tokens-next : (rd : Reading) (p : ℕ) (s : List ℕ) {n m : ℕ} {r : Written} {room room′ : List ℕ} → Wrote shownLayout byName n room (tokens rd p s) r room′ → r ≡ Done m → m ≤ n + length s
+tokens-next rd p s {n} {m} v d = omega (arith, ended-count name-apart (tokens rd p s) n m (sym (v .says) ∙ d), count-tokens rd p s)

@@ -8,6 +8,8 @@ use lib.Dec.{ltb, eqb}
 use Rattle.answers.specs.declared.Why.the-variants.{HexShort, HexBad, NumberBad}
 use Rattle.bytes.specs.declared.Class.the-variants.{White, WordEnd, InWord, Space, Numeral}
 use Rattle.bytes.specs.Bytes.{isLetter, inClass, lead, body}
+use Rattle.readings.specs.declared.Reading.{Reading}
+use Rattle.readings.specs.declared.Reading.the-variants.{Plain, Paragraphs}
 use Rattle.numbers.specs.declared.Number.{Number}
 use Rattle.numbers.specs.declared.Number.the-variants.{Is, Bad}
 use Rattle.numbers.specs.Numbers.{hexPair, decimal}
@@ -85,23 +87,34 @@ word p s =
 unfoldable pub other : ℕ → List ℕ → Stream Why Shown
 other p s = cond (ltb (lead (inClass Space) s) (length s)) end (Shown.text p (92 ∷ s) ▸ end)
 
+-- 02, A2: "In paragraph .. reading a backslash and carriage return become a line break token, a line feed directly after belongs to it, and the tail
+-- is kept. Plain reading stays equal to the crate." s stands behind the carriage return
+abbrev pub behindFeed : ℕ → List ℕ → Stream Why Shown
+behindFeed p [] = plain p []
+behindFeed p (b ∷ s) = cond (eqb b 10) (plain (p + 1) s) (plain p (b ∷ s))
+
+unfoldable pub otherBy : Reading → ℕ → List ℕ → Stream Why Shown
+otherBy Plain p s = other p s
+otherBy Paragraphs p [] = other p []
+otherBy Paragraphs p (b ∷ s) = cond (eqb b 13) (Shown.lineBreak ▸ behindFeed (p + 2) s) (other p (b ∷ s))
+
 -- a slice that begins with a backslash, by the byte behind that: a word, "one text token, the slice without its first
--- byte", `\'`, `\` line feed, "`\*`: an ignorable mark; its tail is lost.", and the rest
-unfoldable pub escaped : ℕ → List ℕ → Stream Why Shown
-escaped p [] = other p []
-escaped p (b ∷ s) =
+-- byte", `\'`, `\` line feed, "`\*`: an ignorable mark; its tail is lost.", and the rest, by the reading
+unfoldable pub escaped : Reading → ℕ → List ℕ → Stream Why Shown
+escaped rd p [] = other p []
+escaped rd p (b ∷ s) =
     cond (isLetter b) (word p (b ∷ s))
     (cond (isEscape b) (Shown.text (p + 1) (b ∷ s) ▸ end)
     (cond (eqb b 39) (hexEscape p s)
     (cond (eqb b 10) (lineBreakAnd p s)
     (cond (eqb b 42) (Shown.ignorable ▸ end)
-    (other p (b ∷ s))))))
+    (otherBy rd p (b ∷ s))))))
 
 -- a slice by its first byte: "what follows that byte is cut again by these rules."; "Other: a plain tail."
-unfoldable pub tokens : ℕ → List ℕ → Stream Why Shown
-tokens p [] = end
-tokens p (b ∷ s) =
-    let again = tokens (p + 1) s in
+unfoldable pub tokens : Reading → ℕ → List ℕ → Stream Why Shown
+tokens rd p [] = end
+tokens rd p (b ∷ s) =
+    let again = tokens rd (p + 1) s in
     cond (isMark b) (andThen (mark b) again)
-    (cond (eqb b 92) (escaped p s)
+    (cond (eqb b 92) (escaped rd p s)
     (plain p (b ∷ s)))

@@ -1,7 +1,7 @@
 // The tokens of one slice (01, Cutting; `Lexer::tokenize` in the crate).
 //
 //   tokenize   a slice by its first byte; what follows a bracket or a raw line feed is cut again
-//   escaped    what a backslash makes of the bytes behind it
+//   escaped    what a backslash makes of the bytes behind it; the reading counts in its last rule alone, `other_by`
 //   word       a control word, and the text behind it
 //
 // `quick` gives the same for the slices that letters mostly hold, and calls these for the rest.
@@ -21,6 +21,7 @@ use names::Table;
 use numbers::Number;
 use numbers::decimal_of;
 use numbers::hex_pair;
+use readings::Reading;
 use tokens::Property;
 use tokens::Record;
 use tokens::put;
@@ -31,7 +32,7 @@ ghost use lib.ListN.{length};
 ghost use Rattle.names.specs.Names.{rows};
 ghost use Rattle.rooms.specs.Rooms.{Wrote};
 ghost use Rattle.tokens.specs.Tokens.{shownLayout, textRecord, recordOf};
-ghost use Rattle.tokenize.specs.Tokenize.{isMark, isEscape, plain as plainOf, wordTail, bareLength, shownWord, named as namedOf, word as wordOf, hexEscape, lineBreakAnd, other as otherOf, escaped as escapedOf, mark as markOf, tokens as tokensOf};
+ghost use Rattle.tokenize.specs.Tokenize.{isMark, isEscape, plain as plainOf, wordTail, bareLength, shownWord, named as namedOf, word as wordOf, hexEscape, lineBreakAnd, other as otherOf, behindFeed, otherBy, escaped as escapedOf, mark as markOf, tokens as tokensOf};
 ghost use Rattle.rooms.specs.Streams.{byName};
 
 // `{`, `}` or a line feed.
@@ -198,10 +199,57 @@ fn other(s: &[u8], place: usize, room: &mut [u32], n: usize) -> Written
     Written::Done(n + 1)
 }
 
+// What stands behind a carriage return that makes a line break; a line feed in front belongs to it.
+fn behind_feed(s: &[u8], place: usize, room: &mut [u32], n: usize) -> Written
+    requires { ⌜ (place + length (now s) ≤ 65536) × (n ≤ place) ⌝ }
+    ensures { λ r. ⌜ Wrote shownLayout byName n (now (room .entry)) (behindFeed place (now (s .entry))) r (now (room .exit)) ⌝ }
+{
+    if s.len() == 0 {
+        return plain(s, place, room, n);
+    }
+    if s[0] == b'\n' {
+        return plain(&s[1..], place + 1, room, n);
+    }
+    plain(s, place, room, n)
+}
+
+// A backslash and a carriage return are a line break by paragraphs (02, A2). Else as `other`.
+fn returned(s: &[u8], place: usize, room: &mut [u32], n: usize) -> Written
+    requires { ⌜ (place + (1 + length (now s)) ≤ 65536) × (n ≤ place) ⌝ }
+    ensures { λ r. ⌜ Wrote shownLayout byName n (now (room .entry)) (otherBy Reading.Paragraphs place (now (s .entry))) r (now (room .exit)) ⌝ }
+{
+    if s.len() == 0 {
+        return other(s, place, room, n);
+    }
+    if s[0] != b'\r' {
+        return other(s, place, room, n);
+    }
+    put(room, n, Record::bare(3));
+    behind_feed(&s[1..], place + 2, room, n + 1)
+}
+
+// The last rule, by the reading.
+fn other_by(reading: Reading, s: &[u8], place: usize, room: &mut [u32], n: usize) -> Written
+    requires { ⌜ (place + (1 + length (now s)) ≤ 65536) × (n ≤ place) ⌝ }
+    ensures { λ r. ⌜ Wrote shownLayout byName n (now (room .entry)) (otherBy reading place (now (s .entry))) r (now (room .exit)) ⌝ }
+{
+    match reading {
+        Reading::Plain => other(s, place, room, n),
+        Reading::Paragraphs => returned(s, place, room, n),
+    }
+}
+
 // What a backslash at `place` makes of s, the bytes behind it.
-fn escaped(s: &[u8], place: usize, names: &Table, room: &mut [u32], n: usize) -> Written
+fn escaped(
+    reading: Reading,
+    s: &[u8],
+    place: usize,
+    names: &Table,
+    room: &mut [u32],
+    n: usize,
+) -> Written
     requires { ⌜ (place + (1 + length (now s)) ≤ 65536) × (n ≤ place) × (now names ≡ rows) ⌝ }
-    ensures { λ r. ⌜ Wrote shownLayout byName n (now (room .entry)) (escapedOf place (now (s .entry))) r (now (room .exit)) ⌝ }
+    ensures { λ r. ⌜ Wrote shownLayout byName n (now (room .entry)) (escapedOf reading place (now (s .entry))) r (now (room .exit)) ⌝ }
 {
     if s.len() == 0 {
         return other(s, place, room, n);
@@ -224,7 +272,7 @@ fn escaped(s: &[u8], place: usize, names: &Table, room: &mut [u32], n: usize) ->
         put(room, n, Record::bare(4));
         return Written::Done(n + 1);
     }
-    other(s, place, room, n)
+    other_by(reading, s, place, room, n)
 }
 
 // An opening or a closing bracket has a token, a line feed none. The next place in the room.
@@ -244,9 +292,16 @@ fn mark(b: u8, room: &mut [u32], n: usize) -> usize
 }
 
 // The tokens of a slice that stands at `place`.
-fn tokenize(s: &[u8], place: usize, names: &Table, room: &mut [u32], n: usize) -> Written
+fn tokenize(
+    reading: Reading,
+    s: &[u8],
+    place: usize,
+    names: &Table,
+    room: &mut [u32],
+    n: usize,
+) -> Written
     requires { ⌜ (place + length (now s) ≤ 65536) × (n ≤ place) × (now names ≡ rows) ⌝ }
-    ensures { λ r. ⌜ Wrote shownLayout byName n (now (room .entry)) (tokensOf place (now (s .entry))) r (now (room .exit)) ⌝ }
+    ensures { λ r. ⌜ Wrote shownLayout byName n (now (room .entry)) (tokensOf reading place (now (s .entry))) r (now (room .exit)) ⌝ }
 {
     if s.len() == 0 {
         return Written::Done(n);
@@ -257,7 +312,7 @@ fn tokenize(s: &[u8], place: usize, names: &Table, room: &mut [u32], n: usize) -
         if s.len() == 1 {
             return Written::Done(m);
         }
-        let rest = tokenize(&s[1..], place + 1, names, room, m);
+        let rest = tokenize(reading, &s[1..], place + 1, names, room, m);
         match rest {
             Written::Refused(why) => {
                 return Written::Refused(why);
@@ -268,7 +323,7 @@ fn tokenize(s: &[u8], place: usize, names: &Table, room: &mut [u32], n: usize) -
         }
     }
     if b == b'\\' {
-        return escaped(&s[1..], place, names, room, n);
+        return escaped(reading, &s[1..], place, names, room, n);
     }
     plain(s, place, room, n)
 }

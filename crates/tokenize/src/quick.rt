@@ -23,6 +23,7 @@ use bytes::lead_of;
 use names::Table;
 use numbers::Number;
 use numbers::decimal_of;
+use readings::Reading;
 use tokens::Property;
 use tokens::put;
 ghost use mathlib.Core.Path.{_≡_};
@@ -125,17 +126,24 @@ fn quick_word(s: &[u8], place: usize, names: &Table, room: &mut [u32], n: usize)
 }
 
 // A slice that begins with a backslash.
-fn escaped(s: &[u8], place: usize, names: &Table, room: &mut [u32], n: usize) -> Written
+fn escaped(
+    reading: Reading,
+    s: &[u8],
+    place: usize,
+    names: &Table,
+    room: &mut [u32],
+    n: usize,
+) -> Written
     requires { ⌜ (place + length (now s) ≤ 65536) × (n ≤ place) × (now names ≡ rows) ⌝ }
     requires { ⌜ (0 < length (now s)) × (getD (now s) 0 0 ≡ 92) ⌝ }
-    ensures { λ r. ⌜ Wrote shownLayout byName n (now (room .entry)) (tokensOf place (now (s .entry))) r (now (room .exit)) ⌝ }
+    ensures { λ r. ⌜ Wrote shownLayout byName n (now (room .entry)) (tokensOf reading place (now (s .entry))) r (now (room .exit)) ⌝ }
 {
     if 1 < s.len() {
         if is_letter(s[1]) {
             return quick_word(&s[1..], place, names, room, n);
         }
     }
-    let rest = tokenize(s, place, names, room, n);
+    let rest = tokenize(reading, s, place, names, room, n);
     match rest {
         Written::Refused(why) => Written::Refused(why),
         Written::Done(m) => Written::Done(m),
@@ -143,15 +151,22 @@ fn escaped(s: &[u8], place: usize, names: &Table, room: &mut [u32], n: usize) ->
 }
 
 // A slice that begins with a bracket or a line feed. What follows is cut again: by `tokenize`, which calls itself on it.
-fn marked(s: &[u8], place: usize, names: &Table, room: &mut [u32], n: usize) -> Written
+fn marked(
+    reading: Reading,
+    s: &[u8],
+    place: usize,
+    names: &Table,
+    room: &mut [u32],
+    n: usize,
+) -> Written
     requires { ⌜ (place + length (now s) ≤ 65536) × (n ≤ place) × (now names ≡ rows) ⌝ }
     requires { ⌜ (0 < length (now s)) × (isMark (getD (now s) 0 0) ≡ true) ⌝ }
-    ensures { λ r. ⌜ Wrote shownLayout byName n (now (room .entry)) (tokensOf place (now (s .entry))) r (now (room .exit)) ⌝ }
+    ensures { λ r. ⌜ Wrote shownLayout byName n (now (room .entry)) (tokensOf reading place (now (s .entry))) r (now (room .exit)) ⌝ }
 {
     if s.len() == 1 {
         return Written::Done(mark(s[0], room, n));
     }
-    let rest = tokenize(s, place, names, room, n);
+    let rest = tokenize(reading, s, place, names, room, n);
     match rest {
         Written::Refused(why) => Written::Refused(why),
         Written::Done(m) => Written::Done(m),
@@ -159,19 +174,26 @@ fn marked(s: &[u8], place: usize, names: &Table, room: &mut [u32], n: usize) -> 
 }
 
 // The tokens of a slice that stands at `place`.
-pub fn slice_tokens(s: &[u8], place: usize, names: &Table, room: &mut [u32], n: usize) -> Written
+pub fn slice_tokens(
+    reading: Reading,
+    s: &[u8],
+    place: usize,
+    names: &Table,
+    room: &mut [u32],
+    n: usize,
+) -> Written
     requires { ⌜ (place + length (now s) ≤ 65536) × (n ≤ place) × (now names ≡ rows) ⌝ }
-    ensures { λ r. ⌜ Wrote shownLayout byName n (now (room .entry)) (tokensOf place (now (s .entry))) r (now (room .exit)) ⌝ }
+    ensures { λ r. ⌜ Wrote shownLayout byName n (now (room .entry)) (tokensOf reading place (now (s .entry))) r (now (room .exit)) ⌝ }
 {
     if s.len() == 0 {
         return Written::Done(n);
     }
     let b = s[0];
     if b == b'\\' {
-        return escaped(s, place, names, room, n);
+        return escaped(reading, s, place, names, room, n);
     }
     if is_mark(b) {
-        return marked(s, place, names, room, n);
+        return marked(reading, s, place, names, room, n);
     }
     plain(s, place, room, n)
 }

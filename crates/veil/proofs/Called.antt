@@ -102,9 +102,9 @@ pub record SameLeft (a b : List ℕ) (r q : Answer) (fs cs bs tx gs ds es ux : L
   pub fonts : fontsAt a (answerCounts r .fonts) fs ≡ fontsAt b (answerCounts q .fonts) gs
   pub font-rooms : unplaced fs ≡ unplaced gs
 
-module _ (a b : List ℕ) (z y : Sizes) (same : SameRooms z y) where
+module _ (rd : Reading) (a b : List ℕ) (z y : Sizes) (same : SameRooms z y) where
   abbrev Left : Found Letter → Found Letter → Type 0
-  Left x x′ = SameLeft a b (answered a x) (answered b x′)
+  Left x x′ = SameLeft a b (answered rd a x) (answered rd b x′)
       (holding (z .fonts) (λ (l : Letter). tableWords (l .tables .fonts)) x)
       (holding (z .colours) (λ (l : Letter). l .tables .colours) x)
       (holding (z .blocks) (λ (l : Letter). records 0 (blocks (l .pieces))) x)
@@ -175,27 +175,27 @@ module _ (a b : List ℕ) (z y : Sizes) (same : SameRooms z y) where
 
 -- a call that succeeds has cut its letter
 pub read-cut : (rd : Reading) (src : List ℕ) (z : Sizes) {c : Counts} → readAnswer rd src z ≡ Read c
-    → (n : ℕ) × (cutAnswer src (z .tokens) ≡ Done n)
+    → (n : ℕ) × (cutAnswer rd src (z .tokens) ≡ Done n)
 unfolding readAnswer letterOf
-read-cut rd src z {c} e = go (cutAnswer src (z .tokens)) refl e
+read-cut rd src z {c} e = go (cutAnswer rd src (z .tokens)) refl e
   where
-    go : (o : Outcome) → cutAnswer src (z .tokens) ≡ o → answered src (cut rd z (items (tokenStream src)) o) ≡ Read c
-        → (n : ℕ) × (cutAnswer src (z .tokens) ≡ Done n)
+    go : (o : Outcome) → cutAnswer rd src (z .tokens) ≡ o → answered rd src (cut rd z (items (tokenStream rd src)) o) ≡ Read c
+        → (n : ℕ) × (cutAnswer rd src (z .tokens) ≡ Done n)
     go (Done n) q f = (n, q)
     go (Refused r) q f = absurd (let w : _≡_ {A = ℕ} 0 1 = cc in omega arith)
 
 -- Two calls of `read`: `Reads` is its contract, for a source and rooms of such sizes, with the answer and the five rooms that
 -- the call leaves. Premises as in `hidden-stays-hidden`
-module _ (rd : Reading) (a b : List ℕ) (z y : Sizes) (same : SameRooms z y) {n m : ℕ} (u : cutAnswer a (z .tokens) ≡ Done n) (v : cutAnswer b (y .tokens) ≡ Done m) where
-  pub same-calls : veil a ≡ veil b → {r q : Answer} {tk fs cs bs tx uk gs ds es ux : List ℕ}
+module _ (rd : Reading) (a b : List ℕ) (z y : Sizes) (same : SameRooms z y) {n m : ℕ} (u : cutAnswer rd a (z .tokens) ≡ Done n) (v : cutAnswer rd b (y .tokens) ≡ Done m) where
+  pub same-calls : veil rd a ≡ veil rd b → {r q : Answer} {tk fs cs bs tx uk gs ds es ux : List ℕ}
       → Reads rd a z r tk fs cs bs tx → Reads rd b y q uk gs ds es ux → SameLeft a b r q fs cs bs tx gs ds es ux
   unfolding readAnswer fontRoom colourRoom blockRoom textRoom said
   same-calls e p q =
       let f : saidBy a (letterOf rd a z) ≡ saidBy b (letterOf rd b y) = hidden-stays-hidden rd a b z y same u v e in
       let o : sayOf (letterOf rd a z) ≡ sayOf (letterOf rd b y) = sym (said-own rd a z u) ∙ f ∙ said-own rd b y v in
       rw (p .answer, p .fonts, p .colours, p .blocks, p .text, q .answer, q .fonts, q .colours, q .blocks, q .text)
-      (same-letters a b z y same (letterOf rd a z) (letterOf rd b y) f o)
+      (same-letters rd a b z y same (letterOf rd a z) (letterOf rd b y) f o)
 
-  pub alike-calls : Alike a b → {r q : Answer} {tk fs cs bs tx uk gs ds es ux : List ℕ}
+  pub alike-calls : Alike rd a b → {r q : Answer} {tk fs cs bs tx uk gs ds es ux : List ℕ}
       → Reads rd a z r tk fs cs bs tx → Reads rd b y q uk gs ds es ux → SameLeft a b r q fs cs bs tx gs ds es ux
-  alike-calls k p q = same-calls (alike-veil k) p q
+  alike-calls k p q = same-calls (alike-veil rd k) p q

@@ -31,46 +31,46 @@ use Rattle.veil.proofs.Names.{letter-names}
 use Rattle.veil.proofs.Groups.{alike-veil}
 
 -- a source that is cut without refusal
-cut-whole : (src : List ℕ) (total : ℕ) {n : ℕ} → cutAnswer src total ≡ Done n → whole (tokenStream src) ≡ true
+cut-whole : (rd : Reading) (src : List ℕ) (total : ℕ) {n : ℕ} → cutAnswer rd src total ≡ Done n → whole (tokenStream rd src) ≡ true
 unfolding cutAnswer settled
-cut-whole src total {n} e = go (answer 0 (tokenStream src)) refl e
+cut-whole rd src total {n} e = go (answer 0 (tokenStream rd src)) refl e
   where
-    go : (o : Outcome) → answer 0 (tokenStream src) ≡ o → settled tokenLayout (refusal TokenRoom) total o ≡ Done n
-        → whole (tokenStream src) ≡ true
-    go (Done m) a q = answer-whole (tokenStream src) 0 m a
+    go : (o : Outcome) → answer 0 (tokenStream rd src) ≡ o → settled tokenLayout (refusal TokenRoom) total o ≡ Done n
+        → whole (tokenStream rd src) ≡ true
+    go (Done m) a q = answer-whole (tokenStream rd src) 0 m a
     go (Refused r) a q = absurd (done-refused (sym q))
 
 -- the steps of the walk, without places
-steps : List ℕ → List Step
-steps src = bareSteps (walk (items (tokenStream src)))
+steps : Reading → List ℕ → List Step
+steps rd src = bareSteps (walk (items (tokenStream rd src)))
 
 -- a font's name, read from the source, is the name that the font table gives
-pub said-own : (rd : Reading) (src : List ℕ) (z : Sizes) {n : ℕ} → cutAnswer src (z .tokens) ≡ Done n
+pub said-own : (rd : Reading) (src : List ℕ) (z : Sizes) {n : ℕ} → cutAnswer rd src (z .tokens) ≡ Done n
     → said rd src z ≡ sayOf (letterOf rd src z)
 unfolding said letterOf
 said-own rd src z e =
-    let ts : List Token = items (tokenStream src) in
-    ap (λ (o : Outcome). saidBy src (cut rd z (items (tokenStream src)) o)) e
+    let ts : List Token = items (tokenStream rd src) in
+    ap (λ (o : Outcome). saidBy src (cut rd z (items (tokenStream rd src)) o)) e
     ∙ ap (saidBy src) (begun-steps rd z ts)
     ∙ letter-names src rd (z .fonts) (z .colours) (z .blocks) (z .text)
     ∙ ap sayOf (sym (begun-steps rd z ts))
-    ∙ ap (λ (o : Outcome). sayOf (cut rd z (items (tokenStream src)) o)) (sym e)
+    ∙ ap (λ (o : Outcome). sayOf (cut rd z (items (tokenStream rd src)) o)) (sym e)
 
 -- it says what its steps say
-said-steps : (rd : Reading) (src : List ℕ) (z : Sizes) {n : ℕ} → cutAnswer src (z .tokens) ≡ Done n
-    → said rd src z ≡ sayOf (first rd (z .fonts) (z .colours) (z .blocks) (z .text) (steps src))
+said-steps : (rd : Reading) (src : List ℕ) (z : Sizes) {n : ℕ} → cutAnswer rd src (z .tokens) ≡ Done n
+    → said rd src z ≡ sayOf (first rd (z .fonts) (z .colours) (z .blocks) (z .text) (steps rd src))
 unfolding letterOf steps
 said-steps rd src z e =
-    let ts : List Token = items (tokenStream src) in
+    let ts : List Token = items (tokenStream rd src) in
     said-own rd src z e
-    ∙ ap (λ (o : Outcome). sayOf (cut rd z (items (tokenStream src)) o)) e
+    ∙ ap (λ (o : Outcome). sayOf (cut rd z (items (tokenStream rd src)) o)) e
     ∙ ap sayOf (begun-steps rd z ts)
     ∙ sym (say-bare rd (z .fonts) (z .colours) (z .blocks) (z .text) (walk ts))
 
-same-steps : (a b : List ℕ) (s t : ℕ) {n m : ℕ} → cutAnswer a s ≡ Done n → cutAnswer b t ≡ Done m → veil a ≡ veil b
-    → steps a ≡ steps b
+same-steps : (rd : Reading) (a b : List ℕ) (s t : ℕ) {n m : ℕ} → cutAnswer rd a s ≡ Done n → cutAnswer rd b t ≡ Done m → veil rd a ≡ veil rd b
+    → steps rd a ≡ steps rd b
 unfolding steps
-same-steps a b s t u v e = walk-same a b (cut-whole a s u) (cut-whole b t v) e
+same-steps rd a b s t u v e = walk-same rd a b (cut-whole rd a s u) (cut-whole rd b t v) e
 
 -- in rooms of the same sizes the same steps say the same
 same-sizes : (rd : Reading) (z y : Sizes) (ss : List Step) → SameRooms z y
@@ -83,20 +83,20 @@ same-sizes rd z y ss s = rw (s .fonts, s .colours, s .blocks, s .text)
 -- for the token rooms. Premises: each source is cut without refusal in its token room (so that room is enough), and they have
 -- one veil. Then both are refused alike, or both give the same fonts, colours, blocks and text
 pub hidden-stays-hidden : (rd : Reading) (a b : List ℕ) (z y : Sizes) → SameRooms z y → {n m : ℕ}
-    → cutAnswer a (z .tokens) ≡ Done n → cutAnswer b (y .tokens) ≡ Done m → veil a ≡ veil b
+    → cutAnswer rd a (z .tokens) ≡ Done n → cutAnswer rd b (y .tokens) ≡ Done m → veil rd a ≡ veil rd b
     → said rd a z ≡ said rd b y
 hidden-stays-hidden rd a b z y s u v e =
     said-steps rd a z u
-    ∙ ap (λ (ss : List Step). sayOf (first rd (z .fonts) (z .colours) (z .blocks) (z .text) ss)) (same-steps a b (z .tokens) (y .tokens) u v e)
-    ∙ same-sizes rd z y (steps b) s
+    ∙ ap (λ (ss : List Step). sayOf (first rd (z .fonts) (z .colours) (z .blocks) (z .text) ss)) (same-steps rd a b (z .tokens) (y .tokens) u v e)
+    ∙ same-sizes rd z y (steps rd b) s
     ∙ sym (said-steps rd b y v)
 
 -- The same of letters that differ inside ignored groups, each closed by its own bracket: of those in between, where one group
 -- after another is changed, nothing is asked
 pub alike-said : (rd : Reading) (a b : List ℕ) (z y : Sizes) → SameRooms z y → {n m : ℕ}
-    → cutAnswer a (z .tokens) ≡ Done n → cutAnswer b (y .tokens) ≡ Done m → Alike a b
+    → cutAnswer rd a (z .tokens) ≡ Done n → cutAnswer rd b (y .tokens) ≡ Done m → Alike rd a b
     → said rd a z ≡ said rd b y
-alike-said rd a b z y s u v k = hidden-stays-hidden rd a b z y s u v (alike-veil k)
+alike-said rd a b z y s u v k = hidden-stays-hidden rd a b z y s u v (alike-veil rd k)
 
 -- demand 3
 pub promise-kept : Promise

@@ -305,7 +305,7 @@ module _ (src : List ℕ) where
 
   -- what a source's steps say, its names read from the source or told by their bytes
   pub letter-names : (rd : Reading) (f c b t : ℕ)
-      → let x : Found Letter = first rd f c b t (walk (items (tokenStream src))) in saidBy src x ≡ sayOf x
+      → let x : Found Letter = first rd f c b t (walk (items (tokenStream rd src))) in saidBy src x ≡ sayOf x
   letter-names rd f c b t =
-      let ss : List Step = walk (items (tokenStream src)) in
-      said-own (first rd f c b t ss) (first-at rd f c b t ss (walk-at 0 (items (tokenStream src)) (texts-at (tokenStream src) (stream-places src))))
+      let ss : List Step = walk (items (tokenStream rd src)) in
+      said-own (first rd f c b t ss) (first-at rd f c b t ss (walk-at 0 (items (tokenStream rd src)) (texts-at (tokenStream rd src) (stream-places rd src))))

@@ -13,7 +13,7 @@ use Rattle.numbers.specs.Numbers.{hexDigit, hexPair, digitsFrom, digits, decima
 use Rattle.rooms.specs.Streams.{andThen, each, items, ended}
 use Rattle.rooms.specs.Rooms.{settled, tableLimit}
 use Rattle.slices.specs.Slices.{split, slices}
-use Rattle.tokenize.specs.Tokenize.{mark, plain, hexValue, hexEscape, lineBreakAnd, shownWord, numbered, named, bareLength}
+use Rattle.tokenize.specs.Tokenize.{otherBy, mark, plain, hexValue, hexEscape, lineBreakAnd, shownWord, numbered, named, bareLength}
 use Rattle.tokenize.specs.Tokenize.{wordTail, word, other, escaped, tokens}
 use Rattle.cutter.specs.Cutting.{located, last, allSlices, trimmed, tokenStream, cutAnswer}
 use Rattle.utf8.specs.Utf8.{utf8, written}
@@ -26,7 +26,7 @@ use Rattle.fonts.specs.Rows.{hasKey, inserted, stored, fontWords}
 use Rattle.fonts.specs.Fonts.{named as fontNamed, fontWord, fontToken, fontsFrom, fonts}
 use Rattle.colours.specs.Colours.{colourWordOf, colourToken, coloursFrom, colours, colourWords}
 use Rattle.header.specs.Header.{tablesFrom}
-use Rattle.readings.specs.declared.Reading.the-variants.{Plain}
+use Rattle.readings.specs.declared.Reading.the-variants.{Plain, Paragraphs}
 use Rattle.settings.specs.Fields.{resets, flagsOf, styleOf}
 use Rattle.settings.specs.Effects.{fitted, spacing, painterWord, paragraphWord, characterWord, endingWord, indentWord, effect}
 use Rattle.blocks.specs.Pages.{blocksFrom, blocks, textOf, roomy, blockWords}
@@ -136,7 +136,7 @@ needs =
     (refl, (refl, (refl, (refl, (refl, (refl, (refl, (refl, (refl, (refl, (refl, (refl, (refl, (refl, (refl, (refl, (refl, (refl, (refl, (refl, (refl, tt)))))))))))))))))))))
 
 -- the second letter above is of one veil with the first: only that it is not cut parts them
-refused-inside : veil (bytesOf "{a{\\*{\\'zz}}b}") ≡ veil (bytesOf "{a{\\*x}b}")
+refused-inside : veil Plain (bytesOf "{a{\\*{\\'zz}}b}") ≡ veil Plain (bytesOf "{a{\\*x}b}")
 unfolding veil pieces join mask parts part shown aimFrom trimmed items andThen split slices lead body tokens escaped other word wordTail bareLength named numbered shownWord lineBreakAnd hexEscape hexValue plain mark wordNumber placeIn sameBytes hexDigit hexPair digitsFrom digits decimal
 refused-inside = refl
 
@@ -156,6 +156,11 @@ second-place : refusedAt "{a{\\*xyz}\\fs-1}" ≡ 9
 unfolding letterOf shownBy bodied placed roomy bodyOf acts machine moved saidOf spoken gave settle writtenAll _▸▸_ blocks blocksFrom textOf walkFrom extent aimFrom tablesFrom fonts fontsFrom fontToken fontWord stored inserted hasKey fontNamed colours coloursFrom colourToken colourWordOf tableLimit values step metAny met taken unitOf utf8 written effect painterWord paragraphWord characterWord endingWord indentWord fitted spacing resets styleOf flagsOf cutAnswer tokenStream trimmed allSlices last located settled ended items each andThen split slices lead body any tokens escaped other word wordTail bareLength named numbered shownWord lineBreakAnd hexEscape hexValue plain mark wordNumber placeIn sameBytes hexDigit hexPair digitsFrom digits decimal
 second-place = refl
 
-same-veil : veil (bytesOf "{a{\\*x}\\fs-1}") ≡ veil (bytesOf "{a{\\*xyz}\\fs-1}")
+same-veil : veil Plain (bytesOf "{a{\\*x}\\fs-1}") ≡ veil Plain (bytesOf "{a{\\*xyz}\\fs-1}")
 unfolding veil pieces join mask parts part shown aimFrom trimmed items andThen split slices lead body tokens escaped other word wordTail bareLength named numbered shownWord lineBreakAnd hexEscape hexValue plain mark wordNumber placeIn sameBytes hexDigit hexPair digitsFrom digits decimal
 same-veil = refl
+
+-- 02, A2: by paragraphs a backslash and a carriage return are a line break, and the walk looks past it; in plain reading they are nothing
+return-before-mark : veil Paragraphs (bytesOf "{a{\\\r\\*x}b}") ≡ veil Paragraphs (bytesOf "{a{\\\r\\*yz}b}")
+unfolding veil pieces join mask parts part shown aimFrom trimmed items andThen split slices lead body tokens escaped other otherBy word wordTail bareLength named numbered shownWord lineBreakAnd hexEscape hexValue plain mark wordNumber placeIn sameBytes hexDigit hexPair digitsFrom digits decimal
+return-before-mark = refl

@@ -11,12 +11,13 @@ use Rattle.names.specs.Names.{sameBytes, placeIn, wordNumber}
 use Rattle.numbers.specs.Numbers.{hexDigit, hexPair, digitsFrom, digits, decimal}
 use Rattle.rooms.specs.Streams.{andThen, each, answer, items, ended}
 use Rattle.rooms.specs.Rooms.{settled}
-use Rattle.slices.specs.Slices.{split, slices}
-use Rattle.tokenize.specs.Tokenize.{mark, plain, hexValue, hexEscape, lineBreakAnd, shownWord, numbered, named, bareLength}
+use Rattle.slices.specs.Slices.{split, slices, withFeeds}
+use Rattle.tokenize.specs.Tokenize.{otherBy, mark, plain, hexValue, hexEscape, lineBreakAnd, shownWord, numbered, named, bareLength}
 use Rattle.tokenize.specs.Tokenize.{wordTail, word, other as otherBytes, escaped, tokens}
 use Rattle.cutter.specs.Cutting.{located, last, allSlices, trimmed, tokenStream, cutAnswer}
 use Rattle.walk.specs.Walk.{aimFrom}
 use Rattle.readings.specs.declared.Reading.{Reading}
+use Rattle.readings.specs.declared.Reading.the-variants.{Plain, Paragraphs}
 use Rattle.parser.specs.Parsing.{Sizes}
 use Rattle.veil.specs.Veil.{part, parts, pieces, join, shown, mask, veil, behind, own, endsBare, Ignored, Alike, same}
 use Rattle.veil.specs.Veil.{other}
@@ -54,18 +55,21 @@ samples =
     ∷ []
 
 -- cut in a room of 600 words, and of one veil with the first letter
-abbrev Cut : List Sample → Type 0
-Cut [] = Unit {0}
-Cut (s ∷ ss) = ((cutAnswer (bytesOf (s .letter)) 600 ≡ Done (s .count)) × (veil (bytesOf (s .letter)) ≡ veil base)) × Cut ss
+abbrev Cut : Reading → List Sample → Type 0
+Cut rd [] = Unit {0}
+Cut rd (s ∷ ss) = ((cutAnswer rd (bytesOf (s .letter)) 600 ≡ Done (s .count)) × (veil rd (bytesOf (s .letter)) ≡ veil rd base)) × Cut rd ss
 
-samples-cut : Cut samples
-unfolding samples sample base veil pieces join mask parts part shown aimFrom cutAnswer tokenStream trimmed allSlices last located settled ended items each andThen split slices lead body any tokens escaped otherBytes word wordTail bareLength named numbered shownWord lineBreakAnd hexEscape hexValue plain mark wordNumber placeIn sameBytes hexDigit hexPair digitsFrom digits decimal
-samples-cut =
+samples-cut : (rd : Reading) → Cut rd samples
+unfolding samples sample base veil pieces join mask parts part shown aimFrom cutAnswer tokenStream trimmed allSlices last located settled ended items each andThen split slices withFeeds lead body any tokens escaped otherBytes otherBy word wordTail bareLength named numbered shownWord lineBreakAnd hexEscape hexValue plain mark wordNumber placeIn sameBytes hexDigit hexPair digitsFrom digits decimal
+samples-cut Plain =
+    ((refl, refl), ((refl, refl), ((refl, refl), ((refl, refl), ((refl, refl), ((refl, refl), ((refl, refl), ((refl, refl), ((refl, refl), ((refl, refl), ((refl, refl), ((refl, refl), tt))))))))))))
+samples-cut Paragraphs =
     ((refl, refl), ((refl, refl), ((refl, refl), ((refl, refl), ((refl, refl), ((refl, refl), ((refl, refl), ((refl, refl), ((refl, refl), ((refl, refl), ((refl, refl), ((refl, refl), tt))))))))))))
 
-base-cut : cutAnswer base 600 ≡ Done 7
-unfolding base cutAnswer tokenStream trimmed allSlices last located settled ended items each andThen split slices lead body any tokens escaped otherBytes word wordTail bareLength named numbered shownWord lineBreakAnd hexEscape hexValue plain mark wordNumber placeIn sameBytes hexDigit hexPair digitsFrom digits decimal
-base-cut = refl
+base-cut : (rd : Reading) → cutAnswer rd base 600 ≡ Done 7
+unfolding base cutAnswer tokenStream trimmed allSlices last located settled ended items each andThen split slices withFeeds lead body any tokens escaped otherBytes otherBy word wordTail bareLength named numbered shownWord lineBreakAnd hexEscape hexValue plain mark wordNumber placeIn sameBytes hexDigit hexPair digitsFrom digits decimal
+base-cut Plain = refl
+base-cut Paragraphs = refl
 
 -- they say what it says, whatever the reading and the other rooms
 abbrev Same : Reading → Sizes → List Sample → Type 0
@@ -76,33 +80,33 @@ module _ (rd : Reading) (f c b t : ℕ) where
   abbrev rooms : Sizes
   rooms = record { tokens = 600; fonts = f; colours = c; blocks = b; text = t }
 
-  all-same : (ss : List Sample) → Cut ss → Same rd rooms ss
+  all-same : (ss : List Sample) → Cut rd ss → Same rd rooms ss
   all-same [] h = tt
   all-same (s ∷ ss) h =
-      (hidden-stays-hidden rd (bytesOf (s .letter)) base rooms rooms same-rooms (h .0 .0) base-cut (h .0 .1), all-same ss (h .1))
+      (hidden-stays-hidden rd (bytesOf (s .letter)) base rooms rooms same-rooms (h .0 .0) (base-cut rd) (h .0 .1), all-same ss (h .1))
     where
       same-rooms : SameRooms rooms rooms
       same-rooms = record { fonts = refl; colours = refl; blocks = refl; text = refl }
 
   samples-same : Same rd rooms samples
-  samples-same = all-same samples samples-cut
+  samples-same = all-same samples (samples-cut rd)
 
 -- ---- the literal form
 
 -- `\*x` and `\*{y}`, each the inside of a group behind `{a`
-first-inside : Ignored (bytesOf "{a") (bytesOf "\\*x")
+first-inside : Ignored Plain (bytesOf "{a") (bytesOf "\\*x")
 unfolding behind own endsBare pieces parts part shown aimFrom cutAnswer tokenStream trimmed allSlices last located settled ended items each andThen split slices lead body any tokens escaped otherBytes word wordTail bareLength named numbered shownWord lineBreakAnd hexEscape hexValue plain mark wordNumber placeIn sameBytes hexDigit hexPair digitsFrom digits decimal
 first-inside = record { opened = refl; closed = refl; balanced = refl; reached = refl; hidden = refl }
 
-second-inside : Ignored (bytesOf "{a") (bytesOf "\\*{y}")
+second-inside : Ignored Plain (bytesOf "{a") (bytesOf "\\*{y}")
 unfolding behind own endsBare pieces parts part shown aimFrom cutAnswer tokenStream trimmed allSlices last located settled ended items each andThen split slices lead body any tokens escaped otherBytes word wordTail bareLength named numbered shownWord lineBreakAnd hexEscape hexValue plain mark wordNumber placeIn sameBytes hexDigit hexPair digitsFrom digits decimal
 second-inside = record { opened = refl; closed = refl; balanced = refl; reached = refl; hidden = refl }
 
 -- behind white space, and behind a table and another ignored group
-late-inside : Ignored (bytesOf " \n{{\\fonttbl{\\f0 A;}}{\\*x}a") (bytesOf "\\stylesheet{\\s1 y;}")
+late-inside : Ignored Plain (bytesOf " \n{{\\fonttbl{\\f0 A;}}{\\*x}a") (bytesOf "\\stylesheet{\\s1 y;}")
 unfolding behind own endsBare pieces parts part shown aimFrom cutAnswer tokenStream trimmed allSlices last located settled ended items each andThen split slices lead body any tokens escaped otherBytes word wordTail bareLength named numbered shownWord lineBreakAnd hexEscape hexValue plain mark wordNumber placeIn sameBytes hexDigit hexPair digitsFrom digits decimal
 late-inside = record { opened = refl; closed = refl; balanced = refl; reached = refl; hidden = refl }
 
-two-letters : Alike (bytesOf "{a{\\*x}b}") (bytesOf "{a{\\*{y}}b}")
+two-letters : Alike Plain (bytesOf "{a{\\*x}b}") (bytesOf "{a{\\*{y}}b}")
 two-letters =
     other (bytesOf "{a") (bytesOf "\\*x") (bytesOf "\\*{y}") (bytesOf "b}") first-inside second-inside (same (bytesOf "{a{\\*{y}}b}"))

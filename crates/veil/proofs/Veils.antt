@@ -6,6 +6,7 @@ use mathlib.Core.Path.{_≡_, refl, sym, ap, _∙_}
 use mathlib.Core.List.{List, [], _∷_, _++_}
 use mathlib.Core.Bool.{Bool, true, false, cond}
 use Prim.Native.Nat.{ℕ, zero, suc, _+_}
+use Rattle.readings.specs.declared.Reading.{Reading}
 use Rattle.rooms.specs.Streams.{items}
 use Rattle.slices.specs.Slices.{startsSlice}
 use Rattle.cutter.specs.Cutting.{trimmed, tokenStream}
@@ -20,84 +21,85 @@ use Rattle.veil.proofs.Shows.{whole, stream-shows}
 use Rattle.veil.proofs.Walks.{Sorted, none as sorted-none, opens, closes, stays, sorted, Seen, goes, reads, run-side}
 use Rattle.veil.proofs.Walks.{walk-mask}
 
--- where a run ends depends on the next byte alone
-fits-head : (b : ℕ) (t : List ℕ) (c : ℕ) (r s : List ℕ) → fits b t (c ∷ r) ≡ fits b t (c ∷ s)
-unfolding fits
-fits-head b [] c r s = refl
-fits-head b (d ∷ t) c r s = ap (λ (x : Bool). cond (startsSlice b d) false x) (fits-head d t c r s)
+module _ (rd : Reading) where
+  -- where a run ends depends on the next byte alone
+  fits-head : (b : ℕ) (t : List ℕ) (c : ℕ) (r s : List ℕ) → fits b t (c ∷ r) ≡ fits b t (c ∷ s)
+  unfolding fits
+  fits-head b [] c r s = refl
+  fits-head b (d ∷ t) c r s = ap (λ (x : Bool). cond (startsSlice b d) false x) (fits-head d t c r s)
 
-module _ (b : ℕ) (t : List ℕ) where
-  fits-cover : {m : Mode} → Seen m → (s : Side) (a : Aim) (c : ℕ) (u : List ℕ) (r : List (List ℕ)) (v : List ℕ)
-      → fits b t (join (cover m s a (c ∷ u) ++ r)) ≡ fits b t (c ∷ v)
-  unfolding join
-  fits-cover goes up Nothing c u r v = fits-head b t c _ v
-  fits-cover goes up Hide c u r v = fits-head b t c _ v
-  fits-cover goes up (Fonts l) c u r v = fits-head b t c _ v
-  fits-cover goes up (Colours l) c u r v = fits-head b t c _ v
-  fits-cover goes down a c u r v = fits-head b t c _ v
-  fits-cover goes flat a c u r v = fits-head b t c _ v
-  fits-cover reads s a c u r v = fits-head b t c _ v
+  module _ (b : ℕ) (t : List ℕ) where
+    fits-cover : {m : Mode} → Seen m → (s : Side) (a : Aim) (c : ℕ) (u : List ℕ) (r : List (List ℕ)) (v : List ℕ)
+        → fits b t (join (cover m s a (c ∷ u) ++ r)) ≡ fits b t (c ∷ v)
+    unfolding join
+    fits-cover goes up Nothing c u r v = fits-head b t c _ v
+    fits-cover goes up Hide c u r v = fits-head b t c _ v
+    fits-cover goes up (Fonts l) c u r v = fits-head b t c _ v
+    fits-cover goes up (Colours l) c u r v = fits-head b t c _ v
+    fits-cover goes down a c u r v = fits-head b t c _ v
+    fits-cover goes flat a c u r v = fits-head b t c _ v
+    fits-cover reads s a c u r v = fits-head b t c _ v
 
-  -- so the mask moves no end
-  fits-mask : {ps : List (List ℕ)} {m : Mode} → Cut ps → Seen m → fits b t (join (mask m ps)) ≡ fits b t (join ps)
-  unfolding join mask
-  fits-mask none v = refl
-  fits-mask {m = m} (mark {b = c} {ps} e h) v = fits-cover v (sideOf (c ∷ [])) (aim (shown ps)) c [] (mask (next m (sideOf (c ∷ [])) (aim (shown ps))) ps) (join ps)
-  fits-mask {m = m} (run {b = c} {t = u} {ps} e f h) v = fits-cover v (sideOf (c ∷ u)) (aim (shown ps)) c u (mask (next m (sideOf (c ∷ u)) (aim (shown ps))) ps) (u ++ join ps)
+    -- so the mask moves no end
+    fits-mask : {ps : List (List ℕ)} {m : Mode} → Cut ps → Seen m → fits b t (join (mask rd m ps)) ≡ fits b t (join ps)
+    unfolding join mask
+    fits-mask none v = refl
+    fits-mask {m = m} (mark {b = c} {ps} e h) v = fits-cover v (sideOf (c ∷ [])) (aim (shown rd ps)) c [] (mask rd (next m (sideOf (c ∷ [])) (aim (shown rd ps))) ps) (join ps)
+    fits-mask {m = m} (run {b = c} {t = u} {ps} e f h) v = fits-cover v (sideOf (c ∷ u)) (aim (shown rd ps)) c u (mask rd (next m (sideOf (c ∷ u)) (aim (shown rd ps))) ps) (u ++ join ps)
 
--- `\*` ends at the closing bracket, or at the end
-fits-mute : {ps : List (List ℕ)} → Sorted ps → (d : ℕ) → fits 92 (42 ∷ []) (join (mask (passing d) ps)) ≡ true
-unfolding fits join mask
-fits-mute sorted-none d = refl
-fits-mute (opens h) d = fits-mute h (suc d)
-fits-mute (closes h) zero = refl
-fits-mute (closes h) (suc d) = fits-mute h d
-fits-mute (stays e l h) d = rw e (fits-mute h d)
+  -- `\*` ends at the closing bracket, or at the end
+  fits-mute : {ps : List (List ℕ)} → Sorted rd ps → (d : ℕ) → fits 92 (42 ∷ []) (join (mask rd (passing d) ps)) ≡ true
+  unfolding fits join mask
+  fits-mute sorted-none d = refl
+  fits-mute (opens h) d = fits-mute h (suc d)
+  fits-mute (closes h) zero = refl
+  fits-mute (closes h) (suc d) = fits-mute h d
+  fits-mute (stays e l h) d = rw e (fits-mute h d)
 
-cut-mask : {ps : List (List ℕ)} → Cut ps → (m : Mode) → Cut (mask m ps)
-unfolding mask
-cut-mask none m = none
-cut-mask (mark {b} {ps} e h) m = go m (sideOf (b ∷ [])) (aim (shown ps)) (cut-mask h)
-  where
-    go : (m : Mode) (s : Side) (a : Aim) → ((n : Mode) → Cut (mask n ps)) → Cut (cover m s a (b ∷ []) ++ mask (next m s a) ps)
-    go going up Nothing ih = mark e (ih going)
-    go going up Hide ih =
-        mark e (run {b = 92} {t = 42 ∷ []} {ps = mask (passing 0) ps} refl (fits-mute (sorted h) 0) (ih (passing 0)))
-    go going up (Fonts l) ih = mark e (ih (reading 0))
-    go going up (Colours l) ih = mark e (ih (reading 0))
-    go going down a ih = mark e (ih going)
-    go going flat a ih = mark e (ih going)
-    go (passing d) up a ih = ih (passing (suc d))
-    go (passing zero) down a ih = mark e (ih going)
-    go (passing (suc d)) down a ih = ih (passing d)
-    go (passing d) flat a ih = ih (passing d)
-    go (reading d) up a ih = mark e (ih (reading (suc d)))
-    go (reading zero) down a ih = mark e (ih going)
-    go (reading (suc d)) down a ih = mark e (ih (reading d))
-    go (reading d) flat a ih = mark e (ih (reading d))
-cut-mask (run {b} {t} {ps} e f h) going =
-    rw (run-side b t e) (run {b = b} {t = t} {ps = mask going ps} e (fits-mask b t h goes ∙ f) (cut-mask h going))
-cut-mask (run {b} {t} {ps} e f h) (passing d) = rw (run-side b t e) (cut-mask h (passing d))
-cut-mask (run {b} {t} {ps} e f h) (reading d) =
-    rw (run-side b t e) (run {b = b} {t = t} {ps = mask (reading d) ps} e (fits-mask b t h (reads {d = d}) ∙ f) (cut-mask h (reading d)))
+  cut-mask : {ps : List (List ℕ)} → Cut ps → (m : Mode) → Cut (mask rd m ps)
+  unfolding mask
+  cut-mask none m = none
+  cut-mask (mark {b} {ps} e h) m = go m (sideOf (b ∷ [])) (aim (shown rd ps)) (cut-mask h)
+    where
+      go : (m : Mode) (s : Side) (a : Aim) → ((n : Mode) → Cut (mask rd n ps)) → Cut (cover m s a (b ∷ []) ++ mask rd (next m s a) ps)
+      go going up Nothing ih = mark e (ih going)
+      go going up Hide ih =
+          mark e (run {b = 92} {t = 42 ∷ []} {ps = mask rd (passing 0) ps} refl (fits-mute (sorted rd h) 0) (ih (passing 0)))
+      go going up (Fonts l) ih = mark e (ih (reading 0))
+      go going up (Colours l) ih = mark e (ih (reading 0))
+      go going down a ih = mark e (ih going)
+      go going flat a ih = mark e (ih going)
+      go (passing d) up a ih = ih (passing (suc d))
+      go (passing zero) down a ih = mark e (ih going)
+      go (passing (suc d)) down a ih = ih (passing d)
+      go (passing d) flat a ih = ih (passing d)
+      go (reading d) up a ih = mark e (ih (reading (suc d)))
+      go (reading zero) down a ih = mark e (ih going)
+      go (reading (suc d)) down a ih = mark e (ih (reading d))
+      go (reading d) flat a ih = mark e (ih (reading d))
+  cut-mask (run {b} {t} {ps} e f h) going =
+      rw (run-side b t e) (run {b = b} {t = t} {ps = mask rd going ps} e (fits-mask b t h goes ∙ f) (cut-mask h going))
+  cut-mask (run {b} {t} {ps} e f h) (passing d) = rw (run-side b t e) (cut-mask h (passing d))
+  cut-mask (run {b} {t} {ps} e f h) (reading d) =
+      rw (run-side b t e) (run {b = b} {t = t} {ps = mask rd (reading d) ps} e (fits-mask b t h (reads {d = d}) ∙ f) (cut-mask h (reading d)))
 
--- cutting the veil gives the masked pieces
-pub pieces-veil : (src : List ℕ) → pieces (veil src) ≡ mask going (pieces (trimmed src))
-unfolding veil
-pieces-veil src = recut (cut-mask (cut-pieces (trimmed src)) going)
+  -- cutting the veil gives the masked pieces
+  pub pieces-veil : (src : List ℕ) → pieces (veil rd src) ≡ mask rd going (pieces (trimmed src))
+  unfolding veil
+  pieces-veil src = recut (cut-mask (cut-pieces (trimmed src)) going)
 
--- the steps of a letter that is cut without refusal are those of its veil, but for places
-walk-veil : (src : List ℕ) → whole (tokenStream src) ≡ true
-    → bareSteps (walk (items (tokenStream src))) ≡ bareSteps (steps (shown (pieces (veil src))))
-walk-veil src w =
-    let ps : List (List ℕ) = pieces (trimmed src) in
-    bare-walk (items (tokenStream src))
-    ∙ ap steps (stream-shows src w)
-    ∙ sym (bare-steps (shown ps))
-    ∙ ap bareSteps (sym (walk-mask (sorted (cut-pieces (trimmed src)))))
-    ∙ ap (λ (qs : List (List ℕ)). bareSteps (steps (shown qs))) (sym (pieces-veil src))
+  -- the steps of a letter that is cut without refusal are those of its veil, but for places
+  walk-veil : (src : List ℕ) → whole (tokenStream rd src) ≡ true
+      → bareSteps (walk (items (tokenStream rd src))) ≡ bareSteps (steps (shown rd (pieces (veil rd src))))
+  walk-veil src w =
+      let ps : List (List ℕ) = pieces (trimmed src) in
+      bare-walk (items (tokenStream rd src))
+      ∙ ap steps (stream-shows rd src w)
+      ∙ sym (bare-steps (shown rd ps))
+      ∙ ap bareSteps (sym (walk-mask rd (sorted rd (cut-pieces (trimmed src)))))
+      ∙ ap (λ (qs : List (List ℕ)). bareSteps (steps (shown rd qs))) (sym (pieces-veil src))
 
--- two letters with one veil
-pub walk-same : (a b : List ℕ) → whole (tokenStream a) ≡ true → whole (tokenStream b) ≡ true → veil a ≡ veil b
-    → bareSteps (walk (items (tokenStream a))) ≡ bareSteps (walk (items (tokenStream b)))
-walk-same a b u v e = walk-veil a u ∙ ap (λ (s : List ℕ). bareSteps (steps (shown (pieces s)))) e ∙ sym (walk-veil b v)
+  -- two letters with one veil
+  pub walk-same : (a b : List ℕ) → whole (tokenStream rd a) ≡ true → whole (tokenStream rd b) ≡ true → veil rd a ≡ veil rd b
+      → bareSteps (walk (items (tokenStream rd a))) ≡ bareSteps (walk (items (tokenStream rd b)))
+  walk-same a b u v e = walk-veil a u ∙ ap (λ (s : List ℕ). bareSteps (steps (shown rd (pieces s)))) e ∙ sym (walk-veil b v)

@@ -11,6 +11,7 @@ use native.Mathlib.Omega.{arith}
 use lib.ListN.{take, drop}
 use lib.Dec.{eqb}
 use borrow.Author.Tests.{eqb-true, ne-eqb}
+use Rattle.readings.specs.declared.Reading.{Reading}
 use Rattle.rooms.specs.Streams.{andThen, items}
 use Rattle.tokens.specs.Tokens.{Shown, Token, shownBy}
 use Rattle.tokens.specs.Tokens
@@ -27,11 +28,11 @@ use Rattle.veil.proofs.Shows.{calm-flat, calm-tokens}
 
 -- ---- the pieces of a letter, by what they are to the walk
 
-pub data Sorted : List (List ℕ) → Type 0 where
-  none : Sorted []
-  opens : {ps : List (List ℕ)} → Sorted ps → Sorted ((123 ∷ []) ∷ ps)
-  closes : {ps : List (List ℕ)} → Sorted ps → Sorted ((125 ∷ []) ∷ ps)
-  stays : {p : List ℕ} {ps : List (List ℕ)} → sideOf p ≡ flat → Flat (items (tokens 0 p)) → Sorted ps → Sorted (p ∷ ps)
+pub data Sorted (rd : Reading) : List (List ℕ) → Type 0 where
+  none : Sorted rd []
+  opens : {ps : List (List ℕ)} → Sorted rd ps → Sorted rd ((123 ∷ []) ∷ ps)
+  closes : {ps : List (List ℕ)} → Sorted rd ps → Sorted rd ((125 ∷ []) ∷ ps)
+  stays : {p : List ℕ} {ps : List (List ℕ)} → sideOf p ≡ flat → Flat (items (tokens rd 0 p)) → Sorted rd ps → Sorted rd (p ∷ ps)
 
 data Mark (b : ℕ) : Type 0 where
   is-open : b ≡ 123 → Mark b
@@ -54,16 +55,17 @@ run-side b t = go (eqb b 123) (eqb b 125)
     go false true m = absurd (false≢true (sym m))
     go false false m = refl
 
-pub sorted : {ps : List (List ℕ)} → Cut ps → Sorted ps
-unfolding tokens mark andThen items
-sorted cut-none = none
-sorted (cut-run {b} {t} {ps} m f h) = stays (run-side b t m) (calm-flat (calm-tokens 0 0 b t m)) (sorted h)
-sorted (cut-mark {b} {ps} m h) = go (mark-of b m) (sorted h)
-  where
-    go : Mark b → Sorted ps → Sorted ((b ∷ []) ∷ ps)
-    go (is-open e) k = rw e (opens k)
-    go (is-close e) k = rw e (closes k)
-    go (is-feed e) k = rw e (stays refl flat-none k)
+module _ (rd : Reading) where
+  pub sorted : {ps : List (List ℕ)} → Cut ps → Sorted rd ps
+  unfolding tokens mark andThen items
+  sorted cut-none = none
+  sorted (cut-run {b} {t} {ps} m f h) = stays (run-side b t m) (calm-flat (calm-tokens rd 0 0 b t m)) (sorted h)
+  sorted (cut-mark {b} {ps} m h) = go (mark-of b m) (sorted h)
+    where
+      go : Mark b → Sorted rd ps → Sorted rd ((b ∷ []) ∷ ps)
+      go (is-open e) k = rw e (opens k)
+      go (is-close e) k = rw e (closes k)
+      go (is-feed e) k = rw e (stays refl flat-none k)
 
 -- ---- what follows an opening bracket
 
@@ -82,26 +84,27 @@ pub data Seen : Mode → Type 0 where
   goes : Seen going
   reads : {d : ℕ} → Seen (reading d)
 
--- the first token behind a bracket is left as it is
-aim-mask : {ps : List (List ℕ)} {m : Mode} → Sorted ps → Seen m → (late : Bool)
-    → aimFrom late (shown (mask m ps)) ≡ aimFrom late (shown ps)
-unfolding mask shown tokens mark andThen items aimFrom
-aim-mask none v late = refl
-aim-mask (opens {ps} h) goes late = go (aim (shown ps)) (mask (enter (aim (shown ps))) ps)
-  where
-    go : (a : Aim) (r : List (List ℕ)) → aimFrom late (shown (cover going up a (123 ∷ []) ++ r)) ≡ Nothing
-    go Nothing r = refl
-    go Hide r = refl
-    go (Fonts l) r = refl
-    go (Colours l) r = refl
-aim-mask (opens h) reads late = refl
-aim-mask (closes h) goes late = refl
-aim-mask (closes h) (reads {d = zero}) late = refl
-aim-mask (closes h) (reads {d = suc d}) late = refl
-aim-mask (stays {p} {ps} e l h) goes late =
-    rw e (aim-from-append late (items (tokens 0 p)) (shown (mask going ps)) (shown ps) (aim-mask h goes))
-aim-mask (stays {p} {ps} e l h) (reads {d}) late =
-    rw e (aim-from-append late (items (tokens 0 p)) (shown (mask (reading d) ps)) (shown ps) (aim-mask h reads))
+module _ (rd : Reading) where
+  -- the first token behind a bracket is left as it is
+  aim-mask : {ps : List (List ℕ)} {m : Mode} → Sorted rd ps → Seen m → (late : Bool)
+      → aimFrom late (shown rd (mask rd m ps)) ≡ aimFrom late (shown rd ps)
+  unfolding mask shown tokens mark andThen items aimFrom
+  aim-mask none v late = refl
+  aim-mask (opens {ps} h) goes late = go (aim (shown rd ps)) (mask rd (enter (aim (shown rd ps))) ps)
+    where
+      go : (a : Aim) (r : List (List ℕ)) → aimFrom late (shown rd (cover going up a (123 ∷ []) ++ r)) ≡ Nothing
+      go Nothing r = refl
+      go Hide r = refl
+      go (Fonts l) r = refl
+      go (Colours l) r = refl
+  aim-mask (opens h) reads late = refl
+  aim-mask (closes h) goes late = refl
+  aim-mask (closes h) (reads {d = zero}) late = refl
+  aim-mask (closes h) (reads {d = suc d}) late = refl
+  aim-mask (stays {p} {ps} e l h) goes late =
+      rw e (aim-from-append late (items (tokens rd 0 p)) (shown rd (mask rd going ps)) (shown rd ps) (aim-mask h goes))
+  aim-mask (stays {p} {ps} e l h) (reads {d}) late =
+      rw e (aim-from-append late (items (tokens rd 0 p)) (shown rd (mask rd (reading d) ps)) (shown rd ps) (aim-mask h reads))
 
 -- ---- tokens that are no brackets
 
@@ -228,98 +231,99 @@ outside-flat d ts (flat-some {t} {ts = c} e h) = rw (extent-flat d t (c ++ ts) e
 
 -- ---- the steps
 
--- what is to be shown of pieces, by where the walk is
-abbrev Masked : Mode → List (List ℕ) → Type 0
-Masked going ps = steps (shown (mask going ps)) ≡ steps (shown ps)
-Masked (passing d) ps = steps (outside 0 (shown (mask (passing d) ps))) ≡ steps (outside d (shown ps))
-Masked (reading d) ps = Same d (shown (mask (reading d) ps)) (shown ps)
+module _ (rd : Reading) where
+  -- what is to be shown of pieces, by where the walk is
+  abbrev Masked : Mode → List (List ℕ) → Type 0
+  Masked going ps = steps (shown rd (mask rd going ps)) ≡ steps (shown rd ps)
+  Masked (passing d) ps = steps (outside 0 (shown rd (mask rd (passing d) ps))) ≡ steps (outside d (shown rd ps))
+  Masked (reading d) ps = Same d (shown rd (mask rd (reading d) ps)) (shown rd ps)
 
--- an opening bracket, by what it begins
-steps-opening : (a : Aim) (ts : List Shown) → aim ts ≡ a → steps (Shown.opening ∷ ts) ≡ entered a (lone Shown.opening) (seen ts) ∷ steps (drop (enteredLength a ts) ts)
-unfolding seen
-steps-opening a ts e =
-    let q : aim (shownBy (seen ts)) ≡ a = ap aim (shown-seen ts) ∙ e in
-    walk-one (lone Shown.opening) (seen ts)
-    ∙ ap (λ (b : Aim). entered b (lone Shown.opening) (seen ts) ∷ walk (drop (enteredLength b (shownBy (seen ts))) (seen ts))) q
-    ∙ ap (λ (l : List Shown). entered a (lone Shown.opening) (seen ts) ∷ walk (drop (enteredLength a l) (seen ts))) (shown-seen ts)
-    ∙ ap (λ (l : List Token). entered a (lone Shown.opening) (seen ts) ∷ walk l) (drop-seen (enteredLength a ts) ts)
+  -- an opening bracket, by what it begins
+  steps-opening : (a : Aim) (ts : List Shown) → aim ts ≡ a → steps (Shown.opening ∷ ts) ≡ entered a (lone Shown.opening) (seen ts) ∷ steps (drop (enteredLength a ts) ts)
+  unfolding seen
+  steps-opening a ts e =
+      let q : aim (shownBy (seen ts)) ≡ a = ap aim (shown-seen ts) ∙ e in
+      walk-one (lone Shown.opening) (seen ts)
+      ∙ ap (λ (b : Aim). entered b (lone Shown.opening) (seen ts) ∷ walk (drop (enteredLength b (shownBy (seen ts))) (seen ts))) q
+      ∙ ap (λ (l : List Shown). entered a (lone Shown.opening) (seen ts) ∷ walk (drop (enteredLength a l) (seen ts))) (shown-seen ts)
+      ∙ ap (λ (l : List Token). entered a (lone Shown.opening) (seen ts) ∷ walk l) (drop-seen (enteredLength a ts) ts)
 
-group-seen : (ts : List Shown) → group (seen ts) ≡ seen (inside 0 ts)
-unfolding inside
-group-seen ts = ap (λ (l : List Shown). take (extent 1 l) (seen ts)) (shown-seen ts) ∙ take-seen (extent 1 ts) ts
+  group-seen : (ts : List Shown) → group (seen ts) ≡ seen (inside 0 ts)
+  unfolding inside
+  group-seen ts = ap (λ (l : List Shown). take (extent 1 l) (seen ts)) (shown-seen ts) ∙ take-seen (extent 1 ts) ts
 
-walk-none : (ts : List Shown) → aim ts ≡ Nothing → steps (Shown.opening ∷ ts) ≡ kept (lone Shown.opening) ∷ steps ts
-walk-none ts e = steps-opening Nothing ts e
+  walk-none : (ts : List Shown) → aim ts ≡ Nothing → steps (Shown.opening ∷ ts) ≡ kept (lone Shown.opening) ∷ steps ts
+  walk-none ts e = steps-opening Nothing ts e
 
-walk-hide : (ts : List Shown) → aim ts ≡ Hide → steps (Shown.opening ∷ ts) ≡ hidden ∷ steps (outside 0 ts)
-unfolding outside
-walk-hide ts e = steps-opening Hide ts e
+  walk-hide : (ts : List Shown) → aim ts ≡ Hide → steps (Shown.opening ∷ ts) ≡ hidden ∷ steps (outside 0 ts)
+  unfolding outside
+  walk-hide ts e = steps-opening Hide ts e
 
-walk-fonts : (late : Bool) (ts : List Shown) → aim ts ≡ Fonts late
-    → steps (Shown.opening ∷ ts) ≡ fontTable late (seen (inside 0 ts)) ∷ steps (outside 0 ts)
-unfolding outside
-walk-fonts late ts e = steps-opening (Fonts late) ts e ∙ ap (λ (l : List Token). fontTable late l ∷ steps (outside 0 ts)) (group-seen ts)
+  walk-fonts : (late : Bool) (ts : List Shown) → aim ts ≡ Fonts late
+      → steps (Shown.opening ∷ ts) ≡ fontTable late (seen (inside 0 ts)) ∷ steps (outside 0 ts)
+  unfolding outside
+  walk-fonts late ts e = steps-opening (Fonts late) ts e ∙ ap (λ (l : List Token). fontTable late l ∷ steps (outside 0 ts)) (group-seen ts)
 
-walk-colours : (late : Bool) (ts : List Shown) → aim ts ≡ Colours late
-    → steps (Shown.opening ∷ ts) ≡ colourTable late (seen (inside 0 ts)) ∷ steps (outside 0 ts)
-unfolding outside
-walk-colours late ts e = steps-opening (Colours late) ts e ∙ ap (λ (l : List Token). colourTable late l ∷ steps (outside 0 ts)) (group-seen ts)
+  walk-colours : (late : Bool) (ts : List Shown) → aim ts ≡ Colours late
+      → steps (Shown.opening ∷ ts) ≡ colourTable late (seen (inside 0 ts)) ∷ steps (outside 0 ts)
+  unfolding outside
+  walk-colours late ts e = steps-opening (Colours late) ts e ∙ ap (λ (l : List Token). colourTable late l ∷ steps (outside 0 ts)) (group-seen ts)
 
--- an opening bracket
-module _ {ps : List (List ℕ)} (h : Sorted ps) where
-  opened : (a : Aim) → aim (shown ps) ≡ a → ((m : Mode) → Masked m ps)
-      → steps (shown (cover going up a (123 ∷ []) ++ mask (enter a) ps)) ≡ steps (Shown.opening ∷ shown ps)
-  unfolding shown tokens mark escaped andThen items
-  opened Nothing e ih =
-      let ms : List Shown = shown (mask going ps) in
-      walk-none ms (aim-mask h goes false ∙ e) ∙ ap (λ (ss : List Step). kept (lone Shown.opening) ∷ ss) (ih going) ∙ sym (walk-none (shown ps) e)
-  opened Hide e ih =
-      let ms : List Shown = shown (mask (passing 0) ps) in
-      let f : aim (Shown.ignorable ∷ ms) ≡ Hide = (unfold aimFrom in refl) in
-      let g : outside 0 (Shown.ignorable ∷ ms) ≡ outside 0 ms = outside-flat 0 {c = Shown.ignorable ∷ []} ms (flat-some refl flat-none) in
-      walk-hide (Shown.ignorable ∷ ms) f ∙ ap (λ (ts : List Shown). hidden ∷ steps ts) g ∙ ap (λ (ss : List Step). hidden ∷ ss) (ih (passing 0)) ∙ sym (walk-hide (shown ps) e)
-  opened (Fonts late) e ih =
-      let ms : List Shown = shown (mask (reading 0) ps) in
-      walk-fonts late ms (aim-mask h (reads {d = 0}) false ∙ e)
-      ∙ ap (λ (ts : List Shown). fontTable late (seen ts) ∷ steps (outside 0 ms)) (ih (reading 0) .in-it)
-      ∙ ap (λ (ss : List Step). fontTable late (seen (inside 0 (shown ps))) ∷ ss) (ih (reading 0) .behind-it)
-      ∙ sym (walk-fonts late (shown ps) e)
-  opened (Colours late) e ih =
-      let ms : List Shown = shown (mask (reading 0) ps) in
-      walk-colours late ms (aim-mask h (reads {d = 0}) false ∙ e)
-      ∙ ap (λ (ts : List Shown). colourTable late (seen ts) ∷ steps (outside 0 ms)) (ih (reading 0) .in-it)
-      ∙ ap (λ (ss : List Step). colourTable late (seen (inside 0 (shown ps))) ∷ ss) (ih (reading 0) .behind-it)
-      ∙ sym (walk-colours late (shown ps) e)
+  -- an opening bracket
+  module _ {ps : List (List ℕ)} (h : Sorted rd ps) where
+    opened : (a : Aim) → aim (shown rd ps) ≡ a → ((m : Mode) → Masked m ps)
+        → steps (shown rd (cover going up a (123 ∷ []) ++ mask rd (enter a) ps)) ≡ steps (Shown.opening ∷ shown rd ps)
+    unfolding shown tokens mark escaped andThen items
+    opened Nothing e ih =
+        let ms : List Shown = shown rd (mask rd going ps) in
+        walk-none ms (aim-mask rd h goes false ∙ e) ∙ ap (λ (ss : List Step). kept (lone Shown.opening) ∷ ss) (ih going) ∙ sym (walk-none (shown rd ps) e)
+    opened Hide e ih =
+        let ms : List Shown = shown rd (mask rd (passing 0) ps) in
+        let f : aim (Shown.ignorable ∷ ms) ≡ Hide = (unfold aimFrom in refl) in
+        let g : outside 0 (Shown.ignorable ∷ ms) ≡ outside 0 ms = outside-flat 0 {c = Shown.ignorable ∷ []} ms (flat-some refl flat-none) in
+        walk-hide (Shown.ignorable ∷ ms) f ∙ ap (λ (ts : List Shown). hidden ∷ steps ts) g ∙ ap (λ (ss : List Step). hidden ∷ ss) (ih (passing 0)) ∙ sym (walk-hide (shown rd ps) e)
+    opened (Fonts late) e ih =
+        let ms : List Shown = shown rd (mask rd (reading 0) ps) in
+        walk-fonts late ms (aim-mask rd h (reads {d = 0}) false ∙ e)
+        ∙ ap (λ (ts : List Shown). fontTable late (seen ts) ∷ steps (outside 0 ms)) (ih (reading 0) .in-it)
+        ∙ ap (λ (ss : List Step). fontTable late (seen (inside 0 (shown rd ps))) ∷ ss) (ih (reading 0) .behind-it)
+        ∙ sym (walk-fonts late (shown rd ps) e)
+    opened (Colours late) e ih =
+        let ms : List Shown = shown rd (mask rd (reading 0) ps) in
+        walk-colours late ms (aim-mask rd h (reads {d = 0}) false ∙ e)
+        ∙ ap (λ (ts : List Shown). colourTable late (seen ts) ∷ steps (outside 0 ms)) (ih (reading 0) .in-it)
+        ∙ ap (λ (ss : List Step). colourTable late (seen (inside 0 (shown rd ps))) ∷ ss) (ih (reading 0) .behind-it)
+        ∙ sym (walk-colours late (shown rd ps) e)
 
-closing-up : side Shown.closing ≡ up → ⊥
-closing-up e = let y : _≡_ {A = ℕ} 0 1 = cc in omega arith
+  closing-up : side Shown.closing ≡ up → ⊥
+  closing-up e = let y : _≡_ {A = ℕ} 0 1 = cc in omega arith
 
-walk-close : (x y : List Shown) → steps x ≡ steps y → steps (Shown.closing ∷ x) ≡ steps (Shown.closing ∷ y)
-walk-close x y e =
-    steps-kept Shown.closing x closing-up
-    ∙ ap (λ (ss : List Step). kept (lone Shown.closing) ∷ ss) e
-    ∙ sym (steps-kept Shown.closing y closing-up)
+  walk-close : (x y : List Shown) → steps x ≡ steps y → steps (Shown.closing ∷ x) ≡ steps (Shown.closing ∷ y)
+  walk-close x y e =
+      steps-kept Shown.closing x closing-up
+      ∙ ap (λ (ss : List Step). kept (lone Shown.closing) ∷ ss) e
+      ∙ sym (steps-kept Shown.closing y closing-up)
 
-walk-masked : {ps : List (List ℕ)} → Sorted ps → (m : Mode) → Masked m ps
-unfolding mask shown tokens mark andThen items
-walk-masked none going = refl
-walk-masked none (passing d) = ap steps (outside-none 0 ∙ sym (outside-none d))
-walk-masked none (reading d) = same-none d
-walk-masked (opens {ps} h) going = opened h (aim (shown ps)) refl (walk-masked h)
-walk-masked (opens {ps} h) (passing d) = walk-masked h (passing (suc d)) ∙ ap steps (sym (outside-open d (shown ps)))
-walk-masked (opens {ps} h) (reading d) =
-    same-open d (shown (mask (reading (suc d)) ps)) (shown ps) (walk-masked h (reading (suc d)))
-walk-masked (closes {ps} h) going = walk-close (shown (mask going ps)) (shown ps) (walk-masked h going)
-walk-masked (closes {ps} h) (passing zero) =
-    ap steps (outside-close (shown (mask going ps))) ∙ walk-masked h going ∙ ap steps (sym (outside-close (shown ps)))
-walk-masked (closes {ps} h) (passing (suc d)) = walk-masked h (passing d) ∙ ap steps (sym (outside-closes d (shown ps)))
-walk-masked (closes {ps} h) (reading zero) = same-close (shown (mask going ps)) (shown ps) (walk-masked h going)
-walk-masked (closes {ps} h) (reading (suc d)) =
-    same-closes d (shown (mask (reading d) ps)) (shown ps) (walk-masked h (reading d))
-walk-masked (stays {p} {ps} e l h) going = rw e (flat-walk (shown (mask going ps)) (shown ps) l (walk-masked h going))
-walk-masked (stays {p} {ps} e l h) (passing d) = rw e (walk-masked h (passing d) ∙ ap steps (sym (outside-flat d (shown ps) l)))
-walk-masked (stays {p} {ps} e l h) (reading d) =
-    rw e (same-flat d (shown (mask (reading d) ps)) (shown ps) l (walk-masked h (reading d)))
+  walk-masked : {ps : List (List ℕ)} → Sorted rd ps → (m : Mode) → Masked m ps
+  unfolding mask shown tokens mark andThen items
+  walk-masked none going = refl
+  walk-masked none (passing d) = ap steps (outside-none 0 ∙ sym (outside-none d))
+  walk-masked none (reading d) = same-none d
+  walk-masked (opens {ps} h) going = opened h (aim (shown rd ps)) refl (walk-masked h)
+  walk-masked (opens {ps} h) (passing d) = walk-masked h (passing (suc d)) ∙ ap steps (sym (outside-open d (shown rd ps)))
+  walk-masked (opens {ps} h) (reading d) =
+      same-open d (shown rd (mask rd (reading (suc d)) ps)) (shown rd ps) (walk-masked h (reading (suc d)))
+  walk-masked (closes {ps} h) going = walk-close (shown rd (mask rd going ps)) (shown rd ps) (walk-masked h going)
+  walk-masked (closes {ps} h) (passing zero) =
+      ap steps (outside-close (shown rd (mask rd going ps))) ∙ walk-masked h going ∙ ap steps (sym (outside-close (shown rd ps)))
+  walk-masked (closes {ps} h) (passing (suc d)) = walk-masked h (passing d) ∙ ap steps (sym (outside-closes d (shown rd ps)))
+  walk-masked (closes {ps} h) (reading zero) = same-close (shown rd (mask rd going ps)) (shown rd ps) (walk-masked h going)
+  walk-masked (closes {ps} h) (reading (suc d)) =
+      same-closes d (shown rd (mask rd (reading d) ps)) (shown rd ps) (walk-masked h (reading d))
+  walk-masked (stays {p} {ps} e l h) going = rw e (flat-walk (shown rd (mask rd going ps)) (shown rd ps) l (walk-masked h going))
+  walk-masked (stays {p} {ps} e l h) (passing d) = rw e (walk-masked h (passing d) ∙ ap steps (sym (outside-flat d (shown rd ps) l)))
+  walk-masked (stays {p} {ps} e l h) (reading d) =
+      rw e (same-flat d (shown rd (mask rd (reading d) ps)) (shown rd ps) l (walk-masked h (reading d)))
 
-pub walk-mask : {ps : List (List ℕ)} → Sorted ps → steps (shown (mask going ps)) ≡ steps (shown ps)
-walk-mask h = walk-masked h going
+  pub walk-mask : {ps : List (List ℕ)} → Sorted rd ps → steps (shown rd (mask rd going ps)) ≡ steps (shown rd ps)
+  walk-mask h = walk-masked h going

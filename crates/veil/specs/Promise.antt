@@ -13,11 +13,11 @@ use Rattle.veil.specs.Veil.{veil, Alike}
 use Rattle.veil.specs.Said.{said, SameRooms}
 
 -- Two letters a and b, read into rooms of the sizes z and y. The cutter sees what is hidden too, so its answer is asked for:
-pub record Cut (a b : List ℕ) (z y : Sizes) : Type 0 where
+pub record Cut (rd : Reading) (a b : List ℕ) (z y : Sizes) : Type 0 where
   -- "both are cut without refusal and the token room is enough for both". `{a{\*x}b}` is read, `{a{\*{\'zz}}b}` is refused by 4; in
   -- a room of 7 tokens the first is read, `{a{\*{}}b}` refused by 7
-  pub first : (n : ℕ) × (cutAnswer a (z .tokens) ≡ Done n)
-  pub second : (n : ℕ) × (cutAnswer b (y .tokens) ≡ Done n)
+  pub first : (n : ℕ) × (cutAnswer rd a (z .tokens) ≡ Done n)
+  pub second : (n : ℕ) × (cutAnswer rd b (y .tokens) ≡ Done n)
   -- "any sizes of the other rooms", the same for both: in a text room of one byte `{a{\*x}b}` is refused by 20
   pub rooms : SameRooms z y
 
@@ -31,8 +31,8 @@ pub record Cut (a b : List ℕ) (z y : Sizes) : Type 0 where
 -- Of a refusal its number is the same, "and no longer places" (02, A4): what is hidden moves what comes behind it. `{a{\*x}\fs-1}` is
 -- refused by 12 at byte 7, `{a{\*xyz}\fs-1}` by 12 at byte 9
 abbrev pub Promise : Type 0
-Promise = (rd : Reading) (a b : List ℕ) (z y : Sizes) → Cut a b z y → veil a ≡ veil b → said rd a z ≡ said rd b y
+Promise = (rd : Reading) (a b : List ℕ) (z y : Sizes) → Cut rd a b z y → veil rd a ≡ veil rd b → said rd a z ≡ said rd b y
 
 -- the same, where the inside of one ignored group after another is changed
 abbrev pub LiteralPromise : Type 0
-LiteralPromise = (rd : Reading) (a b : List ℕ) (z y : Sizes) → Cut a b z y → Alike a b → said rd a z ≡ said rd b y
+LiteralPromise = (rd : Reading) (a b : List ℕ) (z y : Sizes) → Cut rd a b z y → Alike rd a b → said rd a z ≡ said rd b y

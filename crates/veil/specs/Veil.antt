@@ -1,5 +1,6 @@
 -- 01, Cutting and Header walk: which bytes of a letter are hidden. The veil of a letter is the letter, trimmed, with the inside
--- of each ignored group put as `\*`: of each group that the header walk comes to and passes over. Assumes nothing: these are
+-- of each ignored group put as `\*`: of each group that the header walk comes to and passes over
+-- in a reading. Assumes nothing: these are
 -- definitions.
 use mathlib.Core.Path.{_≡_}
 use Prim.Native.Nat.{ℕ, zero, suc}
@@ -7,6 +8,7 @@ use mathlib.Core.List.{List, [], _∷_, _++_}
 use mathlib.Core.Bool.{Bool, true, false, cond, not}
 use lib.ListN.{drop}
 use lib.Dec.{eqb}
+use Rattle.readings.specs.declared.Reading.{Reading}
 use Rattle.rooms.specs.Streams.{items}
 use Rattle.slices.specs.Slices.{slices}
 use Rattle.tokens.specs.Tokens.{Shown}
@@ -37,10 +39,11 @@ unfoldable pub join : List (List ℕ) → List ℕ
 join [] = []
 join (p ∷ ps) = p ++ join ps
 
--- what the tokens of pieces show, each piece cut by itself
-unfoldable pub shown : List (List ℕ) → List Shown
-shown [] = []
-shown (p ∷ ps) = items (tokens 0 p) ++ shown ps
+-- what the tokens of pieces show, each piece cut by itself. A line feed that a carriage return takes in is a piece of its own here: it shows nothing by
+-- itself, and what follows it shows the same in either way
+unfoldable pub shown : Reading → List (List ℕ) → List Shown
+shown rd [] = []
+shown rd (p ∷ ps) = items (tokens rd 0 p) ++ shown rd ps
 
 -- ---- where the walk is
 
@@ -103,20 +106,20 @@ cover (passing d) flat a p = []
 cover (reading d) s a p = p ∷ []
 
 -- "At an opening bracket look at the first token after the bracket that is not a line break."
-unfoldable pub mask : Mode → List (List ℕ) → List (List ℕ)
-mask m [] = []
-mask m (p ∷ ps) = cover m (sideOf p) (aim (shown ps)) p ++ mask (next m (sideOf p) (aim (shown ps))) ps
+unfoldable pub mask : Reading → Mode → List (List ℕ) → List (List ℕ)
+mask rd m [] = []
+mask rd m (p ∷ ps) = cover m (sideOf p) (aim (shown rd ps)) p ++ mask rd (next m (sideOf p) (aim (shown rd ps))) ps
 
 -- the veil of a letter: `{a{\*x}b}` and `{a{\stylesheet{y}}b}` have the veil `{a{\*}b}`
-unfoldable pub veil : List ℕ → List ℕ
-veil src = join (mask going (pieces (trimmed src)))
+unfoldable pub veil : Reading → List ℕ → List ℕ
+veil rd src = join (mask rd going (pieces (trimmed src)))
 
 -- ---- the same, said of two letters: the same except inside ignored groups
 
 -- where the walk is behind pieces that an opening bracket follows
-unfoldable pub behind : Mode → List (List ℕ) → Mode
-behind m [] = m
-behind m (p ∷ ps) = behind (next m (sideOf p) (aim (shown ps))) ps
+unfoldable pub behind : Reading → Mode → List (List ℕ) → Mode
+behind rd m [] = m
+behind rd m (p ∷ ps) = behind rd (next m (sideOf p) (aim (shown rd ps))) ps
 
 -- each bracket among the pieces has its match among them, where d are open
 abbrev pub ownAt : Side → ℕ → (ℕ → Bool) → Bool
@@ -140,19 +143,19 @@ abbrev pub grouped : List ℕ → List ℕ → List ℕ → List ℕ
 grouped x g y = x ++ (123 ∷ (g ++ (125 ∷ y)))
 
 -- behind x, the start of a letter, a group with the inside g is ignored, and the bracket that follows g closes it
-pub record Ignored (x g : List ℕ) : Type 0 where
+pub record Ignored (rd : Reading) (x g : List ℕ) : Type 0 where
   -- no backslash stands before its two brackets
   pub opened : endsBare 0 x ≡ true
   pub closed : endsBare 123 g ≡ true
   -- the second bracket matches the first
   pub balanced : own 0 (pieces g) ≡ true
   -- the walk, which begins behind the letter's white front, comes to the first
-  pub reached : behind going (pieces (drop (trimStart x) x)) ≡ going
+  pub reached : behind rd going (pieces (drop (trimStart x) x)) ≡ going
   -- "`\*`, or `stylesheet` without a number: pass over"
-  pub hidden : aim (shown (pieces g)) ≡ Hide
+  pub hidden : aim (shown rd (pieces g)) ≡ Hide
 
 -- letters that are the same except inside ignored groups: the inside of one such group after another is changed. The letters in
 -- between need not be letters that a reader takes
-pub data Alike : List ℕ → List ℕ → Type 0 where
-  same : (a : List ℕ) → Alike a a
-  other : (x g h y : List ℕ) {b : List ℕ} → Ignored x g → Ignored x h → Alike (grouped x h y) b → Alike (grouped x g y) b
+pub data Alike (rd : Reading) : List ℕ → List ℕ → Type 0 where
+  same : (a : List ℕ) → Alike rd a a
+  other : (x g h y : List ℕ) {b : List ℕ} → Ignored rd x g → Ignored rd x h → Alike rd (grouped x h y) b → Alike rd (grouped x g y) b

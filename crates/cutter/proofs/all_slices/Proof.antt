@@ -17,19 +17,19 @@ use Rattle.tokenize.proofs.quick.slice_tokens.Reads as slice-tokens-reads
 use Rattle.tokens.proofs.seal.Reads as seal-reads
 
 abbrev Inv-loop : tie.InvT-loop
-Inv-loop s place names room₀ t₀ p₀ n₀ room t p n = Loop place s room₀ room t p n
+Inv-loop reading s place names room₀ t₀ p₀ n₀ room t p n = Loop reading place s room₀ room t p n
 
 abbrev μ-loop : tie.MeasureT-loop
-μ-loop s place names room₀ t₀ p₀ n₀ room t p n = length t
+μ-loop reading s place names room₀ t₀ p₀ n₀ room t p n = length t
 
 returns : tie.Need-returns Inv-loop μ-loop
-returns c = wrote-none tokenLayout (all-none _ _ (c .if1 .taken))
+returns c = wrote-none tokenLayout (all-none _ _ _ (c .if1 .taken))
 
 loop-holds : tie.Need-loop-holds Inv-loop μ-loop
-loop-holds c = loop-start _ _ _ (c .if1 .left) (c .before .before .before .pre .0)
+loop-holds c = loop-start _ _ _ _ (c .if1 .left) (c .before .before .before .pre .0)
 
-slice-end-requires : tie.Need-slice-end-requires Inv-loop μ-loop
-slice-end-requires c κs = search needs
+slice-end-by-requires : tie.Need-slice-end-by-requires Inv-loop μ-loop
+slice-end-by-requires c κs = search needs
 
 slice-aggregate-slice-tokens : tie.Need-slice-aggregate-slice-tokens Inv-loop μ-loop
 slice-aggregate-slice-tokens c = simp length-take (omega arith)
@@ -47,10 +47,10 @@ at-requires : tie.Need-at-requires Inv-loop μ-loop
 at-requires c κs = search needs
 
 same-length : tie.Need-same-length Inv-loop μ-loop
-same-length c = c .before .before .before .before .before .before .slice-tokens .kept .1 .1 .1 .0 ∙ c .before .before .before .before .before .before .before .before .before .before .before .loop .inv .long
+same-length c = c .before .before .before .before .before .before .slice-tokens .kept .1 .1 .1 .1 .0 ∙ c .before .before .before .before .before .before .before .before .before .before .before .loop .inv .long
 
 returns-2 : tie.Need-returns-2 Inv-loop μ-loop
-returns-2 c = loop-stop (c .before .before .before .before .before .before .before .before .before .before .before .loop .inv) (c .before .before .before .before .before .before .before .before .before .before .slice-end .ensures) (c .before .before .before .before .before .before .before .before .before .if2 .left) (c .before .before .before .before .before .before .slice-tokens .ensures) (c .before .before .one .given .1) refl (c .at .ensures)
+returns-2 c = loop-stop _ (c .before .before .before .before .before .before .before .before .before .before .before .loop .inv) (c .before .before .before .before .before .before .before .before .before .before .slice-end-by .ensures) (c .before .before .before .before .before .before .before .before .before .if2 .left) (c .before .before .before .before .before .before .slice-tokens .ensures) (c .before .before .one .given .1) refl (c .at .ensures)
 
 enum-known-one-2 : tie.Need-enum-known-one-2 Inv-loop μ-loop
 enum-known-one-2 c = search needs
@@ -62,7 +62,7 @@ cast-seal-2 : tie.Need-cast-seal-2 Inv-loop μ-loop
 cast-seal-2 c = omega (arith, c .before .before .before .before .before .before .before .before .before .before .before .loop .inv .fits, c .before .before .before .before .before .before .before .before .before .if2 .left)
 
 seal-requires : tie.Need-seal-requires Inv-loop μ-loop
-seal-requires c κs = next-above (c .before .before .before .before .before .before .before .before .before .before .before .loop .inv) (c .before .before .before .before .before .before .before .before .before .before .slice-end .ensures) (c .before .before .before .before .before .before .before .before .before .if2 .left) (c .before .before .before .before .before .before .slice-tokens .ensures) (c .before .before .one2 .given .1)
+seal-requires c κs = next-above _ (c .before .before .before .before .before .before .before .before .before .before .before .loop .inv) (c .before .before .before .before .before .before .before .before .before .before .slice-end-by .ensures) (c .before .before .before .before .before .before .before .before .before .if2 .left) (c .before .before .before .before .before .before .slice-tokens .ensures) (c .before .before .one2 .given .1)
 
 sub-t : tie.Need-sub-t Inv-loop μ-loop
 sub-t c = omega (arith, c .before .before .before .before .before .before .before .before .before .before .before .before .if2 .left)
@@ -77,10 +77,10 @@ add-p : tie.Need-add-p Inv-loop μ-loop
 add-p c = omega (arith, c .before .before .before .before .before .before .before .before .before .before .before .before .before .before .before .loop .inv .fits, c .before .before .before .before .before .before .before .before .before .before .before .before .before .if2 .left)
 
 loop-less : tie.Need-loop-less Inv-loop μ-loop
-loop-less c = loop-falls (c .before .before .before .before .before .before .before .before .before .before .before .before .before .before .before .loop .inv) (c .before .before .before .before .before .before .before .before .before .before .before .before .before .before .slice-end .ensures) (c .before .before .before .before .before .before .before .before .before .before .before .before .before .if2 .left)
+loop-less c = loop-falls _ (c .before .before .before .before .before .before .before .before .before .before .before .before .before .before .before .loop .inv) (c .before .before .before .before .before .before .before .before .before .before .before .before .before .before .slice-end-by .ensures) (c .before .before .before .before .before .before .before .before .before .before .before .before .before .if2 .left)
 
 loop-again : tie.Need-loop-again Inv-loop μ-loop
-loop-again c = loop-next (c .before .before .before .before .before .before .before .before .before .before .before .before .before .before .before .loop .inv) (c .before .before .before .before .before .before .before .before .before .before .before .before .before .before .slice-end .ensures) (c .before .before .before .before .before .before .before .before .before .before .before .before .before .if2 .left) (c .before .before .before .before .before .before .before .before .before .before .slice-tokens .ensures) (c .before .before .before .before .before .before .one2 .given .1) refl refl (c .before .before .before .seal .ensures)
+loop-again c = loop-next _ (c .before .before .before .before .before .before .before .before .before .before .before .before .before .before .before .loop .inv) (c .before .before .before .before .before .before .before .before .before .before .before .before .before .before .slice-end-by .ensures) (c .before .before .before .before .before .before .before .before .before .before .before .before .before .if2 .left) (c .before .before .before .before .before .before .before .before .before .before .slice-tokens .ensures) (c .before .before .before .before .before .before .one2 .given .1) refl refl (c .before .before .before .seal .ensures)
 
 last-requires : tie.Need-last-requires Inv-loop μ-loop
 last-requires c κs = (omega (arith, c .before .before .before .loop .inv .fits, c .before .before .before .loop .inv .some, c .before .before .before .loop .inv .below), omega (arith, c .before .before .before .loop .inv .fits))
@@ -89,7 +89,7 @@ same-length-2 : tie.Need-same-length-2 Inv-loop μ-loop
 same-length-2 c = c .before .before .last .kept .1 .1 .0 ∙ c .before .before .before .before .before .before .loop .inv .long
 
 returns-3 : tie.Need-returns-3 Inv-loop μ-loop
-returns-3 c = loop-last (c .before .before .before .before .before .before .loop .inv) (c .before .before .before .before .before .slice-end .ensures) (c .before .before .before .before .if2 .taken) (c .before .before .last .ensures)
+returns-3 c = loop-last _ (c .before .before .before .before .before .before .loop .inv) (c .before .before .before .before .before .slice-end-by .ensures) (c .before .before .before .before .if2 .taken) (c .before .before .last .ensures)
 
 pub all-slices-spec : {M : Type 1} → statement M
 all-slices-spec =
@@ -99,7 +99,7 @@ all-slices-spec =
     μ-loop
     returns
     loop-holds
-    slice-end-requires
+    slice-end-by-requires
     slice-aggregate-slice-tokens
     slice-tokens-requires
     enum-known-one

@@ -12,7 +12,7 @@ of-requires : tie.Need-of-requires
 of-requires c κs = search needs
 
 returns : tie.Need-returns
-returns c = wrote-stop tokenLayout (stream-long _ (c .before .if1 .taken)) (c .of .ensures)
+returns c = wrote-stop tokenLayout (stream-long _ _ (c .before .if1 .taken)) (c .of .ensures)
 
 has-high-requires : tie.Need-has-high-requires
 has-high-requires c κs = search needs
@@ -21,7 +21,7 @@ of-requires-2 : tie.Need-of-requires-2
 of-requires-2 c κs = search needs
 
 returns-2 : tie.Need-returns-2
-returns-2 c = wrote-stop tokenLayout (stream-high _ (c .before .before .before .if1 .left) _ (c .before .before .has-high .ensures) (c .before .if2 .taken)) (c .of2 .ensures)
+returns-2 c = wrote-stop tokenLayout (stream-high _ _ (c .before .before .before .if1 .left) _ (c .before .before .has-high .ensures) (c .before .if2 .taken)) (c .of2 .ensures)
 
 lead-of-requires : tie.Need-lead-of-requires
 lead-of-requires c κs = search needs
@@ -48,7 +48,7 @@ same-length : tie.Need-same-length
 same-length c = search needs
 
 returns-3 : tie.Need-returns-3
-returns-3 c = wrote-as tokenLayout (stream-slices _ (c .before .before .before .before .before .before .before .before .before .before .if1 .left) _ (c .before .before .before .before .before .before .before .before .before .has-high .ensures) (c .before .before .before .before .before .before .before .before .if2 .left) _ _ (c .before .before .before .before .before .before .before .lead-of .ensures .0) (c .before .before .before .before .before .body-of .ensures .0)) (c .before .before .all-slices .ensures)
+returns-3 c = wrote-as tokenLayout (stream-slices _ _ (c .before .before .before .before .before .before .before .before .before .before .if1 .left) _ (c .before .before .before .before .before .before .before .before .before .has-high .ensures) (c .before .before .before .before .before .before .before .before .if2 .left) _ _ (c .before .before .before .before .before .before .before .lead-of .ensures .0) (c .before .before .before .before .before .body-of .ensures .0)) (c .before .before .all-slices .ensures)
 
 pub whole-spec : {M : Type 1} → statement M
 whole-spec =

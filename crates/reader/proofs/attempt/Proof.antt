@@ -51,7 +51,7 @@ same-length-6 : tie.Need-same-length-6
 same-length-6 c = search needs
 
 returns-2 : tie.Need-returns-2
-returns-2 c = let a = c .before .before .before .before .before .before .before .before .before .before .before .before .before .before .before .before .before .before .before .before .before .before .before .before .before .before .before .args in (c .before .before .before .before .before .before .before .before .before .before .before .before .before .before .before .before .before .before .before .cut .ensures .content, ((λ k q. let d = (c .before .before .before .before .before .before .before .before .before .before .before .before .before .before .before .outcome2 .given .1) in let n = c .before .before .before .before .before .before .before .before .before .before .before .before .before .before .before .before .before .before .before .cut .ensures .counts _ d in let f = rw d at (c .before .before .before .before .before .before .before .before .before .before .before .before .before .before .before .before .before .before .before .cut .ensures .few) in omega arith), cut-parsed (a .reading) (a .source .now) (sizes (a .tokens .now) (a .fonts .now) (a .colours .now) (a .blocks .now) (a .text .now)) (c .before .before .before .before .before .before .before .before .before .before .before .before .before .before .before .before .before .before .before .cut .ensures .answer) (c .before .before .before .before .before .before .before .before .before .before .before .before .before .before .before .outcome2 .given .1) _ (c .before .before .before .before .before .before .before .before .before .before .before .before .before .before .before .before .before .before .before .cut .ensures .counts _ (c .before .before .before .before .before .before .before .before .before .before .before .before .before .before .before .outcome2 .given .1)) (c .before .before .before .before .before .before .before .before .before .before .before .before .before .before .before .before .before .before .before .cut .ensures .reads _ (c .before .before .before .before .before .before .before .before .before .before .before .before .before .before .before .outcome2 .given .1)) (c .before .before .before .before .before .before .before .before .before .before .before .before .before .before .before .before .before .before .before .cut .kept .1 .0) _ _ _ _ _ (c .before .before .before .before .before .before .before .before .parse .ensures)))
+returns-2 c = let a = c .before .before .before .before .before .before .before .before .before .before .before .before .before .before .before .before .before .before .before .before .before .before .before .before .before .before .before .args in (c .before .before .before .before .before .before .before .before .before .before .before .before .before .before .before .before .before .before .before .cut .ensures .content, ((λ k q. let d = (c .before .before .before .before .before .before .before .before .before .before .before .before .before .before .before .outcome2 .given .1) in let n = c .before .before .before .before .before .before .before .before .before .before .before .before .before .before .before .before .before .before .before .cut .ensures .counts _ d in let f = rw d at (c .before .before .before .before .before .before .before .before .before .before .before .before .before .before .before .before .before .before .before .cut .ensures .few) in omega arith), cut-parsed (a .reading) (a .source .now) (sizes (a .tokens .now) (a .fonts .now) (a .colours .now) (a .blocks .now) (a .text .now)) (c .before .before .before .before .before .before .before .before .before .before .before .before .before .before .before .before .before .before .before .cut .ensures .answer) (c .before .before .before .before .before .before .before .before .before .before .before .before .before .before .before .outcome2 .given .1) _ (c .before .before .before .before .before .before .before .before .before .before .before .before .before .before .before .before .before .before .before .cut .ensures .counts _ (c .before .before .before .before .before .before .before .before .before .before .before .before .before .before .before .outcome2 .given .1)) (c .before .before .before .before .before .before .before .before .before .before .before .before .before .before .before .before .before .before .before .cut .ensures .reads _ (c .before .before .before .before .before .before .before .before .before .before .before .before .before .before .before .outcome2 .given .1)) (c .before .before .before .before .before .before .before .before .before .before .before .before .before .before .before .before .before .before .before .cut .kept .1 .1 .0) _ _ _ _ _ (c .before .before .before .before .before .before .before .before .parse .ensures)))
 
 pub attempt-spec : {M : Type 1} → statement M
 attempt-spec =

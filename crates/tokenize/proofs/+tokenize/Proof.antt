@@ -22,7 +22,7 @@ use Rattle.tokenize.proofs.+tokenize.Tie.{close}
 use Rattle.rooms.proofs.Streams.{name-apart}
 
 abbrev μ-tokenize : Measures 3 tokenize-kinds.ps ℕ
-μ-tokenize κs a = length (a .0 .now)
+μ-tokenize κs a = length (a .1 .0 .now)
 
 abbrev tokenize-at : ℕ → In 3 tokenize-kinds.ps
 tokenize-at t = and 3 tokenize-kinds.ps (is 3 tokenize-kinds.ps μ-tokenize t) tokenize.Pre
@@ -43,7 +43,7 @@ tokenize-returns : (t : ℕ) → tokenize-lts.Need-returns (
   plain-reads.Asked,
   plain-reads.Learnt,
 ) (tokenize-at t) tokenize.Post
-tokenize-returns t c = wrote-none shownLayout (tokens-none _ _ (c .if1 .taken))
+tokenize-returns t c = wrote-none shownLayout (tokens-none _ _ _ (c .if1 .taken))
 
 tokenize-shared-slice-read-b : (t : ℕ) → tokenize-lts.Need-shared-slice-read-b (
   is-mark-reads.Asked,
@@ -113,7 +113,7 @@ tokenize-returns-2 : (t : ℕ) → tokenize-lts.Need-returns-2 (
   plain-reads.Asked,
   plain-reads.Learnt,
 ) (tokenize-at t) tokenize.Post
-tokenize-returns-2 t c = wrote-then shownLayout name-apart _ (tokens-alone _ _ (c .before .before .before .before .before .before .before .before .if1 .left) _ (c .before .before .before .before .before .before .is-mark .ensures) (c .before .before .before .before .before .if2 .taken) (c .if3 .taken)) (c .before .before .before .mark .ensures) refl (wrote-none shownLayout refl)
+tokenize-returns-2 t c = wrote-then shownLayout name-apart _ (tokens-alone _ _ _ (c .before .before .before .before .before .before .before .before .if1 .left) _ (c .before .before .before .before .before .before .is-mark .ensures) (c .before .before .before .before .before .if2 .taken) (c .if3 .taken)) (c .before .before .before .mark .ensures) refl (wrote-none shownLayout refl)
 
 tokenize-sub-tokenize : (t : ℕ) → tokenize-lts.Need-sub-tokenize (
   is-mark-reads.Asked,
@@ -227,7 +227,7 @@ tokenize-returns-3 : (t : ℕ) → tokenize-lts.Need-returns-3 (
   plain-reads.Asked,
   plain-reads.Learnt,
 ) (tokenize-at t) tokenize.Post
-tokenize-returns-3 t c = wrote-then shownLayout name-apart _ (tokens-mark _ _ (c .before .before .before .before .before .before .before .before .before .before .before .before .before .before .before .before .if1 .left) _ (c .before .before .before .before .before .before .before .before .before .before .before .before .before .before .is-mark .ensures) (c .before .before .before .before .before .before .before .before .before .before .before .before .before .if2 .taken)) (c .before .before .before .before .before .before .before .before .before .before .before .mark .ensures) refl (rw (sym (c .before .rest .given .1)) (c .before .before .before .before .before .tokenize .ensures))
+tokenize-returns-3 t c = wrote-then shownLayout name-apart _ (tokens-mark _ _ _ (c .before .before .before .before .before .before .before .before .before .before .before .before .before .before .before .before .if1 .left) _ (c .before .before .before .before .before .before .before .before .before .before .before .before .before .before .is-mark .ensures) (c .before .before .before .before .before .before .before .before .before .before .before .before .before .if2 .taken)) (c .before .before .before .before .before .before .before .before .before .before .before .mark .ensures) refl (rw (sym (c .before .rest .given .1)) (c .before .before .before .before .before .tokenize .ensures))
 
 tokenize-enum-known-rest-2 : (t : ℕ) → tokenize-lts.Need-enum-known-rest-2 (
   is-mark-reads.Asked,
@@ -269,7 +269,7 @@ tokenize-returns-4 : (t : ℕ) → tokenize-lts.Need-returns-4 (
   plain-reads.Asked,
   plain-reads.Learnt,
 ) (tokenize-at t) tokenize.Post
-tokenize-returns-4 t c = wrote-then shownLayout name-apart _ (tokens-mark _ _ (c .before .before .before .before .before .before .before .before .before .before .before .before .before .before .before .before .if1 .left) _ (c .before .before .before .before .before .before .before .before .before .before .before .before .before .before .is-mark .ensures) (c .before .before .before .before .before .before .before .before .before .before .before .before .before .if2 .taken)) (c .before .before .before .before .before .before .before .before .before .before .before .mark .ensures) refl (rw (sym (c .before .rest2 .given .1)) (c .before .before .before .before .before .tokenize .ensures))
+tokenize-returns-4 t c = wrote-then shownLayout name-apart _ (tokens-mark _ _ _ (c .before .before .before .before .before .before .before .before .before .before .before .before .before .before .before .before .if1 .left) _ (c .before .before .before .before .before .before .before .before .before .before .before .before .before .before .is-mark .ensures) (c .before .before .before .before .before .before .before .before .before .before .before .before .before .if2 .taken)) (c .before .before .before .before .before .before .before .before .before .before .before .mark .ensures) refl (rw (sym (c .before .rest2 .given .1)) (c .before .before .before .before .before .tokenize .ensures))
 
 tokenize-sub-escaped : (t : ℕ) → tokenize-lts.Need-sub-escaped (
   is-mark-reads.Asked,
@@ -353,7 +353,7 @@ tokenize-returns-5 : (t : ℕ) → tokenize-lts.Need-returns-5 (
   plain-reads.Asked,
   plain-reads.Learnt,
 ) (tokenize-at t) tokenize.Post
-tokenize-returns-5 t c = wrote-as shownLayout (tokens-escaped _ _ (c .before .before .before .before .before .before .before .before .before .if1 .left) _ (c .before .before .before .before .before .before .before .is-mark .ensures) (c .before .before .before .before .before .before .if2 .left) (c .before .before .before .before .before .if4 .taken)) (c .before .before .escaped .ensures)
+tokenize-returns-5 t c = wrote-as shownLayout (tokens-escaped _ _ _ (c .before .before .before .before .before .before .before .before .before .if1 .left) _ (c .before .before .before .before .before .before .before .is-mark .ensures) (c .before .before .before .before .before .before .if2 .left) (c .before .before .before .before .before .if4 .taken)) (c .before .before .escaped .ensures)
 
 tokenize-plain-requires : (t : ℕ) → tokenize-lts.Need-plain-requires (
   is-mark-reads.Asked,
@@ -395,7 +395,7 @@ tokenize-returns-6 : (t : ℕ) → tokenize-lts.Need-returns-6 (
   plain-reads.Asked,
   plain-reads.Learnt,
 ) (tokenize-at t) tokenize.Post
-tokenize-returns-6 t c = wrote-as shownLayout (tokens-plain _ _ (c .before .before .before .before .before .before .before .before .if1 .left) _ (c .before .before .before .before .before .before .is-mark .ensures) (c .before .before .before .before .before .if2 .left) (c .before .before .before .before .if4 .left)) (c .before .before .plain .ensures)
+tokenize-returns-6 t c = wrote-as shownLayout (tokens-plain _ _ _ (c .before .before .before .before .before .before .before .before .if1 .left) _ (c .before .before .before .before .before .before .is-mark .ensures) (c .before .before .before .before .before .if2 .left) (c .before .before .before .before .if4 .left)) (c .before .before .plain .ensures)
 
 pub +tokenize-spec : {M : Type 1} → statement M
 +tokenize-spec = close μ-tokenize λ t. tokenize-lts.spec (

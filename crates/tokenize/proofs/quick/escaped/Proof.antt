@@ -34,7 +34,7 @@ same-length : tie.Need-same-length
 same-length c = search needs
 
 returns : tie.Need-returns
-returns c = wrote-as shownLayout (word-slice _ (c .before .before .before .before .before .before .before .before .before .before .before .args .s .now) (c .before .before .before .before .before .before .before .before .if1 .taken) (c .before .before .before .before .before .before .before .before .before .before .before .pre .1 .1) _ (c .before .before .before .before .before .before .is-letter .ensures) (c .before .before .before .before .before .if2 .taken)) (c .before .before .quick-word .ensures)
+returns c = wrote-as shownLayout (word-slice _ _ (c .before .before .before .before .before .before .before .before .before .before .before .args .s .now) (c .before .before .before .before .before .before .before .before .if1 .taken) (c .before .before .before .before .before .before .before .before .before .before .before .pre .1 .1) _ (c .before .before .before .before .before .before .is-letter .ensures) (c .before .before .before .before .before .if2 .taken)) (c .before .before .quick-word .ensures)
 
 tokenize-requires : tie.Need-tokenize-requires
 tokenize-requires c κs = search needs

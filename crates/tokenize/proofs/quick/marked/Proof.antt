@@ -26,7 +26,7 @@ same-length : tie.Need-same-length
 same-length c = search needs
 
 returns : tie.Need-returns
-returns c = wrote-then shownLayout name-apart _ (tokens-alone _ _ (λ z. omega (arith, z, c .before .before .before .before .before .before .before .before .pre)) _ refl (c .before .before .before .before .before .before .before .before .pre .1 .1) (c .before .before .before .before .before .if1 .taken)) (c .before .before .mark .ensures) refl (wrote-none shownLayout refl)
+returns c = wrote-then shownLayout name-apart _ (tokens-alone _ _ _ (λ z. omega (arith, z, c .before .before .before .before .before .before .before .before .pre)) _ refl (c .before .before .before .before .before .before .before .before .pre .1 .1) (c .before .before .before .before .before .if1 .taken)) (c .before .before .mark .ensures) refl (wrote-none shownLayout refl)
 
 tokenize-requires : tie.Need-tokenize-requires
 tokenize-requires c κs = search needs

@@ -15,13 +15,13 @@ use Rattle.tokenize.proofs.is_mark.Reads as is-mark-reads
 use Rattle.tokenize.proofs.plain.Reads as plain-reads
 
 returns : tie.Need-returns
-returns c = wrote-none shownLayout (tokens-none _ _ (c .if1 .taken))
+returns c = wrote-none shownLayout (tokens-none _ _ _ (c .if1 .taken))
 
 shared-slice-read-b : tie.Need-shared-slice-read-b
 shared-slice-read-b c = search needs
 
 escaped-requires : tie.Need-escaped-requires
-escaped-requires c κs = search needs
+escaped-requires c κs = (c .before .before .before .before .before .before .pre, (omega (arith, c .before .before .before .if1 .left), c .before .if2 .taken))
 
 same-length : tie.Need-same-length
 same-length c = search needs
@@ -48,7 +48,7 @@ same-length-3 : tie.Need-same-length-3
 same-length-3 c = search needs
 
 returns-4 : tie.Need-returns-4
-returns-4 c = wrote-as shownLayout (tokens-plain _ _ (c .before .before .before .before .before .before .before .before .if1 .left) _ (c .before .before .before .before .before .is-mark .ensures) (c .before .before .before .before .if3 .left) (c .before .before .before .before .before .before .if2 .left)) (c .before .before .plain .ensures)
+returns-4 c = wrote-as shownLayout (tokens-plain _ _ _ (c .before .before .before .before .before .before .before .before .if1 .left) _ (c .before .before .before .before .before .is-mark .ensures) (c .before .before .before .before .if3 .left) (c .before .before .before .before .before .before .if2 .left)) (c .before .before .plain .ensures)
 
 pub slice-tokens-spec : {M : Type 1} → statement M
 slice-tokens-spec =

@@ -1,0 +1,2 @@
+-- Readings: a reading by its number.
+pub mod Readings
