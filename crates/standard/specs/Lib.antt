@@ -1,0 +1,2 @@
+-- Standard: the tokens of one slice in standard reading.
+pub mod Standard
