@@ -28,3 +28,4 @@ tokenDeed rd Shown.ignorable = stops IgnorableInBody
 tokenDeed rd (Shown.text p bs) = says bs
 tokenDeed rd (Shown.word w num) = cond (eqb w words.unicode) (unit num) (doing (effect rd w num))
 tokenDeed rd (Shown.unknown p bs num) = sets []
+tokenDeed rd (Shown.symbol b num) = sets []

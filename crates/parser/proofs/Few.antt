@@ -152,3 +152,4 @@ letter-few rd z (token p n Shown.ignorable ∷ ts) = tt
 letter-few rd z (token p n (Shown.text q bs) ∷ ts) = tt
 letter-few rd z (token p n (Shown.word w num) ∷ ts) = tt
 letter-few rd z (token p n (Shown.unknown q bs num) ∷ ts) = tt
+letter-few rd z (token p n (Shown.symbol b num) ∷ ts) = tt

@@ -74,6 +74,7 @@ module _ (t : Token) (ts : List Token) (h : FineIn t) where
   step-fine (Shown.text p bs) = h
   step-fine (Shown.word w num) = h
   step-fine (Shown.unknown p bs num) = h
+  step-fine (Shown.symbol b num) = h
 
 walk-fine : (ts : List Token) (w : ℕ) → All FineIn ts → All FineStep (walkFrom w ts)
 unfolding walkFrom
@@ -157,6 +158,7 @@ module _ (rd : Reading) where
   token-fine (Shown.text p bs) h = record { some = h .0; utf8 = utf8-ascii bs (h .1) }
   token-fine (Shown.word w num) h = word-fine w num h
   token-fine (Shown.unknown p bs num) h = all-sound rd [] tt
+  token-fine (Shown.symbol b num) h = all-sound rd [] tt
 
   act-fine : (s : Step) → FineStep s → FineAct (actOf rd s)
   act-fine (kept t) h = token-fine (shownIn t) h

@@ -51,6 +51,7 @@ Some Shown.lineBreak = Unit {0}
 Some Shown.ignorable = Unit {0}
 Some (Shown.word w num) = Unit {0}
 Some (Shown.unknown p bs num) = Unit {0}
+Some (Shown.symbol b num) = Unit {0}
 
 mark-some : (b : ℕ) → Each Some (mark b)
 unfolding mark
@@ -187,6 +188,7 @@ Fine Shown.lineBreak = Unit {0}
 Fine Shown.ignorable = Unit {0}
 Fine (Shown.word w num) = valueOf num < 4294967296
 Fine (Shown.unknown p bs num) = Unit {0}
+Fine (Shown.symbol b num) = Unit {0}
 
 abbrev pub FineIn : Token → Type 0
 FineIn t = Fine (shownIn t)
@@ -199,6 +201,7 @@ fine-one src h Shown.lineBreak a s = tt
 fine-one src h Shown.ignorable a s = tt
 fine-one src h (Shown.word w num) a s = a .1
 fine-one src h (Shown.unknown p bs num) a s = tt
+fine-one src h (Shown.symbol b num) a s = tt
 
 fine-all : (src : List ℕ) → any isHigh src ≡ false → (s : Stream Refusal Token) → Each (Placed src) s → Each SomeIn s
     → All FineIn (items s)

@@ -116,6 +116,7 @@ flat-level Shown.ignorable d e = refl
 flat-level (Shown.text p bs) d e = refl
 flat-level (Shown.word w num) d e = refl
 flat-level (Shown.unknown p bs num) d e = refl
+flat-level (Shown.symbol b num) d e = refl
 
 -- a token that is no opening bracket
 steps-kept : (x : Shown) (ts : List Shown) → (side x ≡ up → ⊥) → steps (x ∷ ts) ≡ kept (lone x) ∷ steps ts
@@ -127,6 +128,7 @@ steps-kept Shown.ignorable ts e = refl
 steps-kept (Shown.text p bs) ts e = refl
 steps-kept (Shown.word w num) ts e = refl
 steps-kept (Shown.unknown p bs num) ts e = refl
+steps-kept (Shown.symbol b num) ts e = refl
 
 flat-up : (x : Shown) → side x ≡ flat → side x ≡ up → ⊥
 flat-up x e f = let z : flat ≡ up = sym e ∙ f in let y : _≡_ {A = ℕ} 0 1 = cc in omega arith
