@@ -1,9 +1,9 @@
 -- The machine says no more than there are tokens: each token says one thing, and what a run of units still owes was kept back by
 -- one of its tokens.
---     Few           a token that says no more than it may
---     step-few      a unit
---     ended-few     what ends a run
---     machine-few   all tokens, if each `u` token says no more than it may
+--     Few                      a token that says no more than it may
+--     step-few, standard-few   a unit, as 01 has it and by 02, A1
+--     ended-few                what ends a run
+--     machine-few              all tokens, if each `u` token says no more than it may
 -- Assumes nothing.
 use mathlib.Core.Path.{_≡_, refl, ap, _∙_}
 use mathlib.Core.List.{List, [], _∷_, _++_}
@@ -18,7 +18,7 @@ use Rattle.rooms.specs.Streams.{Stream, end, items}
 use Rattle.tokens.specs.declared.Property.{Property}
 use Rattle.units.specs.declared.Run.{Run}
 use Rattle.units.specs.declared.Gave.{Gave}
-use Rattle.units.specs.Units.{before, unitOf, isHigh, isLow, alone, pair, skipCount, nothing, taken, met, metAny, step, values}
+use Rattle.units.specs.Units.{before, unitOf, isHigh, isLow, alone, pair, skipCount, nothing, taken, takenAny, met, metAny, step, standardStep, values}
 use Rattle.machine.specs.Stack.{moved, stackOf}
 use Rattle.machine.specs.Machine.{States, Steps, Deed, opens, closes, sets, says, tells, unit, refuses, parts, stops, passes, Act, at}
 use Rattle.machine.specs.Machine.{ended, gave, textsOf, left, owedBehind, writtenAll, _▸▸_, onward, moveOf, spoken, said, stepOf, owesOf, machine}
@@ -79,6 +79,15 @@ ended-few run = go (ltb 0 (run .high))
     go : (b : Bool) → length {A = ℕ} (cond b (65533 ∷ []) [] ++ []) ≡ cond b 1 0
     go true = refl
     go false = refl
+
+any-standard : (run : Run) (us : List ℕ) → Few run (takenAny run us)
+unfolding takenAny
+any-standard run [] = let h = ended-few run in omega arith
+any-standard run (u ∷ us) = taken-few run u
+
+pub standard-few : (run : Run) (num : Property) → Few run (standardStep run num)
+unfolding standardStep
+standard-few run num = any-standard run (unitOf num)
 
 -- a token, with its own text
 gave-few : {S : Type 0} (step : Run → Property → Gave) → ((run : Run) (num : Property) → Few run (step run num))

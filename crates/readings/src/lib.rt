@@ -1,7 +1,7 @@
 // How a letter is read (01, Body; 02, A1 and A2): plain, as the crate does, by paragraphs, or by the RTF 1.9.1 specification. Below the
 // cutter, which goes by it too.
 ghost use mathlib.Core.Path.{_≡_};
-ghost use Rattle.readings.specs.Readings.{readingOf};
+ghost use Rattle.readings.specs.Readings.{readingOf, isStandard};
 
 pub enum Reading {
     // as the crate
@@ -24,5 +24,16 @@ impl Reading {
             return Reading::Standard;
         }
         Reading::Plain
+    }
+
+    // Whether it is the reading by the specification.
+    pub fn is_standard(self) -> bool
+        ensures { λ r. ⌜ r ≡ isStandard self ⌝ }
+    {
+        match self {
+            Reading::Plain => false,
+            Reading::Paragraphs => false,
+            Reading::Standard => true,
+        }
     }
 }
