@@ -123,6 +123,19 @@ unfoldable pub left : {S : Type 0} → ℕ → Deed S → Deed S
 left zero d = d
 left (suc n) d = without (suc n) d
 
+-- whether nothing is left of it
+abbrev pub isPassed : {S : Type 0} → Deed S → Bool
+isPassed passes = true
+isPassed opens = false
+isPassed closes = false
+isPassed (sets ss) = false
+isPassed (says bs) = false
+isPassed (tells bs) = false
+isPassed (unit num) = false
+isPassed (refuses why) = false
+isPassed parts = false
+isPassed (stops why) = false
+
 -- "After every `\u` .. the next skip-count characters are passed over": a token that is read owes so many characters
 abbrev pub owing : {S : Type 0} → ℕ → Deed S → ℕ
 owing owes (unit num) = owes
