@@ -33,13 +33,13 @@ returns c = (length-standard _ (c .before .enum-told3 .given .1) (c .standard-en
 sub-slice-end : tie.Need-sub-slice-end
 sub-slice-end c =
     let f : From (c .before .before .before .args .reading) (c .before .before .before .args .s .now) (c .before .match .from)
-        = ⊎-elim (λ w. from-plain (w .1 .given .1) (w .2)) (λ w. from-paragraphs _ (w .1 .given .1) (w .3) (w .2 .ensures .0) (w .2 .ensures .1 .0) (w .2 .ensures .1 .1)) (c .before .match .came) in
+    = ⊎-elim (λ w. from-plain (w .1 .given .1) (w .2)) (λ w. from-paragraphs _ (w .1 .given .1) (w .3) (w .2 .ensures .0) (w .2 .ensures .1 .0) (w .2 .ensures .1 .1)) (c .before .match .came) in
     f .within
 
 part-slice-end-start : tie.Need-part-slice-end-start
 part-slice-end-start c =
     let f : From (c .before .before .before .args .reading) (c .before .before .before .args .s .now) (c .before .match .from)
-        = ⊎-elim (λ w. from-plain (w .1 .given .1) (w .2)) (λ w. from-paragraphs _ (w .1 .given .1) (w .3) (w .2 .ensures .0) (w .2 .ensures .1 .0) (w .2 .ensures .1 .1)) (c .before .match .came) in
+    = ⊎-elim (λ w. from-plain (w .1 .given .1) (w .2)) (λ w. from-paragraphs _ (w .1 .given .1) (w .3) (w .2 .ensures .0) (w .2 .ensures .1 .0) (w .2 .ensures .1 .1)) (c .before .match .came) in
     f .within
 
 part-slice-end-end : tie.Need-part-slice-end-end
@@ -54,11 +54,14 @@ add-result c = search needs
 returns-2 : tie.Need-returns-2
 returns-2 c =
     let f : From (c .before .before .before .before .before .args .reading) (c .before .before .before .before .before .args .s .now) (c .before .before .before .match .from)
-        = ⊎-elim (λ w. from-plain (w .1 .given .1) (w .2)) (λ w. from-paragraphs _ (w .1 .given .1) (w .3) (w .2 .ensures .0) (w .2 .ensures .1 .0) (w .2 .ensures .1 .1)) (c .before .before .before .match .came) in
-    let w = simp (length-take, length-drop) at (c .slice-end .ensures .1 .0) in
-    ( length-from f _ (c .slice-end .ensures .0)
-    , ( omega (arith, w, f .within)
-      , λ h. omega (arith, c .slice-end .ensures .1 .1 (simp (length-take, length-drop) (omega (arith, f .some h))))))
+    = ⊎-elim (λ w. from-plain (w .1 .given .1) (w .2)) (λ w. from-paragraphs _ (w .1 .given .1) (w .3) (w .2 .ensures .0) (w .2 .ensures .1 .0) (w .2 .ensures .1 .1)) (c .before .before .before .match .came) in
+    let w = simp (length-take, length-drop) at (c .slice-end .ensures .1 .0) in (
+      length-from f _ (c .slice-end .ensures .0),
+      (
+        omega (arith, w, f .within),
+        λ h. omega (arith, c .slice-end .ensures .1 .1 (simp (length-take, length-drop) (omega (arith, f .some h)))),
+      ),
+    )
 
 pub slice-end-by-spec : {M : Type 1} → statement M
 slice-end-by-spec =
