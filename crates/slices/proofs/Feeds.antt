@@ -5,13 +5,14 @@
 --     slicesBy-first                 the first slice, and the slices of the rest
 --     joined-slicesBy                the slices one after the other are the source
 --     startsBy                       whether a byte starts a slice behind others, by the reading
---     startsBy-crate                 in a reading that is not standard, by the byte before
---     slicesBy-append                two sources one after the other, where the second starts a slice with no line feed
+--     startsBy-before                in each reading one does that is special, no line feed, and not behind a backslash
+--     slicesBy-starts                two sources one after the other, where the second starts a slice with no line feed
+--     slicesBy-append                the same, by the byte before
 -- Assumes nothing.
 use mathlib.Core.Path.{_≡_, refl, sym, ap, _∙_}
 use mathlib.Core.List.{List, [], _∷_, _++_, append-assoc}
-use mathlib.Core.Bool.{Bool, true, false, cond, _&&_, and-false}
-use Prim.Native.Nat.{ℕ, zero, suc, _+_, _-_, _≤_, _<_}
+use mathlib.Core.Bool.{Bool, true, false, cond, not, _&&_, and-false}
+use Prim.Native.Nat.{ℕ, _+_, _-_, _≤_, _<_}
 use native.Mathlib.Nat.{not-suc-le-zero}
 use native.Mathlib.Omega.{arith}
 use borrow.Author.Tests.{eqb-true, ne-eqb}
@@ -20,9 +21,10 @@ use lib.Seq.{take-add, drop-drop, take-all}
 use lib.Dec.{eqb}
 use Rattle.readings.specs.declared.Reading.{Reading}
 use Rattle.readings.specs.declared.Reading.the-variants.{Plain, Paragraphs, Standard}
+use Rattle.bytes.specs.Bytes.{isSpecial}
 use Rattle.slices.specs.Slices.{isReturn, startsWithFeed, takeFeed, withFeeds, slices, slicesBy, upTo, sliceLength, feedLength, lengthBy, startsSlice, anything, startsStandard, standardLength}
 use Rattle.slices.proofs.Slices.{slices-first, slices-append, slice-within, joined, joined-slices, lastByte}
-use Rattle.slices.proofs.Standard.{behindAll, standard-first, standard-append, joined-standard}
+use Rattle.slices.proofs.Standard.{behindAll, starts-behind, standard-first, standard-append, joined-standard}
 
 -- ---- as the code tests it
 
@@ -250,21 +252,29 @@ startsBy Plain x c = startsSlice (lastByte 32 x) c
 startsBy Paragraphs x c = startsSlice (lastByte 32 x) c
 startsBy Standard x c = startsStandard (behindAll anything x) c
 
-pub startsBy-crate : (rd : Reading) (x : List ℕ) (c : ℕ) → (rd ≡ Standard → ⊥) → startsSlice (lastByte 32 x) c ≡ true → startsBy rd x c ≡ true
-startsBy-crate Plain x c n h = h
-startsBy-crate Paragraphs x c n h = h
-startsBy-crate Standard x c n h = absurd (n refl)
+pub startsBy-before : (rd : Reading) (x : List ℕ) (c : ℕ) → (c ≡ 10 → ⊥) → startsSlice (lastByte 32 x) c ≡ true → startsBy rd x c ≡ true
+startsBy-before Plain x c n h = h
+startsBy-before Paragraphs x c n h = h
+startsBy-before Standard x c n h =
+    let u : not (eqb (lastByte 32 x) 92) ≡ true = and-second (isSpecial c) (not (eqb (lastByte 32 x) 92)) h in
+    starts-behind c (and-first (isSpecial c) (not (eqb (lastByte 32 x) 92)) h) n x
+    (λ (q : lastByte 32 x ≡ 92). let t : eqb (lastByte 32 x) 92 ≡ true = rw q in let v : false ≡ true = rw t at u in let z : _≡_ {A = ℕ} 0 1 = cc in omega arith)
 
 -- "a new slice" starts at c, behind x; c is no line feed that could be taken in
-pub slicesBy-append : (rd : Reading) (c : ℕ) (y x : List ℕ) → (c ≡ 10 → ⊥) → startsBy rd x c ≡ true
+pub slicesBy-starts : (rd : Reading) (c : ℕ) (y x : List ℕ) → (c ≡ 10 → ⊥) → startsBy rd x c ≡ true
     → slicesBy rd (x ++ (c ∷ y)) ≡ slicesBy rd x ++ slicesBy rd (c ∷ y)
 unfolding sliceLength
-slicesBy-append Plain c y x n h = slices-append c y x h
-slicesBy-append Paragraphs c y x n h =
+slicesBy-starts Plain c y x n h = slices-append c y x h
+slicesBy-starts Paragraphs c y x n h =
     let m : ℕ = sliceLength (c ∷ y) in
     let f : slices (c ∷ y) ≡ take m (c ∷ y) ∷ slices (drop m (c ∷ y)) = slices-first (c ∷ y) (omega arith) in
     ap withFeeds (slices-append c y x h)
     ∙ ap (λ (l : List (List ℕ)). withFeeds (slices x ++ l)) f
     ∙ feeds-append c (drop 1 (take m (c ∷ y))) (slices (drop m (c ∷ y))) n (slices x)
     ∙ ap (λ (l : List (List ℕ)). withFeeds (slices x) ++ withFeeds l) (sym f)
-slicesBy-append Standard c y x n h = standard-append c y x h
+slicesBy-starts Standard c y x n h = standard-append c y x h
+
+-- the same by the byte before c alone, which is enough in each reading
+pub slicesBy-append : (rd : Reading) (c : ℕ) (y x : List ℕ) → (c ≡ 10 → ⊥) → startsSlice (lastByte 32 x) c ≡ true
+    → slicesBy rd (x ++ (c ∷ y)) ≡ slicesBy rd x ++ slicesBy rd (c ∷ y)
+slicesBy-append rd c y x n h = slicesBy-starts rd c y x n (startsBy-before rd x c n h)

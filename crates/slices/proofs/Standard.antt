@@ -2,6 +2,7 @@
 --     behindAll            what stands behind a list of bytes
 --     standard-first       the first slice, and the slices of the rest
 --     standard-append      two sources one after the other, where the second starts a slice
+--     starts-behind        a special byte, but a line feed, starts one unless a backslash stands before it
 --     standard-within, standard-some   the first slice ends within the source, and is not empty
 --     joined-standard      the slices one after the other are the source
 --     upTo-anything        where no escape stands before, the slice goes up to the next byte that starts one
@@ -21,6 +22,7 @@ use Rattle.slices.specs.Eights.{outside}
 use Rattle.slices.specs.Slices.{Behind, anything, escape, return, isStart, startsStandard, behind, splitStandard, standardSlices, upToStandard, standardLength, isReturn, startsWithFeed}
 use Rattle.slices.proofs.Cuttings.{Cutting, joined}
 use Rattle.slices.proofs.Cuttings as cuttings
+use Rattle.slices.proofs.Slices.{lastByte}
 
 unfoldable pub behindAll : Behind → List ℕ → Behind
 behindAll q [] = q
@@ -72,6 +74,27 @@ standard-some (b ∷ s) h = omega arith
 pub standard-append : (c : ℕ) (y x : List ℕ) → startsStandard (behindAll anything x) c ≡ true → standardSlices (x ++ (c ∷ y)) ≡ standardSlices x ++ standardSlices (c ∷ y)
 unfolding standard standardSlices behindAll
 standard-append = cuttings.append standard
+
+-- a special byte that is no line feed starts a slice unless a backslash stands before it: then it hangs on that backslash
+module _ (c : ℕ) (e : isSpecial c ≡ true) (n : c ≡ 10 → ⊥) where
+  starts-unless : (q : Behind) (b : ℕ) → (b ≡ 92 → ⊥) → startsStandard (behind q b) c ≡ true
+  starts-unless anything b m = rw (ne-eqb b 92 m, e)
+  starts-unless escape b m = go (eqb b 13)
+    where
+      go : (t : Bool) → startsStandard (cond t return anything) c ≡ true
+      go true = rw (e, ne-eqb c 10 n)
+      go false = rw e
+  starts-unless return b m = rw (ne-eqb b 92 m, e)
+
+  starts-after : (q : Behind) (b : ℕ) (x : List ℕ) → (lastByte b x ≡ 92 → ⊥) → startsStandard (behindAll (behind q b) x) c ≡ true
+  unfolding behindAll lastByte
+  starts-after q b [] m = starts-unless q b m
+  starts-after q b (d ∷ x) m = starts-after (behind q b) d x m
+
+  pub starts-behind : (x : List ℕ) → (lastByte 32 x ≡ 92 → ⊥) → startsStandard (behindAll anything x) c ≡ true
+  unfolding behindAll lastByte
+  starts-behind [] m = rw e
+  starts-behind (b ∷ x) m = starts-after anything b x m
 
 pub joined-standard : (s : List ℕ) → joined (standardSlices s) ≡ s
 unfolding standard standardSlices

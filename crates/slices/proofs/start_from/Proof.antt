@@ -1,7 +1,6 @@
 -- `start_from` meets its contract. The invariant: no byte that starts a slice stands between `from` and i. The measure is what is left.
 use mathlib.Core.Path.{refl}
 use Prim.Native.Nat.{_+_, _-_}
-use native.Mathlib.Omega.{arith}
 use lib.ListN.{length, drop}
 use borrow.Author.Needs.{needs}
 use Rattle.bytes.specs.Bytes.{lead}

@@ -1,8 +1,7 @@
 -- `starts` meets its contract: the steps are the laws' steps, those of its callee among them. Assumes nothing.
 use mathlib.Core.Path.{sym, _∙_}
-use Prim.Native.Nat.{ℕ, _<_}
 use native.Mathlib.Omega.{arith}
-use lib.Bits.{bitAnd, bitXor, and-le-r, xor-lt}
+use lib.Bits.{bitAnd, and-le-r, xor-lt}
 use borrow.Author.Needs.{needs}
 use Rattle.slices.proofs.Bitwise.{done, marks-right, starts-right}
 use Rattle.slices.proofs.eights.starts.Statement.{statement}
