@@ -65,7 +65,7 @@ pub fn is_letter(b: u8) -> bool
 pub fn is_alpha(b: u8) -> bool
     ensures { λ r. ⌜ r ≡ isAlpha b ⌝ }
 {
-    ((b'a' <= b) & (b <= b'z')) | ((b'A' <= b) & (b <= b'Z'))
+    is_letter(b) | ((b'A' <= b) & (b <= b'Z'))
 }
 
 fn is_in(b: u8, class: Class) -> bool

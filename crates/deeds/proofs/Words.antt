@@ -4,7 +4,7 @@
 --     gave-ended    and what its run gives, if it is no `u` word and something is left of it
 --     brace-at, count-one, count-text   whether it is a brace, and how many characters it is
 -- Assumes nothing.
-use mathlib.Core.Path.{_≡_, refl, sym, _∙_}
+use mathlib.Core.Path.{_≡_, refl, sym, ap, _∙_}
 use mathlib.Core.List.{List, [], _∷_}
 use mathlib.Core.Bool.{Bool, true, false, cond, _&&_, _||_, true≢false}
 use Prim.Native.Nat.{ℕ, zero, suc, _<_, _≤_}
@@ -16,14 +16,16 @@ use Rattle.answers.specs.declared.Why.the-variants.{IgnorableInBody}
 use Rattle.readings.specs.declared.Reading.{Reading}
 use Rattle.tokens.specs.declared.Property.{Property}
 use Rattle.tokens.specs.declared.item.Item.the-variants.{Text, Opening, Closing, LineBreak, Ignorable, Word, Unknown, Symbol}
+use Rattle.tokens.specs.Tokens.{Shown}
+use Rattle.tokens.specs.Tokens
 use Rattle.tokens.specs.Items.{itemAt, itemOf, wordItem, numberAt, shownOf, part}
 use Rattle.settings.specs.Fields.{Setting}
 use Rattle.settings.specs.Effects.{Effect, effect, painterWord, paragraphWord, characterWord, endingWord, indentWord}
 use Rattle.settings.specs.Effects as does
 use Rattle.units.specs.declared.Run.{Run}
 use Rattle.units.specs.declared.Gave.{Gave}
-use Rattle.machine.specs.Machine.{Deed, parts, ended, gave, isBrace, counts, tellsRest, left, isPassed}
-use Rattle.machine.proofs.Left.{isTelling}
+use Rattle.machine.specs.Machine.{Deed, parts, ended, gave, isBrace, counts, tellsRest, left, isPassed, owing}
+use Rattle.machine.proofs.Left.{isTelling, left-told}
 use Rattle.bytes.proofs.Runs.{and-left, and-right, or-left, or-right}
 use Rattle.deeds.specs.Deeds.{doing, symbolEffect, tokenDeed}
 use Rattle.deeds.specs.Turns.{deedAt}
@@ -119,6 +121,19 @@ module _ (step : Run → Property → Gave) (run : Run) where
   gave-other Deed.parts e p = refl
   gave-other (Deed.stops why) e p = refl
 
+owing-other : (owes : ℕ) (d : Deed Setting) → isUnit d ≡ false → owing owes d ≡ 0
+unfolding isUnit
+owing-other owes (Deed.unit num) e = absurd (true≢false e)
+owing-other owes Deed.passes e = refl
+owing-other owes Deed.opens e = refl
+owing-other owes Deed.closes e = refl
+owing-other owes (Deed.sets ss) e = refl
+owing-other owes (Deed.says bs) e = refl
+owing-other owes (Deed.tells bs) e = refl
+owing-other owes (Deed.refuses why) e = refl
+owing-other owes Deed.parts e = refl
+owing-other owes (Deed.stops why) e = refl
+
 -- so does what is left of it
 rest-other : (l : List ℕ) → isUnit (tellsRest l) ≡ false
 unfolding isUnit
@@ -171,6 +186,10 @@ module _ (rd : Reading) (src ws : List ℕ) (h : ℕ) where
       at true = refl
       at false = item-other rd src (getD ws 1 0) (getD ws 4 0) (getD ws 5 0) (numberAt ws) (eqb (getD ws 0 0) 1) (eqb (getD ws 0 0) 2) (eqb (getD ws 0 0) 3)
           (eqb (getD ws 0 0) 4) (eqb (getD ws 0 0) 5) (eqb (getD ws 0 0) 6) q
+
+  -- only a `u` word owes characters
+  pub owes-other : (owes : ℕ) → (eqb (getD ws 0 0) 5 && eqb (getD ws 1 0) 2) ≡ false → owing owes (deedAt rd src ws h) ≡ 0
+  owes-other owes q = owing-other owes (deedAt rd src ws h) (deed-other q)
 
   pub gave-ended : (n : ℕ) (step : Run → Property → Gave) (run : Run) → (eqb (getD ws 0 0) 5 && eqb (getD ws 1 0) 2) ≡ false → isPassed (left n (deedAt rd src ws h)) ≡ false
       → ended run ≡ gave step run (left n (deedAt rd src ws h))
@@ -239,6 +258,12 @@ module _ (rd : Reading) (src ws : List ℕ) where
       one true e = rw (← kind-open rd src ws (eqb-true kind 1 e)) refl
       one false e = two (eqb kind 2) refl (eqb-false kind 1 e)
 
+  -- a group that is passed over is a brace
+  no-group : (m : ℕ) → isBrace (deedAt rd src ws m) ≡ false → m ≤ 0
+  unfolding deedAt
+  no-group zero e = omega arith
+  no-group (suc m) e = let t : ltb 0 (suc m) ≡ true = lt-ltb 0 (suc m) (omega arith) in absurd (true≢false (rw t at e))
+
   module _ (h : ℕ) (l : 0 < h → getD ws 0 0 ≡ 1) where
     pub brace-at : eqb (getD ws 0 0) 1 || eqb (getD ws 0 0) 2 ≡ isBrace (deedAt rd src ws h)
     unfolding deedAt
@@ -251,12 +276,7 @@ module _ (rd : Reading) (src ws : List ℕ) where
     module _ (n : isBrace (deedAt rd src ws h) ≡ false) where
       -- so no group is passed over
       deed-here : deed ≡ deedAt rd src ws h
-      deed-here = at-token rd src ws h (go h n)
-        where
-          go : (m : ℕ) → isBrace (deedAt rd src ws m) ≡ false → m ≤ 0
-          unfolding deedAt
-          go zero e = omega arith
-          go (suc m) e = absurd (true≢false e)
+      deed-here = at-token rd src ws h (no-group h n)
 
       pub count-one : leb 3 (getD ws 0 0) && leb (getD ws 0 0) 6 ≡ true → 1 ≡ counts (deedAt rd src ws h)
       count-one e = rw (← deed-here) (sym (flat-kind (leb-true 3 kind (and-left (leb 3 kind) (leb kind 6) e)) (leb-true kind 6 (and-right (leb 3 kind) (leb kind 6) e)) .1))
@@ -285,3 +305,43 @@ act-telling rd src ws h z k = rw (← at-token rd src ws h z) (go (eqb (getD ws 
     go : (x : Bool) → eqb (getD ws 0 0) 5 ≡ x → x || eqb (getD ws 0 0) 6 ≡ true → isTelling (tokenDeed rd (shownOf src (itemAt ws))) ≡ false
     go true e k = rw (← kind-word rd src ws (eqb-true (getD ws 0 0) 5 e)) (word-telling rd (getD ws 1 0) (numberAt ws) (eqb (getD ws 1 0) 2))
     go false e k = rw (← kind-symbol rd src ws (eqb-true (getD ws 0 0) 6 k)) (doing-telling (symbolEffect (getD ws 1 0) (numberAt ws)))
+
+-- ---- no token is one that is passed over, by itself
+
+doing-read : (e : Effect) → isPassed (doing e) ≡ false
+doing-read (does.sets ss) = refl
+doing-read (does.says c) = refl
+doing-read (does.refuses why) = refl
+
+token-read : (rd : Reading) (t : Shown) → isPassed (tokenDeed rd t) ≡ false
+token-read rd Shown.opening = refl
+token-read rd Shown.closing = refl
+token-read rd Shown.lineBreak = refl
+token-read rd Shown.ignorable = refl
+token-read rd (Shown.text p bs) = refl
+token-read rd (Shown.word w num) = go (eqb w 2)
+  where
+    go : (u : Bool) → isPassed (cond u (Deed.unit num) (doing (effect rd w num))) ≡ false
+    go true = refl
+    go false = doing-read (effect rd w num)
+token-read rd (Shown.unknown p bs num) = refl
+token-read rd (Shown.symbol b num) = doing-read (symbolEffect b num)
+
+pub never-passed : (rd : Reading) (src ws : List ℕ) (h : ℕ) → isPassed (deedAt rd src ws h) ≡ false
+unfolding deedAt
+never-passed rd src ws h = go (ltb 0 h)
+  where
+    go : (t : Bool) → isPassed (cond t parts (tokenDeed rd (shownOf src (itemAt ws)))) ≡ false
+    go true = refl
+    go false = token-read rd (shownOf src (itemAt ws))
+
+-- ---- the rest of a text
+
+pub kind-rest : (rd : Reading) (src ws : List ℕ) (h n : ℕ) → h ≤ 0 → (getD ws 0 0 ≡ 1 → ⊥) → (getD ws 0 0 ≡ 2 → ⊥) → (getD ws 0 0 ≡ 3 → ⊥) → (getD ws 0 0 ≡ 4 → ⊥)
+    → eqb (getD ws 0 0) 5 || eqb (getD ws 0 0) 6 ≡ false → isPassed (left n (deedAt rd src ws h)) ≡ false → {bs bytes : List ℕ} → bytes ≡ part src (getD ws 4 0) (getD ws 5 0)
+    → bs ≡ drop n bytes → Deed.tells bs ≡ left n (deedAt rd src ws h)
+kind-rest rd src ws h n z a b c d q p e f =
+    let k : ℕ = getD ws 0 0 in
+    let t = kind-text rd src ws a b c d (λ x. true≢false (sym (rw (eq-eqb k 5 x)) ∙ or-left (eqb k 5) (eqb k 6) q))
+    (λ x. true≢false (sym (rw (eq-eqb k 6 x)) ∙ or-right (eqb k 5) (eqb k 6) q)) in
+    ap Deed.tells (f ∙ ap (drop n) e) ∙ left-told n (part src (getD ws 4 0) (getD ws 5 0)) (deedAt rd src ws h) (t ∙ at-token rd src ws h z) p

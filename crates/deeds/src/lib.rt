@@ -188,7 +188,7 @@ fn rest_of(bytes: &[u8], owed: usize) -> &[u8]
     ensures { λ r. ⌜ now r ≡ drop owed (now (bytes .entry)) ⌝ }
 {
     if bytes.len() < owed {
-        return &bytes[bytes.len()..];
+        return &bytes[..0];
     }
     &bytes[owed..]
 }

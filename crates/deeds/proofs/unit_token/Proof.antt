@@ -10,8 +10,8 @@ use Rattle.deeds.proofs.unit_token.Statement.{statement}
 use Rattle.deeds.proofs.unit_token.Tie as tie
 use Rattle.deeds.proofs.unit_token.Reads as reads
 use Rattle.deeds.proofs.unit_token.Lts as lts
-use Rattle.runs.proofs.unit.Reads as unit-reads
 use Rattle.deeds.proofs.stays.Reads as stays-reads
+use Rattle.runs.proofs.unit.Reads as unit-reads
 
 returns : tie.Need-returns
 returns c = let s = c .before .before .before in (turns-stopped _ _ (s .pre .1) (c .if1 .taken) (s .pre .2) (skipOf rows (held [] (s .args .states .now) (s .args .depth))) (runOf (s .args .run .now)) (s .args .number), s .pre .3)
