@@ -17,9 +17,10 @@ use bytes::Class;
 use bytes::body_of;
 use bytes::is_letter;
 use bytes::lead_of;
+use controls::numbered_word;
+use controls::word_record;
 use names::Table;
 use numbers::Number;
-use numbers::decimal_of;
 use numbers::hex_pair;
 use readings::Reading;
 use tokens::Property;
@@ -29,10 +30,12 @@ use tokens::words;
 ghost use mathlib.Core.Path.{_≡_};
 ghost use Prim.Native.Nat.{_+_, _≤_, _<_};
 ghost use lib.ListN.{length};
+ghost use Rattle.bytes.specs.declared.Class.the-variants.{Numeral};
+ghost use Rattle.bytes.specs.Bytes.{inClass, body};
 ghost use Rattle.names.specs.Names.{rows};
 ghost use Rattle.rooms.specs.Rooms.{Wrote};
-ghost use Rattle.tokens.specs.Tokens.{shownLayout, textRecord, recordOf};
-ghost use Rattle.tokenize.specs.Tokenize.{isMark, isEscape, plain as plainOf, wordTail, bareLength, shownWord, named as namedOf, word as wordOf, hexEscape, lineBreakAnd, other as otherOf, behindFeed, otherBy, escaped as escapedOf, mark as markOf, tokens as tokensOf};
+ghost use Rattle.tokens.specs.Tokens.{shownLayout, textRecord};
+ghost use Rattle.tokenize.specs.Tokenize.{isMark, isEscape, plain as plainOf, wordTail, bareLength, named as namedOf, word as wordOf, hexEscape, lineBreakAnd, other as otherOf, behindFeed, returned as returnedOf, otherBy, escaped as escapedOf, mark as markOf, tokens as tokensOf};
 ghost use Rattle.rooms.specs.Streams.{byName};
 
 // `{`, `}` or a line feed.
@@ -102,41 +105,26 @@ fn bare_length(w: &[u8]) -> usize
     k
 }
 
-// The record of a word whose backslash stands at `place`.
-fn word_record(name: &[u8], property: Property, place: usize, names: &Table) -> Record
-    requires { ⌜ (place + (1 + length (now name)) ≤ 65536) × (now names ≡ rows) ⌝ }
-    ensures { λ r. ⌜ r ≡ recordOf (shownWord place (now (name .entry)) property) ⌝ }
+// The token of a word behind its backslash at `place`: its name has e bytes, and its number the rest.
+fn numbered(w: &[u8], e: usize, place: usize, names: &Table, room: &mut [u32], n: usize) -> Written
+    requires { ⌜ (place + (1 + length (now w)) ≤ 65536) × (n ≤ place) × (now names ≡ rows) ⌝ }
+    requires { ⌜ (e ≡ body (inClass Numeral) (now w)) × (e ≤ length (now w)) ⌝ }
+    ensures { λ r. ⌜ Wrote shownLayout byName n (now (room .entry)) (namedOf place (now (w .entry))) r (now (room .exit)) ⌝ }
 {
-    let w = names::number_of(names, name);
-    if w < words::UNKNOWN {
-        return Record::word(w, property);
+    if e == w.len() {
+        put(room, n, word_record(w, Property::None, place, names));
+        return Written::Done(n + 1);
     }
-    let length = 1 + name.len();
-    Record::unknown(place as u32, length as u32, property)
+    numbered_word(&w[..e], &w[e..], place, names, room, n)
 }
 
-// A word behind its backslash at `place`: its name, and the number that ends it.
+// The same, where the name is still to be told from the number that ends it.
 fn named(w: &[u8], place: usize, names: &Table, room: &mut [u32], n: usize) -> Written
     requires { ⌜ (place + (1 + length (now w)) ≤ 65536) × (n ≤ place) × (now names ≡ rows) ⌝ }
     ensures { λ r. ⌜ Wrote shownLayout byName n (now (room .entry)) (namedOf place (now (w .entry))) r (now (room .exit)) ⌝ }
 {
-    let k = body_of(w, Class::Numeral);
-    if k == w.len() {
-        put(room, n, word_record(w, Property::None, place, names));
-        return Written::Done(n + 1);
-    }
-    let number = decimal_of(&w[k..]);
-    match number {
-        Number::Bad => Written::Refused(Why::NumberBad),
-        Number::Is(v) => {
-            put(
-                room,
-                n,
-                word_record(&w[..k], Property::Value(v), place, names),
-            );
-            Written::Done(n + 1)
-        }
-    }
+    let e = body_of(w, Class::Numeral);
+    numbered(w, e, place, names, room, n)
 }
 
 // A word and the text behind it; s follows the backslash at `place`.
@@ -213,10 +201,10 @@ fn behind_feed(s: &[u8], place: usize, room: &mut [u32], n: usize) -> Written
     plain(s, place, room, n)
 }
 
-// A backslash and a carriage return are a line break by paragraphs (02, A2). Else as `other`.
+// A backslash and a carriage return are a line break (02, A2). Else as `other`.
 fn returned(s: &[u8], place: usize, room: &mut [u32], n: usize) -> Written
     requires { ⌜ (place + (1 + length (now s)) ≤ 65536) × (n ≤ place) ⌝ }
-    ensures { λ r. ⌜ Wrote shownLayout byName n (now (room .entry)) (otherBy Reading.Paragraphs place (now (s .entry))) r (now (room .exit)) ⌝ }
+    ensures { λ r. ⌜ Wrote shownLayout byName n (now (room .entry)) (returnedOf place (now (s .entry))) r (now (room .exit)) ⌝ }
 {
     if s.len() == 0 {
         return other(s, place, room, n);
@@ -236,6 +224,7 @@ fn other_by(reading: Reading, s: &[u8], place: usize, room: &mut [u32], n: usize
     match reading {
         Reading::Plain => other(s, place, room, n),
         Reading::Paragraphs => returned(s, place, room, n),
+        Reading::Standard => returned(s, place, room, n),
     }
 }
 
