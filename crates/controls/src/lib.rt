@@ -53,11 +53,7 @@ pub fn numbered_word(
     match number {
         Number::Bad => Written::Refused(Why::NumberBad),
         Number::Is(v) => {
-            put(
-                room,
-                n,
-                word_record(name, Property::Value(v), place, names),
-            );
+            put(room, n, word_record(name, Property::Value(v), place, names));
             Written::Done(n + 1)
         }
     }

@@ -20,12 +20,12 @@ use Rattle.tokens.specs.Tokens
 use Rattle.controls.specs.Controls.{shownWord, numbered}
 
 -- 1 if a byte stands in front, else 0
-abbrev pub leads : ℕ → List ℕ → ℕ
+unfoldable pub leads : ℕ → List ℕ → ℕ
 leads b [] = 0
 leads b (c ∷ s) = cond (eqb c b) 1 0
 
 -- "Any other run of bytes is text, also if it is all white space"
-abbrev pub tail : ℕ → List ℕ → Stream Why Shown
+unfoldable pub tail : ℕ → List ℕ → Stream Why Shown
 tail p [] = end
 tail p (b ∷ s) = Shown.text p (b ∷ s) ▸ end
 
@@ -45,7 +45,7 @@ numberLength s =
     numberFrom m (lead (inClass Digit) (drop m s))
 
 -- a word by its name and the bytes of its number. "Outside 32 bits: 5."; "No `;` is dropped."
-abbrev pub named : ℕ → List ℕ → List ℕ → Stream Why Shown
+unfoldable pub named : ℕ → List ℕ → List ℕ → Stream Why Shown
 named p name [] = shownWord p name None ▸ end
 named p name (b ∷ s) = numbered p name (decimal (b ∷ s))
 
@@ -58,7 +58,7 @@ word p s =
     andThen (named p (take k s) (take n (drop k s))) (tail (p + 1 + e) (drop e s))
 
 -- "`\'` and two bytes: as 01 has them (3, 4), and no longer a `u` word."; "Behind a symbol or a hex escape no space vanishes."
-abbrev pub hexValue : Number → Stream Why Shown → Stream Why Shown
+unfoldable pub hexValue : Number → Stream Why Shown → Stream Why Shown
 hexValue (Is v) rest = Shown.symbol 39 (Value v) ▸ rest
 hexValue Bad rest = stop HexBad
 
@@ -68,10 +68,10 @@ hexEscape p (a ∷ []) = stop HexShort
 hexEscape p (a ∷ b ∷ s) = hexValue (hexPair a b) (tail (p + 4) s)
 
 -- "`\` LF, `\` CR, `\` CR LF: a line break; the tail stays, white or not."
-abbrev pub breakLength : ℕ → List ℕ → ℕ
+unfoldable pub breakLength : ℕ → List ℕ → ℕ
 breakLength b s = cond (eqb b 13) (leads 10 s) 0
 
-abbrev pub lineBreakAnd : ℕ → ℕ → List ℕ → Stream Why Shown
+unfoldable pub lineBreakAnd : ℕ → ℕ → List ℕ → Stream Why Shown
 lineBreakAnd p n s = Shown.lineBreak ▸ tail (p + 2 + n) (drop n s)
 
 -- a slice that begins with a backslash, by the byte behind that: a word; "`\{ \} \\`: text, the byte and what follows it up to the next
