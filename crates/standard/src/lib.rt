@@ -66,7 +66,8 @@ fn letters_of(s: &[u8]) -> usize
 {
     let mut i = 0;
     while i < s.len() {
-        if !is_alpha(s[i]) {
+        let b = s[i];
+        if !is_alpha(b) {
             return i;
         }
         i += 1;

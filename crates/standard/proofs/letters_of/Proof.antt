@@ -21,8 +21,8 @@ abbrev μ-loop : tie.MeasureT-loop
 loop-holds : tie.Need-loop-holds Inv-loop μ-loop
 loop-holds c = (omega arith, lead-start isAlpha _)
 
-shared-slice-read-is-alpha : tie.Need-shared-slice-read-is-alpha Inv-loop μ-loop
-shared-slice-read-is-alpha c = search needs
+shared-slice-read-b : tie.Need-shared-slice-read-b Inv-loop μ-loop
+shared-slice-read-b c = search needs
 
 is-alpha-requires : tie.Need-is-alpha-requires Inv-loop μ-loop
 is-alpha-requires c κs = search needs
@@ -49,7 +49,7 @@ letters-of-spec =
     Inv-loop
     μ-loop
     loop-holds
-    shared-slice-read-is-alpha
+    shared-slice-read-b
     is-alpha-requires
     returns
     add-i
