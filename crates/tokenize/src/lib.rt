@@ -30,8 +30,6 @@ use tokens::words;
 ghost use mathlib.Core.Path.{_≡_};
 ghost use Prim.Native.Nat.{_+_, _≤_, _<_};
 ghost use lib.ListN.{length};
-ghost use Rattle.bytes.specs.declared.Class.the-variants.{Numeral};
-ghost use Rattle.bytes.specs.Bytes.{inClass, body};
 ghost use Rattle.names.specs.Names.{rows};
 ghost use Rattle.rooms.specs.Rooms.{Wrote};
 ghost use Rattle.tokens.specs.Tokens.{shownLayout, textRecord};
@@ -105,26 +103,17 @@ fn bare_length(w: &[u8]) -> usize
     k
 }
 
-// The token of a word behind its backslash at `place`: its name has e bytes, and its number the rest.
-fn numbered(w: &[u8], e: usize, place: usize, names: &Table, room: &mut [u32], n: usize) -> Written
-    requires { ⌜ (place + (1 + length (now w)) ≤ 65536) × (n ≤ place) × (now names ≡ rows) ⌝ }
-    requires { ⌜ (e ≡ body (inClass Numeral) (now w)) × (e ≤ length (now w)) ⌝ }
-    ensures { λ r. ⌜ Wrote shownLayout byName n (now (room .entry)) (namedOf place (now (w .entry))) r (now (room .exit)) ⌝ }
-{
-    if e == w.len() {
-        put(room, n, word_record(w, Property::None, place, names));
-        return Written::Done(n + 1);
-    }
-    numbered_word(&w[..e], &w[e..], place, names, room, n)
-}
-
-// The same, where the name is still to be told from the number that ends it.
+// A word behind its backslash at `place`: its name, and the number that ends it.
 fn named(w: &[u8], place: usize, names: &Table, room: &mut [u32], n: usize) -> Written
     requires { ⌜ (place + (1 + length (now w)) ≤ 65536) × (n ≤ place) × (now names ≡ rows) ⌝ }
     ensures { λ r. ⌜ Wrote shownLayout byName n (now (room .entry)) (namedOf place (now (w .entry))) r (now (room .exit)) ⌝ }
 {
-    let e = body_of(w, Class::Numeral);
-    numbered(w, e, place, names, room, n)
+    let k = body_of(w, Class::Numeral);
+    if k == w.len() {
+        put(room, n, word_record(w, Property::None, place, names));
+        return Written::Done(n + 1);
+    }
+    numbered_word(&w[..k], &w[k..], place, names, room, n)
 }
 
 // A word and the text behind it; s follows the backslash at `place`.

@@ -9,27 +9,33 @@
 // answer in memory: that is taken apart and put together again, so that the other ways keep theirs in registers.
 use crate::is_mark;
 use crate::mark;
-use crate::numbered;
 use crate::plain;
 use crate::tokenize;
 use crate::word;
 use crate::word_tail;
+use answers::Why;
 use answers::Written;
 use bytes::Class;
 use bytes::ends_word;
 use bytes::is_letter;
 use bytes::lead_of;
+use controls::word_record;
 use names::Table;
+use numbers::Number;
+use numbers::decimal_of;
 use readings::Reading;
+use tokens::Property;
+use tokens::put;
 ghost use mathlib.Core.Path.{_≡_};
 ghost use mathlib.Core.Bool.{true};
 ghost use Prim.Native.Nat.{_+_, _≤_, _<_};
 ghost use lib.ListN.{length, getD, drop};
-ghost use Rattle.bytes.specs.Bytes.{isLetter, lead};
+ghost use Rattle.bytes.specs.declared.Class.the-variants.{Numeral};
+ghost use Rattle.bytes.specs.Bytes.{isLetter, inClass, lead, body};
 ghost use Rattle.names.specs.Names.{rows};
 ghost use Rattle.rooms.specs.Rooms.{Wrote};
 ghost use Rattle.tokens.specs.Tokens.{shownLayout};
-ghost use Rattle.tokenize.specs.Tokenize.{isMark, wordTail, word as wordOf, tokens as tokensOf};
+ghost use Rattle.tokenize.specs.Tokenize.{isMark, named, wordTail, word as wordOf, tokens as tokensOf};
 ghost use Rattle.tokenize.specs.Quick.{endsAt};
 ghost use Rattle.rooms.specs.Streams.{byName};
 
@@ -56,6 +62,30 @@ fn ends_at(s: &[u8], k: usize) -> bool
         return true;
     }
     ends_word(s[k])
+}
+
+// The token of a word whose name has e bytes, as the code behind `tokenize::word` finds it, but for the search for e.
+fn numbered(w: &[u8], e: usize, place: usize, names: &Table, room: &mut [u32], n: usize) -> Written
+    requires { ⌜ (place + (1 + length (now w)) ≤ 65536) × (n ≤ place) × (now names ≡ rows) ⌝ }
+    requires { ⌜ (e ≡ body (inClass Numeral) (now w)) × (e ≤ length (now w)) ⌝ }
+    ensures { λ r. ⌜ Wrote shownLayout byName n (now (room .entry)) (named place (now (w .entry))) r (now (room .exit)) ⌝ }
+{
+    if e == w.len() {
+        put(room, n, word_record(w, Property::None, place, names));
+        return Written::Done(n + 1);
+    }
+    let number = decimal_of(&w[e..]);
+    match number {
+        Number::Bad => Written::Refused(Why::NumberBad),
+        Number::Is(v) => {
+            put(
+                room,
+                n,
+                word_record(&w[..e], Property::Value(v), place, names),
+            );
+            Written::Done(n + 1)
+        }
+    }
 }
 
 // What stands behind a word that ends at k of s, which follows the backslash at `place`.

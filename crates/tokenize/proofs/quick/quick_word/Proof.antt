@@ -15,7 +15,7 @@ use Rattle.bytes.proofs.lead_of.Reads as lead-of-reads
 use Rattle.tokenize.proofs.quick.behind.Reads as behind-reads
 use Rattle.tokenize.proofs.quick.ends_at.Reads as ends-at-reads
 use Rattle.tokenize.proofs.quick.letters_of.Reads as letters-of-reads
-use Rattle.tokenize.proofs.numbered.Reads as numbered-reads
+use Rattle.tokenize.proofs.quick.numbered.Reads as numbered-reads
 use Rattle.tokenize.proofs.word.Reads as word-reads
 use Rattle.rooms.proofs.Streams.{name-apart}
 
