@@ -34,7 +34,7 @@ ghost use Rattle.tokens.specs.declared.Property.the-variants.{None};
 ghost use Rattle.tokens.specs.Tokens.{shownLayout, symbolRecord};
 ghost use Rattle.standard.specs.Standard.{leads as leadsOf, tail as tailOf, isEscape, numberLength, named as namedOf, word as wordOf, hexEscape, breakLength, lineBreakAnd, escaped as escapedOf, tokens as tokensOf};
 
-// `{`, `}` or `\\`, which a backslash makes plain text.
+// `{`, `}` or `\`, which a backslash makes plain text.
 fn is_escape(b: u8) -> bool
     ensures { λ r. ⌜ r ≡ isEscape b ⌝ }
 {
