@@ -2,7 +2,7 @@
 -- the callees promise of them are premises. Assumes nothing.
 use mathlib.Core.Path.{_≡_, refl, sym, ap, _∙_}
 use mathlib.Core.List.{List, [], _∷_}
-use mathlib.Core.Bool.{Bool, true, false, cond, _||_}
+use mathlib.Core.Bool.{Bool, true, false, cond, _||_, false≢true}
 use Prim.Native.Nat.{ℕ, zero, suc, _+_, _-_, _≤_, _<_}
 use native.Mathlib.Omega.{arith}
 use borrow.Author.Tests.{eq-eqb, ne-eqb}
@@ -13,15 +13,18 @@ use Rattle.answers.specs.declared.Why.{Why}
 use Rattle.answers.specs.declared.Why.the-variants.{HexShort, HexBad}
 use Rattle.bytes.specs.declared.Class.the-variants.{Alpha, Digit}
 use Rattle.bytes.specs.Bytes.{isAlpha, inClass, lead}
+use Rattle.bytes.proofs.Runs.{or-left, or-right}
 use Rattle.numbers.specs.declared.Number.{Number}
 use Rattle.numbers.specs.declared.Number.the-variants.{Is, Bad}
 use Rattle.numbers.specs.Numbers.{hexPair, decimal}
 use Rattle.rooms.specs.Streams.{Stream, end, stop, _▸_, andThen}
 use Rattle.tokens.specs.declared.Property.the-variants.{None, Value}
-use Rattle.tokens.specs.Tokens.{Shown}
+use Rattle.tokens.specs.declared.Record.{Record}
+use Rattle.tokens.specs.Tokens.{Shown, bareRecord, symbolRecord, recordOf}
 use Rattle.tokens.specs.Tokens
+use Rattle.tokens.proofs.Records.{symbol-record, ignorable-record, opening-record, closing-record}
 use Rattle.controls.specs.Controls.{shownWord, numbered}
-use Rattle.standard.specs.Standard.{leads, tail, isEscape, numberFrom, numberLength, named, word, hexValue, hexEscape, breakLength, lineBreakAnd, escaped, tokens}
+use Rattle.standard.specs.Standard.{leads, tail, isEscape, numberFrom, numberLength, named, word, hexValue, hexEscape, breakLength, lineBreakAnd, symbolOf, bracketOf, escaped, tokens}
 
 -- the bytes from a place on, as the code has them
 abbrev pub part : ℕ → List ℕ → List ℕ
@@ -134,6 +137,29 @@ module _ (p b : ℕ) (s : List ℕ) where
       let z : p + 2 + 0 ≡ p + 2 = omega arith in
       rw (ne-eqb b 13 f, z)
 
+-- the record of a symbol or a bracket, by its byte
+module _ {r : Record} (b : ℕ) where
+  pub symbol-mark : b ≡ 42 → r ≡ bareRecord 4 → r ≡ recordOf (symbolOf b)
+  unfolding symbolOf
+  symbol-mark e h = rw (eq-eqb b 42 e) (ignorable-record h)
+
+  pub symbol-other : (b ≡ 42 → ⊥) → r ≡ symbolRecord b None → r ≡ recordOf (symbolOf b)
+  unfolding symbolOf
+  symbol-other f h = rw (ne-eqb b 42 f) (symbol-record b None h)
+
+  pub bracket-opening : b ≡ 123 → r ≡ bareRecord 1 → r ≡ recordOf (bracketOf b)
+  unfolding bracketOf
+  bracket-opening e h = rw (eq-eqb b 123 e) (opening-record h)
+
+  pub bracket-closing : (b ≡ 123 → ⊥) → r ≡ bareRecord 2 → r ≡ recordOf (bracketOf b)
+  unfolding bracketOf
+  bracket-closing f h = rw (ne-eqb b 123 f) (closing-record h)
+
+-- a choice between two items in front of one stream
+either : (t : Bool) (x y : Shown) (a : Stream Why Shown) → cond t (x ▸ a) (y ▸ a) ≡ cond t x y ▸ a
+either true x y a = refl
+either false x y a = refl
+
 -- behind a backslash, by the byte that follows
 pub escaped-none : (p : ℕ) (s : List ℕ) → length s ≡ 0 → escaped p s ≡ Shown.symbol 0 None ▸ end
 unfolding escaped
@@ -182,12 +208,9 @@ module _ (p : ℕ) where
           pub escaped-break : eqb (getD s 0 0) 10 || eqb (getD s 0 0) 13 ≡ true → escaped p s ≡ lineBreakAnd p (breakLength (getD s 0 0) (part 1 s)) (part 1 s)
           escaped-break y = past-hex true y ∙ rw (ne-eqb (getD s 0 0) 39 x)
 
-          module _ (y : eqb (getD s 0 0) 10 || eqb (getD s 0 0) 13 ≡ false) where
-            pub escaped-mark : getD s 0 0 ≡ 42 → escaped p s ≡ Shown.ignorable ▸ tail (p + 2) (part 1 s)
-            escaped-mark b = past-hex false y ∙ rw (ne-eqb (getD s 0 0) 39 x, eq-eqb (getD s 0 0) 42 b)
-
-            pub escaped-symbol : (getD s 0 0 ≡ 42 → ⊥) → escaped p s ≡ Shown.symbol (getD s 0 0) None ▸ tail (p + 2) (part 1 s)
-            escaped-symbol b = past-hex false y ∙ rw (ne-eqb (getD s 0 0) 39 x, ne-eqb (getD s 0 0) 42 b)
+          pub escaped-symbol : eqb (getD s 0 0) 10 || eqb (getD s 0 0) 13 ≡ false → escaped p s ≡ symbolOf (getD s 0 0) ▸ tail (p + 2) (part 1 s)
+          unfolding symbolOf
+          escaped-symbol y = past-hex false y ∙ rw (ne-eqb (getD s 0 0) 39 x) (either (eqb (getD s 0 0) 42) _ _ (tail (p + 2) (part 1 s)))
 
 -- a slice, by its first byte
 pub tokens-none : (p : ℕ) (s : List ℕ) → length s ≡ 0 → tokens p s ≡ end
@@ -196,13 +219,12 @@ tokens-none p [] h = refl
 tokens-none p (b ∷ s) h = absurd (omega arith)
 
 module _ (p : ℕ) where
+  abbrev brackets : Bool → Bool → Bool → List ℕ → Stream Why Shown
+  brackets x y u s =
+      cond x (Shown.opening ▸ tail (p + 1) (part 1 s)) (cond y (Shown.closing ▸ tail (p + 1) (part 1 s)) (cond u (tail (p + 1) (part 1 s)) (tail p s)))
+
   abbrev pick : Bool → List ℕ → Stream Why Shown
-  pick u s =
-      let b = getD s 0 0 in
-      cond (eqb b 92) (escaped p (part 1 s))
-      (cond (eqb b 123) (Shown.opening ▸ tail (p + 1) (part 1 s))
-      (cond (eqb b 125) (Shown.closing ▸ tail (p + 1) (part 1 s))
-      (cond u (tail (p + 1) (part 1 s)) (tail p s))))
+  pick u s = cond (eqb (getD s 0 0) 92) (escaped p (part 1 s)) (brackets (eqb (getD s 0 0) 123) (eqb (getD s 0 0) 125) u s)
 
   tokens-at : (s : List ℕ) → (length s ≡ 0 → ⊥) → tokens p s ≡ pick (eqb (getD s 0 0) 10 || eqb (getD s 0 0) 13) s
   unfolding tokens
@@ -214,20 +236,24 @@ module _ (p : ℕ) where
     tokens-escaped e = tokens-at s z ∙ rw (eq-eqb (getD s 0 0) 92 e)
 
     module _ (f : getD s 0 0 ≡ 92 → ⊥) where
-      pub tokens-opening : getD s 0 0 ≡ 123 → tokens p s ≡ Shown.opening ▸ tail (p + 1) (part 1 s)
-      tokens-opening e = tokens-at s z ∙ rw (ne-eqb (getD s 0 0) 92 f, eq-eqb (getD s 0 0) 123 e)
+      past-escaped : (u : Bool) → eqb (getD s 0 0) 10 || eqb (getD s 0 0) 13 ≡ u → tokens p s ≡ brackets (eqb (getD s 0 0) 123) (eqb (getD s 0 0) 125) u s
+      past-escaped u y = tokens-at s z ∙ ap (λ (t : Bool). pick t s) y ∙ rw (ne-eqb (getD s 0 0) 92 f)
 
-      module _ (g : getD s 0 0 ≡ 123 → ⊥) where
-        pub tokens-closing : getD s 0 0 ≡ 125 → tokens p s ≡ Shown.closing ▸ tail (p + 1) (part 1 s)
-        tokens-closing e = tokens-at s z ∙ rw (ne-eqb (getD s 0 0) 92 f, ne-eqb (getD s 0 0) 123 g, eq-eqb (getD s 0 0) 125 e)
+      pub tokens-bracket : eqb (getD s 0 0) 123 || eqb (getD s 0 0) 125 ≡ true → tokens p s ≡ bracketOf (getD s 0 0) ▸ tail (p + 1) (part 1 s)
+      unfolding bracketOf
+      tokens-bracket e = past-escaped _ refl ∙ go (eqb (getD s 0 0) 123) (eqb (getD s 0 0) 125) (eqb (getD s 0 0) 10 || eqb (getD s 0 0) 13) e
+        where
+          go : (x y u : Bool) → x || y ≡ true → brackets x y u s ≡ cond x Shown.opening Shown.closing ▸ tail (p + 1) (part 1 s)
+          go true y u e = refl
+          go false true u e = refl
+          go false false u e = absurd (false≢true e)
 
-        module _ (h : getD s 0 0 ≡ 125 → ⊥) where
-          past-brackets : (u : Bool) → eqb (getD s 0 0) 10 || eqb (getD s 0 0) 13 ≡ u → tokens p s ≡ cond u (tail (p + 1) (part 1 s)) (tail p s)
-          past-brackets u y =
-              tokens-at s z ∙ ap (λ (t : Bool). pick t s) y ∙ rw (ne-eqb (getD s 0 0) 92 f, ne-eqb (getD s 0 0) 123 g, ne-eqb (getD s 0 0) 125 h)
+      module _ (g : eqb (getD s 0 0) 123 || eqb (getD s 0 0) 125 ≡ false) where
+        past-brackets : (u : Bool) → eqb (getD s 0 0) 10 || eqb (getD s 0 0) 13 ≡ u → tokens p s ≡ cond u (tail (p + 1) (part 1 s)) (tail p s)
+        past-brackets u y = past-escaped u y ∙ rw (or-left (eqb (getD s 0 0) 123) _ g, or-right (eqb (getD s 0 0) 123) _ g)
 
-          pub tokens-raw : eqb (getD s 0 0) 10 || eqb (getD s 0 0) 13 ≡ true → tokens p s ≡ tail (p + 1) (part 1 s)
-          tokens-raw y = past-brackets true y
+        pub tokens-raw : eqb (getD s 0 0) 10 || eqb (getD s 0 0) 13 ≡ true → tokens p s ≡ tail (p + 1) (part 1 s)
+        tokens-raw y = past-brackets true y
 
-          pub tokens-text : eqb (getD s 0 0) 10 || eqb (getD s 0 0) 13 ≡ false → tokens p s ≡ tail p s
-          tokens-text y = past-brackets false y
+        pub tokens-text : eqb (getD s 0 0) 10 || eqb (getD s 0 0) 13 ≡ false → tokens p s ≡ tail p s
+        tokens-text y = past-brackets false y

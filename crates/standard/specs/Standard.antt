@@ -74,6 +74,13 @@ breakLength b s = cond (eqb b 13) (leads 10 s) 0
 unfoldable pub lineBreakAnd : ℕ → ℕ → List ℕ → Stream Why Shown
 lineBreakAnd p n s = Shown.lineBreak ▸ tail (p + 2 + n) (drop n s)
 
+-- the token of a symbol's byte, the mark's among them, and that of a bracket's byte
+unfoldable pub symbolOf : ℕ → Shown
+symbolOf b = cond (eqb b 42) Shown.ignorable (Shown.symbol b None)
+
+unfoldable pub bracketOf : ℕ → Shown
+bracketOf b = cond (eqb b 123) Shown.opening Shown.closing
+
 -- a slice that begins with a backslash, by the byte behind that: a word; "`\{ \} \\`: text, the byte and what follows it up to the next
 -- slice."; `\'`; a line break; "`\*`: the mark; its tail stays as text."; "Any other symbol gives nothing, but is a token (it counts one); so is
 -- a backslash that ends the source."

@@ -30,9 +30,8 @@ ghost use Rattle.bytes.specs.Bytes.{inClass, lead};
 ghost use Rattle.names.specs.Names.{rows};
 ghost use Rattle.rooms.specs.Rooms.{Wrote};
 ghost use Rattle.rooms.specs.Streams.{byName};
-ghost use Rattle.tokens.specs.declared.Property.the-variants.{None};
-ghost use Rattle.tokens.specs.Tokens.{shownLayout, symbolRecord};
-ghost use Rattle.standard.specs.Standard.{leads as leadsOf, tail as tailOf, isEscape, numberLength, named as namedOf, word as wordOf, hexEscape, breakLength, lineBreakAnd, escaped as escapedOf, tokens as tokensOf};
+ghost use Rattle.tokens.specs.Tokens.{shownLayout, recordOf};
+ghost use Rattle.standard.specs.Standard.{leads as leadsOf, tail as tailOf, isEscape, numberLength, named as namedOf, word as wordOf, hexEscape, breakLength, lineBreakAnd, symbolOf, bracketOf, escaped as escapedOf, tokens as tokensOf};
 
 // `{`, `}` or `\`, which a backslash makes plain text.
 fn is_escape(b: u8) -> bool
@@ -41,10 +40,24 @@ fn is_escape(b: u8) -> bool
     (b == b'{') | (b == b'}') | (b == b'\\')
 }
 
+// The record of a symbol's byte; `*` is the mark.
 fn symbol(b: u8) -> Record
-    ensures { λ r. ⌜ r ≡ symbolRecord b None ⌝ }
+    ensures { λ r. ⌜ r ≡ recordOf (symbolOf b) ⌝ }
 {
+    if b == b'*' {
+        return Record::bare(4);
+    }
     Record::symbol(b as u32, Property::None)
+}
+
+// The record of a bracket's byte.
+fn bracket(b: u8) -> Record
+    ensures { λ r. ⌜ r ≡ recordOf (bracketOf b) ⌝ }
+{
+    if b == b'{' {
+        return Record::bare(1);
+    }
+    Record::bare(2)
 }
 
 // 1 if b stands in front, else 0.
@@ -188,10 +201,6 @@ fn escaped(s: &[u8], place: usize, names: &Table, room: &mut [u32], n: usize) ->
     if (b == b'\n') | (b == b'\r') {
         return line_break(b, &s[1..], place, room, n);
     }
-    if b == b'*' {
-        put(room, n, Record::bare(4));
-        return tail(&s[1..], place + 2, room, n + 1);
-    }
     put(room, n, symbol(b));
     tail(&s[1..], place + 2, room, n + 1)
 }
@@ -208,12 +217,8 @@ pub fn slice_tokens(s: &[u8], place: usize, names: &Table, room: &mut [u32], n: 
     if b == b'\\' {
         return escaped(&s[1..], place, names, room, n);
     }
-    if b == b'{' {
-        put(room, n, Record::bare(1));
-        return tail(&s[1..], place + 1, room, n + 1);
-    }
-    if b == b'}' {
-        put(room, n, Record::bare(2));
+    if (b == b'{') | (b == b'}') {
+        put(room, n, bracket(b));
         return tail(&s[1..], place + 1, room, n + 1);
     }
     if (b == b'\n') | (b == b'\r') {

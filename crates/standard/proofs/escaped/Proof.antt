@@ -1,8 +1,8 @@
 -- `escaped` meets its contract: each branch is the rule of the byte behind the backslash.
 use Rattle.rooms.proofs.Rooms.{wrote-as}
 use Rattle.tokens.specs.Tokens.{shownLayout}
-use Rattle.tokens.proofs.Records.{wrote-token, wrote-token-and, symbol-record, ignorable-record}
-use Rattle.standard.proofs.Rules.{escaped-none, escaped-word, escaped-text, escaped-hex, escaped-break, escaped-mark, escaped-symbol}
+use Rattle.tokens.proofs.Records.{wrote-token, wrote-token-and, symbol-record}
+use Rattle.standard.proofs.Rules.{escaped-none, escaped-word, escaped-text, escaped-hex, escaped-break, escaped-symbol}
 use borrow.Author.Needs.{needs}
 use Rattle.standard.proofs.escaped.Statement.{statement}
 use Rattle.standard.proofs.escaped.Tie as tie
@@ -15,7 +15,6 @@ use Rattle.standard.proofs.line_break.Reads as line-break-reads
 use Rattle.standard.proofs.symbol.Reads as symbol-reads
 use Rattle.standard.proofs.tail.Reads as tail-reads
 use Rattle.standard.proofs.word.Reads as word-reads
-use Rattle.tokens.proofs.Record.bare.Reads as bare-reads
 use Rattle.tokens.proofs.Record.symbol.Reads as Record-symbol-reads
 use Rattle.tokens.proofs.put.Reads as put-reads
 
@@ -100,8 +99,8 @@ same-length-5 c = search needs
 returns-5 : tie.Need-returns-5
 returns-5 c = wrote-as shownLayout (escaped-break _ _ (c .before .before .before .before .before .before .before .before .before .before .before .before .if1 .left) _ (c .before .before .before .before .before .before .before .before .before .before .is-alpha .ensures) (c .before .before .before .before .before .before .before .before .before .if2 .left) _ (c .before .before .before .before .before .before .before .before .is-escape .ensures) (c .before .before .before .before .before .before .before .if3 .left) (c .before .before .before .before .before .before .if4 .left) (c .before .before .before .before .before .if5 .taken)) (c .before .before .line-break .ensures)
 
-bare-requires : tie.Need-bare-requires
-bare-requires c κs = search needs
+symbol-requires-2 : tie.Need-symbol-requires-2
+symbol-requires-2 c κs = search needs
 
 put-requires-2 : tie.Need-put-requires-2
 put-requires-2 c κs = search needs
@@ -128,37 +127,7 @@ same-length-6 : tie.Need-same-length-6
 same-length-6 c = search needs
 
 returns-6 : tie.Need-returns-6
-returns-6 c = wrote-token-and (escaped-mark _ _ (c .before .before .before .before .before .before .before .before .before .before .before .before .before .before .before .before .before .before .if1 .left) _ (c .before .before .before .before .before .before .before .before .before .before .before .before .before .before .before .before .is-alpha .ensures) (c .before .before .before .before .before .before .before .before .before .before .before .before .before .before .before .if2 .left) _ (c .before .before .before .before .before .before .before .before .before .before .before .before .before .before .is-escape .ensures) (c .before .before .before .before .before .before .before .before .before .before .before .before .before .if3 .left) (c .before .before .before .before .before .before .before .before .before .before .before .before .if4 .left) (c .before .before .before .before .before .before .before .before .before .before .before .if5 .left) (c .before .before .before .before .before .before .before .before .before .before .if6 .taken)) (ignorable-record (c .before .before .before .before .before .before .before .before .bare .ensures)) (c .before .before .before .before .before .before .before .put2 .ensures) (c .before .before .tail2 .ensures)
-
-symbol-requires-2 : tie.Need-symbol-requires-2
-symbol-requires-2 c κs = search needs
-
-put-requires-3 : tie.Need-put-requires-3
-put-requires-3 c κs = search needs
-
-sub-tail-2 : tie.Need-sub-tail-2
-sub-tail-2 c = search needs
-
-part-tail-start-2 : tie.Need-part-tail-start-2
-part-tail-start-2 c = search needs
-
-part-tail-end-2 : tie.Need-part-tail-end-2
-part-tail-end-2 c = search needs
-
-add-tail-4 : tie.Need-add-tail-4
-add-tail-4 c = search needs
-
-add-tail-5 : tie.Need-add-tail-5
-add-tail-5 c = search needs
-
-tail-requires-3 : tie.Need-tail-requires-3
-tail-requires-3 c κs = search needs
-
-same-length-7 : tie.Need-same-length-7
-same-length-7 c = search needs
-
-returns-7 : tie.Need-returns-7
-returns-7 c = wrote-token-and (escaped-symbol _ _ (c .before .before .before .before .before .before .before .before .before .before .before .before .before .before .before .before .before .before .if1 .left) _ (c .before .before .before .before .before .before .before .before .before .before .before .before .before .before .before .before .is-alpha .ensures) (c .before .before .before .before .before .before .before .before .before .before .before .before .before .before .before .if2 .left) _ (c .before .before .before .before .before .before .before .before .before .before .before .before .before .before .is-escape .ensures) (c .before .before .before .before .before .before .before .before .before .before .before .before .before .if3 .left) (c .before .before .before .before .before .before .before .before .before .before .before .before .if4 .left) (c .before .before .before .before .before .before .before .before .before .before .before .if5 .left) (c .before .before .before .before .before .before .before .before .before .before .if6 .left)) (symbol-record _ _ (c .before .before .before .before .before .before .before .before .symbol2 .ensures)) (c .before .before .before .before .before .before .before .put3 .ensures) (c .before .before .tail3 .ensures)
+returns-6 c = wrote-token-and (escaped-symbol _ _ (c .before .before .before .before .before .before .before .before .before .before .before .before .before .before .before .before .before .if1 .left) _ (c .before .before .before .before .before .before .before .before .before .before .before .before .before .before .before .is-alpha .ensures) (c .before .before .before .before .before .before .before .before .before .before .before .before .before .before .if2 .left) _ (c .before .before .before .before .before .before .before .before .before .before .before .before .before .is-escape .ensures) (c .before .before .before .before .before .before .before .before .before .before .before .before .if3 .left) (c .before .before .before .before .before .before .before .before .before .before .before .if4 .left) (c .before .before .before .before .before .before .before .before .before .before .if5 .left)) (c .before .before .before .before .before .before .before .before .symbol2 .ensures) (c .before .before .before .before .before .before .before .put2 .ensures) (c .before .before .tail2 .ensures)
 
 pub escaped-spec : {M : Type 1} → statement M
 escaped-spec =
@@ -191,7 +160,7 @@ escaped-spec =
     line-break-requires
     same-length-5
     returns-5
-    bare-requires
+    symbol-requires-2
     put-requires-2
     sub-tail
     part-tail-start
@@ -200,14 +169,4 @@ escaped-spec =
     add-tail-3
     tail-requires-2
     same-length-6
-    returns-6
-    symbol-requires-2
-    put-requires-3
-    sub-tail-2
-    part-tail-start-2
-    part-tail-end-2
-    add-tail-4
-    add-tail-5
-    tail-requires-3
-    same-length-7
-    returns-7)
+    returns-6)
