@@ -269,7 +269,8 @@ impl Draft<'_> {
     }
 
     /// A piece that standard and paragraph reading take for the same: words of 01 but `u`, each
-    /// behind it a space or a special byte; text that is not all white; numbers of flags 0 or 1.
+    /// with a space or a special byte behind it; numbers of flags 0 or 1; text that is not all
+    /// white; escapes and line breaks before text; `\*` before a special byte.
     fn agreed(&mut self, depth: usize) {
         match self.random.below(16) {
             0..3 if depth < 70 => {
