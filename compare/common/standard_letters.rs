@@ -146,7 +146,7 @@ pub fn counts_and_units(sink: &mut Sink) {
 
 /// Long runs: of what is passed over, of units, of symbols, up to the source's limit.
 pub fn long(sink: &mut Sink) {
-    const UNITS: [&str; 12] = [
+    const UNITS: [&str; 14] = [
         "\\_",
         "\\~",
         "\\u-10179?",
@@ -159,6 +159,8 @@ pub fn long(sink: &mut Sink) {
         "\\b2.\\b0.",
         "\\\r\n",
         "{\\u65}",
+        "a",
+        "ab c\r\n",
     ];
     for unit in UNITS {
         for size in [100, 4_096, crate::cut::SOURCE_LIMIT] {
@@ -169,6 +171,20 @@ pub fn long(sink: &mut Sink) {
                 letter.push('}');
                 sink(letter.as_bytes());
             }
+        }
+    }
+}
+
+/// As many characters as a skip count has, a few less or more, in one text and in texts and words.
+pub fn long_skips(sink: &mut Sink) {
+    for count in [1, 2, 127, 128, 255, 256, 257, 1_000, 4_096, 32_767, 32_768, 60_000] {
+        for length in count.max(2) - 2..=count + 2 {
+            let text = "a".repeat(length);
+            sink(format!("{{\\uc{count}\\u65 {text}}}").as_bytes());
+            sink(format!("{{\\uc{count}\\u-10179 {text}\\u-8704 {text}\\b .}}").as_bytes());
+            let (front, back) = text.split_at(length / 3);
+            sink(format!("{{\\uc{count}\\u65 {front}\\i\r\n{back}\\~ .}}").as_bytes());
+            sink(format!("{{\\uc{count}\\u65 {front}{{{back}}}}}").as_bytes());
         }
     }
 }

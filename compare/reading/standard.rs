@@ -75,10 +75,11 @@ fn sequences(judge: &mut Judge, depth: usize) {
 
 fn listed(judge: &mut Judge, depth: usize) {
     type Family = fn(&mut letters::Sink);
-    const FAMILIES: [(&str, Family); 16] = [
+    const FAMILIES: [(&str, Family); 17] = [
         ("hex escapes and symbols", standard_letters::hex_and_symbols),
         ("skip counts and units", standard_letters::counts_and_units),
         ("long runs", standard_letters::long),
+        ("long skips", standard_letters::long_skips),
         ("each byte in each place", |sink| telling().for_each(|l| every_byte_in(l, sink))),
         ("each fault in each place", faults_everywhere),
         ("words with numbers", fragments::words_with_numbers),
