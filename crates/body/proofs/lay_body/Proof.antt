@@ -87,10 +87,10 @@ at-requires : tie.Need-at-requires Inv-loop μ-loop
 at-requires c κs = search needs
 
 same-length : tie.Need-same-length Inv-loop μ-loop
-same-length c = c .before .before .before .before .before .before .before .before .before .before .turn .kept .1 .1 .1 .1 .1 .1 .1 .1 .0 ∙ c .before .before .before .before .before .before .before .before .before .before .before .before .before .before .before .before .before .before .before .before .loop .inv .long-b
+same-length c = c .before .before .before .before .before .before .before .before .before .before .turn .kept .1 .1 .1 .1 .1 .1 .1 .1 .1 .0 ∙ c .before .before .before .before .before .before .before .before .before .before .before .before .before .before .before .before .before .before .before .before .loop .inv .long-b
 
 same-length-2 : tie.Need-same-length-2 Inv-loop μ-loop
-same-length-2 c = c .before .before .before .before .before .before .before .before .before .before .turn .kept .1 .1 .1 .1 .1 .1 .1 .1 .1 .0 ∙ c .before .before .before .before .before .before .before .before .before .before .before .before .before .before .before .before .before .before .before .before .loop .inv .long-t
+same-length-2 c = c .before .before .before .before .before .before .before .before .before .before .turn .kept .1 .1 .1 .1 .1 .1 .1 .1 .1 .1 .0 ∙ c .before .before .before .before .before .before .before .before .before .before .before .before .before .before .before .before .before .before .before .before .loop .inv .long-t
 
 returns : tie.Need-returns Inv-loop μ-loop
 returns c = (turn-refused (c .before .before .before .before .before .before .before .before .before .before .before .before .before .before .before .before .before .before .before .before .loop .inv) (c .before .before .before .before .before .before .before .before .before .before .before .before .before .before .before .before .before .before .before .loop-test .taken) (c .before .before .before .before .before .before .before .before .before .before .before .before .before .before .before .before .before .before .passed .ensures) (c .before .before .before .before .before .before .before .before .before .before .turn .ensures .0) (c .before .before .before .moved .given .1) (c .before .slice-at .ensures) (c .at .ensures), omega arith)
@@ -102,7 +102,7 @@ loop-less : tie.Need-loop-less Inv-loop μ-loop
 loop-less c = let u = c .before .before .before .before .before .before .before .before .before .before .before .before .before .before .before .before .passed .ensures .1 in let z = c .before .before .before .before .before .before .before .before .before .before .before .before .before .before .before .before .before .loop-test .taken in let w = c .before .before .before .before .before .before .before .before .before .before .before .before .before .before .before .before .before .before .loop .inv .words in let v = c .before .before .before .before .before .before .before .before .before .before .before .before .before .before .before .before .before .before .loop .inv .few in omega (arith, u, z, w, v)
 
 loop-again : tie.Need-loop-again Inv-loop μ-loop
-loop-again c = let t = c .before .before .before .before .before .before .before .before .turn in turn-on (c .before .before .before .before .before .before .before .before .before .before .before .before .before .before .before .before .before .before .loop .inv) (c .before .before .before .before .before .before .before .before .before .before .before .before .before .before .before .before .before .loop-test .taken) (c .before .before .before .before .before .before .before .before .before .before .before .before .before .before .before .before .passed .ensures) (t .ensures .0) (c .before .moved2 .given .1) refl (t .ensures .1) (t .kept .1 .1 .1 .1 .1 .1 .1 .1 .0) (t .kept .1 .1 .1 .1 .1 .1 .1 .1 .1 .0) (c .before .before .before .before .before .before .before .before .before .before .before .before .before .before .owed-behind .ensures _ (passed-open (c .before .before .before .before .before .before .before .before .before .before .before .before .before .before .before .before .before .before .before .before .before .before .before .before .before .args .source .now) _ _ (c .before .before .before .before .before .before .before .before .before .before .before .before .before .before .before .before .passed .ensures .0 (c .before .before .before .before .before .before .before .before .before .before .before .before .before .before .before .before .before .before .before .before .before .before .before .before .before .args .source .now))))
+loop-again c = let t = c .before .before .before .before .before .before .before .before .turn in turn-on (c .before .before .before .before .before .before .before .before .before .before .before .before .before .before .before .before .before .before .loop .inv) (c .before .before .before .before .before .before .before .before .before .before .before .before .before .before .before .before .before .loop-test .taken) (c .before .before .before .before .before .before .before .before .before .before .before .before .before .before .before .before .passed .ensures) (t .ensures .0) (c .before .moved2 .given .1) refl (t .ensures .1) (t .kept .1 .1 .1 .1 .1 .1 .1 .1 .1 .0) (t .kept .1 .1 .1 .1 .1 .1 .1 .1 .1 .1 .0) (c .before .before .before .before .before .before .before .before .before .before .before .before .before .before .owed-behind .ensures _ (passed-open (c .before .before .before .before .before .before .before .before .before .before .before .before .before .before .before .before .before .before .before .before .before .before .before .before .before .args .source .now) _ _ (c .before .before .before .before .before .before .before .before .before .before .before .before .before .before .before .before .passed .ensures .0 (c .before .before .before .before .before .before .before .before .before .before .before .before .before .before .before .before .before .before .before .before .before .before .before .before .before .args .source .now))))
 
 finish-requires : tie.Need-finish-requires Inv-loop μ-loop
 finish-requires c κs = let l = c .before .before .before .before .before .before .loop .inv in (l .deep, l .all, l .three, l .paged)
