@@ -5,6 +5,7 @@
 --     lost-..                           a surrogate that waits where the run ends
 --     run-..                            the words of a run
 --     unit-.., step-.., owed-..         a `u` word by the reading
+--     steps-few                         and that it says no more than it may
 -- Assumes nothing.
 use mathlib.Core.Path.{_≡_, refl, sym, ap, _∙_}
 use mathlib.Core.List.{List, [], _∷_, _++_, append-nil}
@@ -17,23 +18,26 @@ use lib.Dec.{eqb, ltb}
 use Rattle.answers.specs.declared.Refusal.{Refusal}
 use Rattle.readings.specs.declared.Reading.{Reading}
 use Rattle.readings.specs.Readings.{isStandard}
+use Rattle.readings.specs.declared.Reading.the-variants.{Plain, Paragraphs, Standard}
 use Rattle.rooms.specs.Streams.{Stream}
 use Rattle.utf8.specs.declared.Encoded.{Encoded}
 use Rattle.utf8.specs.Utf8.{written, encodedOf}
 use Rattle.utf8.proofs.Utf8.{encoded-length, encoded-bytes}
 use Rattle.tokens.specs.declared.Property.{Property}
 use Rattle.settings.specs.Fields.{Setting, styleOf}
+use Rattle.settings.specs.Fields as field
 use Rattle.units.specs.declared.Run.{Run}
 use Rattle.units.specs.declared.Gave.{Gave}
 use Rattle.units.specs.Units.{before, values, step, standardStep}
 use Rattle.machine.specs.Stack.{held}
 use Rattle.machine.specs.Machine.{Deed, parts, ended, textsOf, writtenAll, _▸▸_, spoken, said}
 use Rattle.machine.proofs.Stack.{held-top}
+use Rattle.machine.proofs.Few.{Few, step-few, standard-few}
 use Rattle.blocks.specs.declared.Page.{Page}
 use Rattle.blocks.specs.Pages.{Piece}
 use Rattle.blocks.specs.Laying.{Laying, on, off, addOf, laidOn, layAll}
 use Rattle.blocks.proofs.Laying.{lay-more, Placeless, laid-on-placeless}
-use Rattle.runs.specs.Runs.{rows, stepBy, owedBy, runWords, runOf, valueIf, laidAll}
+use Rattle.runs.specs.Runs.{rows, stepBy, owedBy, stepsBy, runWords, runOf, valueIf, laidAll}
 
 pub ne-pos : {d : ℕ} → (d ≡ 0 → ⊥) → 0 < d
 ne-pos h = omega arith
@@ -228,3 +232,10 @@ module _ (rd : Reading) (skip : ℕ) {s : Bool} (q : s ≡ isStandard rd) where
 
   pub owed-none : s && ltb skip 2147483648 ≡ false → 0 ≡ owedBy rd skip
   owed-none e = owed-is false e
+
+-- a `u` word says no more than it may
+pub steps-few : (rd : Reading) (r : List ℕ) (run : Run) (num : Property) → Few run (stepsBy rd .step r run num)
+unfolding stepBy
+steps-few Plain r run num = step-few (getD r field.skip 0) run num
+steps-few Paragraphs r run num = step-few (getD r field.skip 0) run num
+steps-few Standard r run num = standard-few run num
