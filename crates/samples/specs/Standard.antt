@@ -53,7 +53,7 @@ skipping =
     -- the apostrophe of 02, U+2019, and U+2014: the space is the word's, the question mark is passed over
     giving "{\\u8217?}" (226 ∷ 128 ∷ 153 ∷ [])
     ∷ giving "{\\u8212 ?}" (226 ∷ 128 ∷ 148 ∷ [])
-    -- a count of two, of none, and one below zero: both bytes, and none
+    -- a count of two passes over both; a count of 0, and one below it, over nothing
     ∷ giving "{\\uc2\\u8217??a}" (226 ∷ 128 ∷ 153 ∷ 97 ∷ [])
     ∷ giving "{\\uc0\\u8217?}" (226 ∷ 128 ∷ 153 ∷ 63 ∷ [])
     ∷ giving "{\\uc-1\\u8217?}" (226 ∷ 128 ∷ 153 ∷ 63 ∷ [])
@@ -112,6 +112,7 @@ styled =
     -- "Any non-zero number turns a flag on.": bold is 1 of the flags
     record { letter = "{\\b2 a}"; words = 0 ∷ 0 ∷ 12 ∷ 1 ∷ 0 ∷ 0 ∷ 0 ∷ 0 ∷ 0 ∷ 0 ∷ 0 ∷ 0 ∷ 0 ∷ 0 ∷ 0 ∷ 1 ∷ [] }
     ∷ record { letter = "{\\b-1 a}"; words = 0 ∷ 0 ∷ 12 ∷ 1 ∷ 0 ∷ 0 ∷ 0 ∷ 0 ∷ 0 ∷ 0 ∷ 0 ∷ 0 ∷ 0 ∷ 0 ∷ 0 ∷ 1 ∷ [] }
+    ∷ record { letter = "{\\b0 a}"; words = 0 ∷ 0 ∷ 12 ∷ 0 ∷ 0 ∷ 0 ∷ 0 ∷ 0 ∷ 0 ∷ 0 ∷ 0 ∷ 0 ∷ 0 ∷ 0 ∷ 0 ∷ 1 ∷ [] }
     ∷ record { letter = "{\\b\\b0 a}"; words = 0 ∷ 0 ∷ 12 ∷ 0 ∷ 0 ∷ 0 ∷ 0 ∷ 0 ∷ 0 ∷ 0 ∷ 0 ∷ 0 ∷ 0 ∷ 0 ∷ 0 ∷ 1 ∷ [] }
     -- 02, A5: "`li`, `ri` and `fi` set them .. in paragraph and standard reading"
     ∷ record { letter = "{\\li720 a}"; words = 0 ∷ 0 ∷ 12 ∷ 0 ∷ 0 ∷ 0 ∷ 0 ∷ 0 ∷ 0 ∷ 0 ∷ 0 ∷ 720 ∷ 0 ∷ 0 ∷ 0 ∷ 1 ∷ [] }
