@@ -3,6 +3,7 @@
 -- tokens and steps without places; Shows, of what pieces show; Walks, of the steps over masked pieces; Veils, of the steps over
 -- a veil; Steps, of what steps say; Names, of where font names stand; Trims and Groups, of letters with an ignored group in
 -- them.
+pub mod Cuttings
 pub mod Pieces
 pub mod Joins
 pub mod Bare

@@ -23,7 +23,7 @@ use Rattle.tokens.specs.declared.Property.{Property}
 use Rattle.tokens.specs.declared.Property.the-variants.{None, Value}
 use Rattle.tokens.specs.Tokens.{Shown, Token, token, sliceOf, shownIn, shownBy}
 use Rattle.tokens.specs.Tokens
-use Rattle.tokenize.proofs.Places.{Stands}
+use Rattle.controls.proofs.Places.{Stands}
 use Rattle.cutter.specs.Cutting.{tokenStream}
 use Rattle.cutter.proofs.Places.{Placed, stream-places}
 use Rattle.tokens.specs.Items.{part}

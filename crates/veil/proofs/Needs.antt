@@ -13,7 +13,8 @@ use Rattle.numbers.specs.Numbers.{hexDigit, hexPair, digitsFrom, digits, decima
 use Rattle.rooms.specs.Streams.{andThen, each, items, ended}
 use Rattle.rooms.specs.Rooms.{settled, tableLimit}
 use Rattle.slices.specs.Slices.{split, slices}
-use Rattle.tokenize.specs.Tokenize.{otherBy, mark, plain, hexValue, hexEscape, lineBreakAnd, shownWord, numbered, named, bareLength}
+use Rattle.tokenize.specs.Tokenize.{otherBy, mark, plain, hexValue, hexEscape, lineBreakAnd, named, bareLength}
+use Rattle.controls.specs.Controls.{shownWord, numbered}
 use Rattle.tokenize.specs.Tokenize.{wordTail, word, other, escaped, tokens}
 use Rattle.cutter.specs.Cutting.{located, last, allSlices, trimmed, tokenStream, cutAnswer}
 use Rattle.utf8.specs.Utf8.{utf8, written}

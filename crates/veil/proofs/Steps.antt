@@ -35,7 +35,7 @@ use Rattle.readings.specs.declared.Reading.{Reading}
 use Rattle.blocks.specs.Pages.{Piece, blocks, textOf, blockWords, textCapacity, Last, none, last, starts, roomy}
 use Rattle.machine.specs.Machine.{at, start}
 use Rattle.machine.proofs.Places.{unplaced, unplacedAll, bareRefusal, bare as unstopped, start-unplaced}
-use Rattle.runs.specs.Runs.{rows}
+use Rattle.runs.specs.Runs.{rows, stepsBy}
 use Rattle.deeds.specs.Deeds.{tokenDeed}
 use Rattle.body.specs.Body.{actOf, acts, body}
 use Rattle.parser.specs.Parsing.{begun, Sizes, Letter, letterFrom, placed, bodied, headed, walked}
@@ -126,7 +126,7 @@ acts-bare rd (s ∷ ss) = rw (act-bare rd s, acts-bare rd ss)
 -- the body says the same, and where it stops it says the same refusal
 body-bare : (rd : Reading) (ss : List Step) → body rd (bareSteps ss) ≡ unstopped (body rd ss)
 unfolding body
-body-bare rd ss = ap (start rows) (acts-bare rd ss) ∙ start-unplaced rows (acts rd ss)
+body-bare rd ss = ap (start rows (stepsBy rd)) (acts-bare rd ss) ∙ start-unplaced rows (stepsBy rd) (acts rd ss)
 
 items-bare : (s : Stream Refusal Piece) → items (unstopped s) ≡ items s
 unfolding items each
