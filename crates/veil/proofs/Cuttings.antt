@@ -1,8 +1,10 @@
 -- A cutting, as far as the veil needs it: where a slice starts, by what is known of the bytes before it. The slices of plain reading and those
 -- of standard reading are two; what is said of pieces is said of any.
---     Cutting             a cutting, with the laws that pieces rest on
---     crate, standard     the two
---     Inner, all-inner    the second byte of a slice starts none
+--     Cutting                    a cutting, with the laws that pieces rest on
+--     mark-plain, plain-mark     a bracket or a line feed is no backslash, and is special
+--     behind-again, mark-behind  in standard reading, what is forgotten where a slice starts, and behind such a byte
+--     crate, standard            the two
+--     Inner, all-inner           the second byte of a slice starts none
 -- Assumes nothing.
 use mathlib.Core.Path.{_≡_, refl, sym, ap, subst, _∙_}
 use mathlib.Core.List.{List, [], _∷_}
@@ -11,9 +13,9 @@ use Prim.Native.Nat.{ℕ}
 use lib.Dec.{eqb}
 use borrow.Author.Tests.{eqb-true}
 use Rattle.bytes.specs.Bytes.{isSpecial}
-use Rattle.bytes.proofs.Runs.{or-left, or-right}
+use Rattle.bytes.proofs.Runs.{or-left}
 use Rattle.tokenize.specs.Tokenize.{isMark}
-use Rattle.slices.specs.Slices.{startsSlice, onto, split, slices, Behind, anything, escape, return, isStart, startsStandard, behind, splitStandard, standardSlices}
+use Rattle.slices.specs.Slices.{startsSlice, onto, split, slices, Behind, anything, escape, return, startsStandard, behind, splitStandard, standardSlices}
 
 -- Q is what is known of the bytes before. `again`: where a slice starts, it is forgotten; `marked`: so it is behind a bracket or a line feed
 -- that starts a slice; `stops`: and another such byte starts the next one there

@@ -4,7 +4,7 @@
 -- Assumes nothing.
 use mathlib.Core.Path.{_≡_, refl, sym, ap, _∙_}
 use mathlib.Core.List.{List, [], _∷_, _++_, append-assoc}
-use mathlib.Core.Bool.{Bool, true, not}
+use mathlib.Core.Bool.{true, not}
 use Prim.Native.Nat.{ℕ}
 use lib.Dec.{eqb}
 use Rattle.readings.specs.declared.Reading.{Reading}
@@ -14,7 +14,7 @@ use Rattle.slices.proofs.Slices.{lastByte, slices-append}
 use Rattle.slices.proofs.Standard.{behindAll, standard-append}
 use Rattle.slices.proofs.Feeds.{startsBy}
 use Rattle.tokenize.specs.Tokenize.{isMark}
-use Rattle.veil.specs.Veil.{part, parts, sliced, pieces, endsBare, endsFree, ends}
+use Rattle.veil.specs.Veil.{parts, sliced, pieces, endsBare, endsFree, ends}
 use Rattle.veil.proofs.Cuttings.{crate, standard}
 use Rattle.veil.proofs.Pieces.{pieces-mark}
 

@@ -94,6 +94,7 @@ cases =
     ∷ case "{a{\\*{x}b}" (text "a")
     ∷ case "{a{\\*x\\}b}" (text "a")
     ∷ case "{a{\\*{\\\\}b}" (text "a")
+    ∷ case "{a{\\*x\\\\}b}" (text "a")
     -- opened by a bracket: one that is text
     ∷ case "{a\\{\\*x}b}" (refusal 13)
     -- reached by the walk: in a font table a `\*` group is read
@@ -162,7 +163,7 @@ Heards rd (x ∷ xs) =
 needs : Heards Plain cases
 unfolding cases case inRooms text bytes refusal font said letterOf shownBy bodied placed roomy bodyOf acts machine left owedBehind runStep owedBy moved saidOf spoken gave settle writtenAll _▸▸_ blocks blocksFrom textOf walkFrom extent aimFrom tablesFrom fonts fontsFrom fontToken fontWord stored inserted hasKey fontNamed colours coloursFrom colourToken colourWordOf tableLimit values step metAny met taken unitOf utf8 written effect painterWord paragraphWord characterWord endingWord indentWord fitted spacing resets styleOf flagsOf cutAnswer tokenStream trimmed allSlices last located settled ended items each andThen split slices lead body any tokens escaped other word wordTail bareLength named numbered shownWord lineBreakAnd hexEscape hexValue plain mark wordNumber placeIn sameBytes hexDigit hexPair digitsFrom digits decimal namesIn bytesAt
 needs =
-    (refl, (refl, (refl, (refl, (refl, (refl, (refl, (refl, (refl, (refl, (refl, (refl, (refl, (refl, (refl, (refl, (refl, (refl, (refl, (refl, (refl, tt)))))))))))))))))))))
+    (refl, (refl, (refl, (refl, (refl, (refl, (refl, (refl, (refl, (refl, (refl, (refl, (refl, (refl, (refl, (refl, (refl, (refl, (refl, (refl, (refl, (refl, tt))))))))))))))))))))))
 
 standard-needs : Heards Standard standardCases
 unfolding standardCases case text bytes refusal said letterOf shownBy bodied placed roomy bodyOf acts machine left owedBehind runStep owedBy moved saidOf spoken gave settle writtenAll _▸▸_ blocks blocksFrom textOf walkFrom extent aimFrom tablesFrom tableLimit values standardStep takenAny taken unitOf utf8 written effect symbolEffect windows1252 painterWord paragraphWord characterWord endingWord indentWord fitted spacing resets styleOf flagsOf cutAnswer tokenStream trimmed every closedBehind closing located settled ended items each andThen splitStandard standardSlices lead body any standardTokens standardEscaped standardWord standardNamed standardHex standardValue standardBreak breakLength numberLength leads tail numbered shownWord wordNumber placeIn sameBytes hexDigit hexPair digitsFrom digits decimal namesIn bytesAt

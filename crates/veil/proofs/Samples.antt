@@ -9,7 +9,7 @@ use Rattle.bytes.specs.Bytes.{lead, body, any}
 use Rattle.bytes.specs.Texts.{bytesOf}
 use Rattle.names.specs.Names.{sameBytes, placeIn, wordNumber}
 use Rattle.numbers.specs.Numbers.{hexDigit, hexPair, digitsFrom, digits, decimal}
-use Rattle.rooms.specs.Streams.{andThen, each, answer, items, ended}
+use Rattle.rooms.specs.Streams.{andThen, each, items, ended}
 use Rattle.rooms.specs.Rooms.{settled}
 use Rattle.slices.specs.Slices.{split, slices, withFeeds, splitStandard, standardSlices}
 use Rattle.tokenize.specs.Tokenize.{otherBy, mark, plain, hexValue, hexEscape, lineBreakAnd, named, bareLength}
@@ -106,7 +106,7 @@ base-cut Plain = refl
 base-cut Paragraphs = refl
 base-cut Standard = refl
 
--- they say what it says, whatever the reading and the other rooms
+-- they say what it says, whatever the other rooms
 abbrev Same : Reading → Sizes → List Sample → Type 0
 Same rd z [] = Unit {0}
 Same rd z (s ∷ ss) = (said rd (bytesOf (s .letter)) z ≡ said rd base z) × Same rd z ss
@@ -142,6 +142,10 @@ late-inside : Ignored Plain (bytesOf " \n{{\\fonttbl{\\f0 A;}}{\\*x}a") (bytesOf
 unfolding behind own endsBare pieces parts part shown aimFrom cutAnswer tokenStream trimmed allSlices last located settled ended items each andThen split slices lead body any tokens escaped otherBytes word wordTail bareLength named numbered shownWord lineBreakAnd hexEscape hexValue plain mark wordNumber placeIn sameBytes hexDigit hexPair digitsFrom digits decimal
 late-inside = record { opened = refl; closed = refl; balanced = refl; reached = refl; hidden = refl }
 
+two-letters : Alike Plain (bytesOf "{a{\\*x}b}") (bytesOf "{a{\\*{y}}b}")
+two-letters =
+    other (bytesOf "{a") (bytesOf "\\*x") (bytesOf "\\*{y}") (bytesOf "b}") first-inside second-inside (same (bytesOf "{a{\\*{y}}b}"))
+
 -- in standard reading an escaped backslash may end either side: `{a\\` before the group, and `\*x\\` in it
 escaped-inside : Ignored Standard (bytesOf "{a\\\\") (bytesOf "\\*x\\\\")
 unfolding behind own endsFree pieces parts part shown aimFrom items andThen lead body any splitStandard standardSlices standardTokens standardEscaped standardWord standardNamed standardHex standardValue standardBreak breakLength numberLength leads tail numbered shownWord wordNumber placeIn sameBytes
@@ -154,7 +158,3 @@ nested-inside = record { opened = refl; closed = refl; balanced = refl; reached 
 standard-letters : Alike Standard (bytesOf "{a\\\\{\\*x\\\\}b}") (bytesOf "{a\\\\{\\*{y}}b}")
 standard-letters =
     other (bytesOf "{a\\\\") (bytesOf "\\*x\\\\") (bytesOf "\\*{y}") (bytesOf "b}") escaped-inside nested-inside (same (bytesOf "{a\\\\{\\*{y}}b}"))
-
-two-letters : Alike Plain (bytesOf "{a{\\*x}b}") (bytesOf "{a{\\*{y}}b}")
-two-letters =
-    other (bytesOf "{a") (bytesOf "\\*x") (bytesOf "\\*{y}") (bytesOf "b}") first-inside second-inside (same (bytesOf "{a{\\*{y}}b}"))

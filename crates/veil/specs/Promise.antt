@@ -28,6 +28,10 @@ pub record Cut (rd : Reading) (a b : List ℕ) (z y : Sizes) : Type 0 where
 -- - not passed over: `{a{\b x}b}` has the text axb, `{a{x\*}b}` is refused by 13. A line break may stand before the mark.
 -- And the group itself stays: `{\u8212 {\*x}\u65 }` has two units, of `{\u8212 \u65 }` the second is skipped
 --
+-- Brackets, groups and marks are those of the reading. Standard reading cuts by rules of its own (02, A1): `{a{\*x\\}b}` is closed there, and has
+-- the text ab, while by 01 its bracket belongs to the text behind the backslash, and the text is a; and `{a{ \*x}b}` is refused there by 13, as
+-- white space is text, while by 01 it may stand before the mark
+--
 -- Of a refusal its number is the same, "and no longer places" (02, A4): what is hidden moves what comes behind it. `{a{\*x}\fs-1}` is
 -- refused by 12 at byte 7, `{a{\*xyz}\fs-1}` by 12 at byte 9
 abbrev pub Promise : Type 0
