@@ -318,17 +318,17 @@ standard-mark p b s m = rw (mark-plain b m) (go (eqb b 123) (eqb b 125) (eqb b 1
     go false false true m = refl
     go false false false m = absurd (false≢true m)
 
-plain-mark : (rd : Reading) (p b : ℕ) (s : List ℕ) → isMark b ≡ true
+crate-mark : (rd : Reading) (p b : ℕ) (s : List ℕ) → isMark b ≡ true
     → items (tokens rd p (b ∷ s)) ≡ items (tokens rd 0 (b ∷ [])) ++ items (tokens rd (p + 1) s)
-plain-mark rd p b s m =
+crate-mark rd p b s m =
     let alone : items (tokens rd 0 (b ∷ [])) ≡ items (mark b) = tokens-mark rd 0 b [] m ∙ (unfold tokens items in append-nil (items (mark b))) in
     tokens-mark rd p b s m ∙ ap (λ (l : List Shown). l ++ items (tokens rd (p + 1) s)) (sym alone)
 
 -- a bracket or a line feed, and what stands behind it in its slice
 mark-shows : (rd : Reading) (p b : ℕ) (s : List ℕ) → isMark b ≡ true → InnerBy rd (b ∷ s)
     → items (tokensBy rd p (b ∷ s)) ≡ items (tokensBy rd 0 (b ∷ [])) ++ items (tokensBy rd (p + 1) s)
-mark-shows Plain p b s m i = plain-mark Plain p b s m
-mark-shows Paragraphs p b s m i = plain-mark Paragraphs p b s m
+mark-shows Plain p b s m i = crate-mark Plain p b s m
+mark-shows Paragraphs p b s m i = crate-mark Paragraphs p b s m
 mark-shows Standard p b s m i = standard-mark p b s m ∙ ap (λ (x : Stream Why Shown). items (standardTokens 0 (b ∷ [])) ++ items x) (sym (tail-tokens (p + 1) b s m i))
 
 none-shows : (rd : Reading) (p : ℕ) → bareAll (items (tokensBy rd p [])) ≡ bareAll []
