@@ -86,7 +86,7 @@ after-turned p (off r) h m run more = lay-off r (onward p m (more (stackOf m) ru
 from-one : (rd : Reading) (st : List (List ℕ)) (run : Run) (o : ℕ) (t : Token) (ts : List Token) {q : ℕ} {d : Deed Setting} {g : Gave} {k : ℕ}
     → at q d ≡ actOf rd (stepOf t ts) → g ≡ gave (unitOf (stepsBy rd) st) run (rest-of o d) → k ≡ owedBehind (owesOf (stepsBy rd) st) o d
     → from rd st run o (t ∷ ts) ≡ said rows st g (rest-of o d) ▸▸ onward q (moved freshRow st (moveOf rows (rest-of o d)))
-        (from rd (stackOf (moved freshRow st (moveOf rows (rest-of o d)))) (g .run) k (drop (passedBy (shownIn t) (shownBy ts)) ts))
+    (from rd (stackOf (moved freshRow st (moveOf rows (rest-of o d)))) (g .run) k (drop (passedBy (shownIn t) (shownBy ts)) ts))
 unfolding machine acts
 from-one rd st run o t ts e f w = ap (λ (ss : List Step). machine rows (stepsBy rd) st run o (acts rd ss)) (walk-one t ts) ∙ rw (← e, ← f, ← w) refl
 

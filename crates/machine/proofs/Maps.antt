@@ -248,8 +248,18 @@ module _ {R S E R′ S′ E′ : Type 0} {a : States R S E} {b : States R′ S�
       let x : Fate (List R) = moved (a .fresh) st (moveOf a d′) in
       let m : ℕ = owedBehind (owesOf sa st) n d in
       front-map e (said a st v d′) (onward p x (machine a sa (stackOf x) (v .run) m acts))
-      ∙ rw (onward-map h e p x, machine-map (stackOf x) (v .run) m acts, stack-map h x, moved-map c st d′, said-map c st v d′, met-map f st run d′,
-      gave-map g (stepOf sb (map h st)) run d′, owes-map f st, owed-map g (owesOf sb (map h st)) n d, left-map g n d)
+      ∙ rw (
+        onward-map h e p x,
+        machine-map (stackOf x) (v .run) m acts,
+        stack-map h x,
+        moved-map c st d′,
+        said-map c st v d′,
+        met-map f st run d′,
+        gave-map g (stepOf sb (map h st)) run d′,
+        owes-map f st,
+        owed-map g (owesOf sb (map h st)) n d,
+        left-map g n d,
+      )
 
   pub start-map : (acts : List (Act S)) → mapSaid e (start a sa acts) ≡ start b sb (map (mapAct g) acts)
   start-map acts = machine-map (a .fresh ∷ []) before 0 acts ∙ ap (λ (x : R′). machine b sb (x ∷ []) before 0 (map (mapAct g) acts)) (c .freshes)

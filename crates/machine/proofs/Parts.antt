@@ -70,10 +70,10 @@ module _ {R S E : Type 0} (states : States R S E) (steps : Steps R) where
   -- the law below, behind a first token that says `now`
   append-behind : (run : Run) (n : ℕ) (acts more : List (Act S))
       → ((st : List R) → machine states steps st run n (acts ++ more)
-          ≡ sayings st run n acts ▸▸ goesOn (refusedAt st run n acts) (movedAll (states .fresh) st (moves st run n acts)) (runBehind st run n acts) (owedAfter st run n acts) more)
+      ≡ sayings st run n acts ▸▸ goesOn (refusedAt st run n acts) (movedAll (states .fresh) st (moves st run n acts)) (runBehind st run n acts) (owedAfter st run n acts) more)
       → (now : List E) (p : ℕ) (x : Fate (List R)) → now ▸▸ goesOn p x run n (acts ++ more)
       ≡ (now ++ saidOn x (sayings (stackOf x) run n acts)) ▸▸ goesOn (placeOn p x (refusedAt (stackOf x) run n acts)) (movedFrom (states .fresh) x (moves (stackOf x) run n acts))
-          (runBehind (stackOf x) run n acts) (owedAfter (stackOf x) run n acts) more
+      (runBehind (stackOf x) run n acts) (owedAfter (stackOf x) run n acts) more
   append-behind run n acts more law now p (becomes st) = ap (λ (s : Stream Refusal E). now ▸▸ s) (law st) ∙ sym (front-append now (sayings st run n acts) _)
   append-behind run n acts more law now p (fails why) = rw (append-nil, refused-all (states .fresh) why (moves [] run n acts))
 

@@ -55,7 +55,7 @@ enum-told-3 : tie.Need-enum-told-3
 enum-told-3 c = search needs
 
 token-requires : tie.Need-token-requires
-token-requires c κs = 
+token-requires c κs =
     let s = c .before .before .before .before .before .before .before .before .before .before .before .before .before .before .before .before .before .before .before .before .before .before .before .before .before in
     let e = c .before .before .before .before .before .before .before .before .before .before .end-run in
     (s .pre .0, s .pre .1, rw (e .kept .1 .1 .1 .1 .0, e .kept .1 .1 .1 .1 .1 .0) (e .ensures .1 .1 .1), s .pre .3, (sym (c .before .before .before .before .before .before .before .before .before .before .before .before .before .before .before .before .before .before .before .before .passed-over .ensures (s .args .reading) _ (s .pre .5)) ∙ c .before .before .before .before .before .before .before .before .before .before .before .before .before .before .before .before .before .before .before .if1 .left))
@@ -67,7 +67,7 @@ same-length-4 : tie.Need-same-length-4
 same-length-4 c = search needs
 
 returns-3 : tie.Need-returns-3
-returns-3 c = 
+returns-3 c =
     let s = c .before .before .before .before .before .before .before .before .before .before .before .before .before .before .before .before .before .before .before .before .before in
     let e = c .before .before .before .before .before .before .end-run in
     (turns-full _ _ _ _ (runOf (s .args .run .now)) _ _ (gave-ended _ _ _ _ _ _ _ (c .before .before .before .before .before .before .before .before .before .before .before .before .if2 .left) (sym (c .before .before .before .before .before .before .before .before .before .before .before .before .before .before .before .before .passed-over .ensures (s .args .reading) _ (s .pre .5)) ∙ c .before .before .before .before .before .before .before .before .before .before .before .before .before .before .before .if1 .left)) BlockRoom (rw (c .enum-told .given .1) at (e .ensures .0)) (s .pre .1) _ (e .ensures .1 .1 .1), e .ensures .1 .1 .0)
@@ -79,7 +79,7 @@ same-length-6 : tie.Need-same-length-6
 same-length-6 c = search needs
 
 returns-4 : tie.Need-returns-4
-returns-4 c = 
+returns-4 c =
     let s = c .before .before .before .before .before .before .before .before .before .before .before .before .before .before .before .before .before .before .before .before .before in
     let e = c .before .before .before .before .before .before .end-run in
     (turns-full _ _ _ _ (runOf (s .args .run .now)) _ _ (gave-ended _ _ _ _ _ _ _ (c .before .before .before .before .before .before .before .before .before .before .before .before .if2 .left) (sym (c .before .before .before .before .before .before .before .before .before .before .before .before .before .before .before .before .passed-over .ensures (s .args .reading) _ (s .pre .5)) ∙ c .before .before .before .before .before .before .before .before .before .before .before .before .before .before .before .if1 .left)) TextRoom (rw (c .enum-told2 .given .1) at (e .ensures .0)) (s .pre .1) _ (e .ensures .1 .1 .1), e .ensures .1 .1 .0)
@@ -91,7 +91,7 @@ same-length-8 : tie.Need-same-length-8
 same-length-8 c = search needs
 
 returns-5 : tie.Need-returns-5
-returns-5 c = 
+returns-5 c =
     let s = c .before .before .before .before .before .before .before .before .before .before .before .before .before .before .before .before .before .before .before .before .before .before .before .before .before .before .before .before .before .before in
     let e = c .before .before .before .before .before .before .before .before .before .before .before .before .before .before .before .end-run in
     (turns-behind _ _ _ _ (runOf (s .args .run .now)) _ _ (gave-ended _ _ _ _ _ _ _ (c .before .before .before .before .before .before .before .before .before .before .before .before .before .before .before .before .before .before .before .before .before .if2 .left) (sym (c .before .before .before .before .before .before .before .before .before .before .before .before .before .before .before .before .before .before .before .before .before .before .before .before .before .passed-over .ensures (s .args .reading) _ (s .pre .5)) ∙ c .before .before .before .before .before .before .before .before .before .before .before .before .before .before .before .before .before .before .before .before .before .before .before .before .if1 .left)) _ _ _ (rw (c .before .before .before .before .before .before .before .before .before .enum-told3 .given .1) at (e .ensures .0)) (e .ensures .1 .0) (rw (← e .kept .1 .1 .1 .1 .0, ← e .kept .1 .1 .1 .1 .1 .0) (c .before .before .before .before .token .ensures)), e .ensures .1 .1 .0)
