@@ -708,7 +708,8 @@ static const struct {
     {{"{\\uc0\\u65\\u66?\\uc-1\\u67?}", 9, 0, 0, 1, "AB?C?", ""}, {0, 0}},
     {{"{\\uc\\u65?}", 5, 0, 0, 1, "A?", ""}, {0, 0}},
     /* A brace ends the skipping, that of a hidden group too. */
-    {{"{\\u8217{?}}", 6, 0, 0, 1, "\xE2\x80\x99?", ""}, {0, 0}},
+    {{"{\\uc2\\u8217{?b}}", 7, 0, 0, 1, "\xE2\x80\x99?b", ""}, {0, 0}},
+    {{"{a{\\uc2\\u65}bc}", 8, 0, 0, 1, "aAbc", ""}, {0, 0}},
     {{"{\\u65{\\*\\x y}?}", 9, 0, 0, 1, "A?", ""}, {0, 0}},
     /* Units pair with only skipped characters between them, and what is read parts them. */
     {{"{\\u-10179?\\u-8704?}", 6, 0, 0, 1, "\xF0\x9F\x98\x80", ""}, {0, 0}},
