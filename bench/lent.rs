@@ -26,6 +26,23 @@ impl Lent {
         library::read_plain(letter, Slices { words, text: &mut self.text })
     }
 
+    /// Our standard reading.
+    pub fn read_standard(&mut self, letter: &[u8]) -> Numbers {
+        let [tokens, fonts, colours, blocks] = &mut self.words;
+        let words = [tokens, fonts, colours, blocks].map(Vec::as_mut_slice);
+        library::read_standard(letter, Slices { words, text: &mut self.text })
+    }
+
+    /// Rooms of just enough for the standard reading of a letter; none if it is refused.
+    pub fn for_standard(letter: &[u8]) -> Option<Self> {
+        let bytes = letter.len();
+        let ample = [bytes, 256, 256, bytes, bytes * 3 / 2];
+        let [0, 0, counts @ ..] = Lent::new(&ample).read_standard(letter) else {
+            return None;
+        };
+        Some(Lent::new(&counts.map(|count| count as usize)))
+    }
+
     /// Whether our reading of the letter is the crate's, word by word: all that the crate tells.
     pub fn reads_as(&mut self, letter: &[u8], document: &Document) -> bool {
         let numbers = self.read(letter).map(|number| number as usize);

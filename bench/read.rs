@@ -13,6 +13,7 @@ use std::hint::black_box;
 pub const CRATE: usize = 0;
 pub const NEEDED: usize = 1;
 pub const EXTRACTORS: usize = 2;
+pub const STANDARD: usize = 3;
 /// A letter on which a call takes longer than this, in nanoseconds, is timed in fewer rounds.
 const SLOW: f64 = 2e7;
 const SLOW_ROUNDS: usize = 9;
@@ -28,6 +29,8 @@ rounds. \"times\" is how many times the crate's speed, the median of the rounds'
 - enough: `elduvarn_read_plain` in rooms of just enough records and bytes for the letter
 - extractor's: the same in rooms of 1,024 tokens, 256 fonts, 256 colours, 128 blocks and 8,192 bytes
   of text, 53,248 bytes in all; a dash where the letter needs more
+- standard: `elduvarn_read_standard` in rooms of just enough for what it reads; a dash where it
+  refuses the letter
 
 Rooms are allocated once and hold the answer of the call before. They are not cleared first: each
 call sets what it leaves unused to zero, and that is part of its time.
@@ -38,7 +41,8 @@ pub struct Row {
     pub letter: Letter,
     pub document: Document,
     rooms: [Option<Lent>; 2],
-    pub times: Times<3>,
+    standard: Option<Lent>,
+    pub times: Times<4>,
 }
 
 /// Every letter after so many rounds; none, and a line that says so, if the sides differ on one.
@@ -53,7 +57,8 @@ pub fn rows(rounds: usize) -> Option<Vec<Row>> {
 pub fn print(rows: &[Row]) {
     println!("\n{HEADING}");
     let heads =
-        ["letter", "bytes", "tokens", "blocks", "crate", "enough", "times", "extractor's", "times"];
+        ["letter", "bytes", "tokens", "blocks", "crate", "enough", "times", "extractor's", "times", "standard",
+            "times"];
     let mut table = Table::new(&heads);
     rows.iter().for_each(|row| table.row(row.cells()));
     table.print();
@@ -64,7 +69,9 @@ impl Row {
         let Whole::Read(document) = wrapping::read(letter.text(), false) else {
             panic!("the crate refuses {}", letter.kind);
         };
-        let mut row = Row { rooms: [None, None], letter, document, times: Times::new() };
+        let standard = Lent::for_standard(&letter.bytes);
+        let times = Times::new();
+        let mut row = Row { rooms: [None, None], standard, letter, document, times };
         row.rooms = row.sizes().map(|sizes| Some(Lent::new(&sizes?)));
         let Row { rooms, letter, document, .. } = &mut row;
         if !rooms.iter_mut().flatten().all(|rooms| rooms.reads_as(&letter.bytes, document)) {
@@ -91,10 +98,13 @@ impl Row {
     }
 
     fn round(&mut self) {
-        let Row { letter, rooms, times, .. } = self;
+        let Row { letter, rooms, standard, times, .. } = self;
         let (letter, text) = (letter.bytes.as_slice(), letter.text());
         times.round(|side| match side {
             CRATE => time(|| _ = black_box(wrapping::scan_and_parse(black_box(text)))),
+            STANDARD => standard.as_mut().map_or(f64::NAN, |room| {
+                time(|| _ = black_box(room.read_standard(black_box(letter))))
+            }),
             _ => rooms[side - 1]
                 .as_mut()
                 .map_or(f64::NAN, |room| time(|| _ = black_box(room.read(black_box(letter))))),
@@ -115,6 +125,8 @@ impl Row {
             times(NEEDED),
             per_byte(EXTRACTORS),
             times(EXTRACTORS),
+            per_byte(STANDARD),
+            times(STANDARD),
         ]
     }
 }

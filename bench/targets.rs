@@ -3,7 +3,7 @@
 use crate::growth::Growth;
 use crate::letters::{Size, LINE_BREAKS, MAIL};
 use crate::processes::Processes;
-use crate::read::{Row, CRATE, EXTRACTORS, NEEDED};
+use crate::read::{Row, CRATE, EXTRACTORS, NEEDED, STANDARD};
 use crate::stored;
 use crate::table::{figure, Table};
 
@@ -35,6 +35,8 @@ impl Targets {
         self.at_least(what, ENOUGH, times(MAIL, Size::Short, NEEDED));
         let what = format!("mail of 2 KB, extractor's rooms: at least {ORDINARY} times the crate");
         self.at_least(what, ORDINARY, times(MAIL, Size::Short, EXTRACTORS));
+        let what = format!("mail of 2 KB, standard reading: at least {ORDINARY} times the crate");
+        self.at_least(what, ORDINARY, times(MAIL, Size::Short, STANDARD));
         let what = format!("60,000 bytes of line breaks: at least {WORST} times the crate");
         self.at_least(what, WORST, times(LINE_BREAKS, Size::Long, NEEDED));
         let growths = growths.iter().map(|growth| (growth.ours(), growth.kind()));

@@ -31,7 +31,8 @@ enum elduvarn_refusal {
     ELDUVARN_HEX_SHORT = 3,          /* \' with fewer than two bytes left in its slice */
     ELDUVARN_HEX_BAD = 4,            /* those two bytes are no number */
     ELDUVARN_NUMBER_BAD = 5,         /* a word's number is no 32-bit signed decimal */
-    ELDUVARN_LAST_SLICE = 6,         /* the last slice is not } alone */
+    ELDUVARN_LAST_SLICE = 6,         /* the last slice is not } alone; in standard reading: the last
+                                        token is no closing bracket */
     ELDUVARN_TOKEN_ROOM = 7,         /* more tokens than the room holds */
     /* by the reader */
     ELDUVARN_NO_TOKENS = 8,          /* the source is blank */
@@ -40,7 +41,7 @@ enum elduvarn_refusal {
     ELDUVARN_FONT_NUMBER = 11,       /* \f without a number in a font table */
     ELDUVARN_NUMBER_FIELD = 12,      /* a number does not fit its field */
     ELDUVARN_IGNORABLE_IN_BODY = 13, /* \* in the body */
-    ELDUVARN_NO_STATE = 14,          /* a bracket closed, a word or text with no state left */
+    ELDUVARN_NO_STATE = 14,          /* a bracket closed, a word, symbol or text with no state left */
     ELDUVARN_LINE_SPACING = 15,      /* \sl-2147483648 */
     ELDUVARN_TOO_DEEP = 16,          /* an opening bracket with 64 states held */
     ELDUVARN_FONT_ROOM = 17,         /* a font beyond 256 or the room */
@@ -63,14 +64,23 @@ enum elduvarn_refusal {
  *
  * A slice starts where the letter does, and at each {, }, \ and line feed that has no \ before it;
  * by paragraphs, at no line feed that is directly behind the \ and carriage return of a line break.
+ * In standard reading one starts at each {, }, \, carriage return and line feed, but not right
+ * behind the \ that starts a slice, nor at a line feed right behind such a \ and a carriage return.
  * So {\f-1} is refused by 12 at 1; and since the text behind a bracket belongs to the bracket's
- * slice, {}}b} is refused by 14 at 2. */
+ * slice, {}}b} is refused by 14 at 2.
+ *
+ * In standard reading the whole letter is cut before 6 is told: 3 to 5 come first, wherever they
+ * stand. In the other two the last slice is not cut. */
 
 /* Words of a record.
  *
- * Token: kind (0 text, 1 open, 2 close, 3 line break, 4 ignorable, 5 word), word number, 1 if a
- * number is present, that number modulo 2^32, source place and length (of a text or an unknown
- * word), source place and length of the slice that the token was cut from.
+ * Token: kind (0 text, 1 open, 2 close, 3 line break, 4 ignorable, 5 word, 6 symbol), word number,
+ * 1 if a number is present, that number modulo 2^32, source place and length (of a text or an
+ * unknown word), source place and length of the slice that the token was cut from.
+ * Kind 6 is of standard reading alone: the byte behind the backslash stands in place of the word
+ * number. \'hh is byte 39 with a number, the byte that hh says; no other symbol has a number. A
+ * backslash that ends the source is symbol 0: no room ever holds it, as such a letter is refused by
+ * 6, or by 3 to 5 before it.
  * Font: key, source place and length of the name. Colour: red * 65536 + green * 256 + blue.
  * Block, each word a signed one modulo 2^32: colour, font, size, flags (1 bold, 2 italic,
  * 4 underline, 8 super, 16 sub, 32 small capitals, 64 strike), alignment (0 left, 1 right,
@@ -83,20 +93,27 @@ enum {
     ELDUVARN_BLOCK_WORDS = 16
 };
 
-/* No longer source is read, and no more fonts or colours. */
-enum { ELDUVARN_MOST_SOURCE = 65536, ELDUVARN_MOST_FONTS = 256, ELDUVARN_MOST_COLOURS = 256 };
+/* No longer source is read, no more fonts or colours; and no letter has more bytes of text. */
+enum {
+    ELDUVARN_MOST_SOURCE = 65536,
+    ELDUVARN_MOST_FONTS = 256,
+    ELDUVARN_MOST_COLOURS = 256,
+    ELDUVARN_MOST_TEXT = 98304
+};
 
-/* For which reading a letter is cut. They differ where a slice starts with \ and a carriage return:
- * by paragraphs that is a line break, a line feed directly behind belongs to it, and the text that
- * follows is kept; plainly it is nothing, and the rest of the slice is lost. Any other number is
- * plain. */
-enum elduvarn_reading { ELDUVARN_PLAIN = 0, ELDUVARN_PARAGRAPHS = 1 };
+/* For which reading a letter is cut. Plain and paragraph reading differ where a slice starts with \
+ * and a carriage return: by paragraphs that is a line break, a line feed directly behind belongs to
+ * it, and the text that follows is kept; plainly it is nothing, and the rest of the slice is lost.
+ * Standard reading cuts by rules of its own, those of RTF 1.9.1: a word is letters, a number or
+ * none, and one space or none; all that follows it is text; symbols and hex escapes are tokens of
+ * kind 6; raw carriage returns and line feeds vanish. Any other number is plain. */
+enum elduvarn_reading { ELDUVARN_PLAIN = 0, ELDUVARN_PARAGRAPHS = 1, ELDUVARN_STANDARD = 2 };
 
 struct elduvarn_cut_answer {
     uint32_t refusal, place, tokens;
 };
 
-/* Cuts a letter into tokens. Refusals 1 to 7. */
+/* Cuts a letter into tokens. Refusals 1 to 7. A letter of n bytes has at most n tokens. */
 struct elduvarn_cut_answer elduvarn_cut(const uint8_t *source, size_t source_len, uint32_t reading,
                                         uint32_t *tokens, size_t tokens_len);
 
@@ -121,6 +138,21 @@ struct elduvarn_read_answer elduvarn_read_paragraphs(const uint8_t *source, size
                                                      uint32_t *colours, size_t colours_len,
                                                      uint32_t *blocks, size_t blocks_len,
                                                      uint8_t *text, size_t text_len);
+
+/* The same by the RTF 1.9.1 specification: the letter is cut for standard reading; behind each \u
+ * the next characters are passed over, as many as \uc says; any number but 0 turns a flag on; \~,
+ * \_ and \- are U+00A0, U+2011 and U+00AD; hex escapes are Windows-1252, and U+FFFD where it has
+ * no character; \par adds a line feed, and indents are set. What it leaves out of RTF 1.9.1 is in
+ * docs/DIFFERENCES.md.
+ *
+ * The text may be longer than the letter, as \_ gives three bytes for two: a letter of n bytes has
+ * at most 3 * n / 2 bytes of text. ELDUVARN_MOST_TEXT bytes hold that of any letter. */
+struct elduvarn_read_answer elduvarn_read_standard(const uint8_t *source, size_t source_len,
+                                                   uint32_t *tokens, size_t tokens_len,
+                                                   uint32_t *fonts, size_t fonts_len,
+                                                   uint32_t *colours, size_t colours_len,
+                                                   uint32_t *blocks, size_t blocks_len,
+                                                   uint8_t *text, size_t text_len);
 
 /* The refusal of a stored list, as if its rooms were ample: 0, or 20 to 24; 20 only where its text
  * passes 2,147,483,647 bytes. */

@@ -1,6 +1,6 @@
 /* A host: reads a letter, prints its text, and takes its blocks through the stored form and back.
  *
- *   example [--paragraphs] LETTER
+ *   example [--paragraphs | --standard] LETTER
  *
  * The text goes to standard output, the rest to standard error. Exit status: 0, 1 a refusal, 2 bad
  * usage, 3 no letter or no memory, 4 the list was not read back as it was stored. */
@@ -69,20 +69,25 @@ static void leave(struct page *page)
     free(page->text);
 }
 
-static void read_letter(struct page *page, const uint8_t *letter, size_t size, int paragraphs)
+typedef struct elduvarn_read_answer reading(const uint8_t *, size_t, uint32_t *, size_t,
+                                            uint32_t *, size_t, uint32_t *, size_t, uint32_t *,
+                                            size_t, uint8_t *, size_t);
+
+/* By the specification a text may be half as long again as the letter. */
+static void read_letter(struct page *page, const uint8_t *letter, size_t size, reading *by)
 {
     size_t tokens = size * ELDUVARN_TOKEN_WORDS;
     size_t fonts = ELDUVARN_MOST_FONTS * ELDUVARN_FONT_WORDS;
     size_t colours = ELDUVARN_MOST_COLOURS * ELDUVARN_COLOUR_WORDS;
     size_t blocks = size * ELDUVARN_BLOCK_WORDS;
+    size_t text = size + size / 2;
     page->tokens = room(tokens, sizeof(uint32_t));
     page->fonts = room(fonts, sizeof(uint32_t));
     page->colours = room(colours, sizeof(uint32_t));
     page->blocks = room(blocks, sizeof(uint32_t));
-    page->text = room(size, 1);
-    page->counts = (paragraphs ? elduvarn_read_paragraphs : elduvarn_read_plain)(
-        letter, size, page->tokens, tokens, page->fonts, fonts, page->colours, colours,
-        page->blocks, blocks, page->text, size);
+    page->text = room(text, 1);
+    page->counts = by(letter, size, page->tokens, tokens, page->fonts, fonts, page->colours,
+                      colours, page->blocks, blocks, page->text, text);
 }
 
 /* Reads a list into rooms of just the size of the page, and compares. */
@@ -129,11 +134,11 @@ static int store(const struct page *page)
     return status;
 }
 
-static int preview(const uint8_t *letter, size_t size, int paragraphs)
+static int preview(const uint8_t *letter, size_t size, reading *by)
 {
     struct page page;
     int status;
-    read_letter(&page, letter, size, paragraphs);
+    read_letter(&page, letter, size, by);
     if (page.counts.refusal != ELDUVARN_SUCCESS) {
         status = refused("reading", page.counts.refusal, page.counts.place);
     } else {
@@ -145,11 +150,23 @@ static int preview(const uint8_t *letter, size_t size, int paragraphs)
     return status;
 }
 
+/* The reading that the words before the letter name, or null. */
+static reading *reading_of(int count, char **words)
+{
+    if (count == 2)
+        return elduvarn_read_plain;
+    if (count == 3 && strcmp(words[1], "--paragraphs") == 0)
+        return elduvarn_read_paragraphs;
+    if (count == 3 && strcmp(words[1], "--standard") == 0)
+        return elduvarn_read_standard;
+    return NULL;
+}
+
 int main(int count, char **words)
 {
-    int paragraphs = count == 3 && strcmp(words[1], "--paragraphs") == 0;
-    if (count != 2 + paragraphs) {
-        fputs("usage: example [--paragraphs] LETTER\n", stderr);
+    reading *by = reading_of(count, words);
+    if (by == NULL) {
+        fputs("usage: example [--paragraphs | --standard] LETTER\n", stderr);
         return USAGE;
     }
     const char *path = words[count - 1];
@@ -159,7 +176,7 @@ int main(int count, char **words)
         fprintf(stderr, "example: %s cannot be read\n", path);
         return NO_MEANS;
     }
-    int status = preview(letter, size, paragraphs);
+    int status = preview(letter, size, by);
     free(letter);
     return status;
 }

@@ -4,7 +4,7 @@
  *   test names    lists the refusals by number and name
  *
  * Exit status: 0 all passed, 1 not, 3 no memory. Expected answers are read off document 01,
- * requests A2 and A5 and docs/REFUSALS.md. */
+ * requests A1, A2 and A5 and docs/REFUSALS.md. */
 
 #define _DEFAULT_SOURCE
 
@@ -85,8 +85,9 @@ static int holds_words(const uint32_t *room, size_t size, const uint32_t *front,
     return holds_bytes((const uint8_t *)room, size * 4, front, count * 4);
 }
 
-/* Letters refused, and where: the smallest of docs/REFUSALS.md, and others whose place tells more.
- * Those of 1 and 16 are made elsewhere, those of 7 and 17 to 20 by rooms that are too small. */
+/* Letters refused plainly and by paragraphs, and where: the smallest of docs/REFUSALS.md, and
+ * others whose place tells more. Those of 1 and 16 are made elsewhere, those of 7 and 17 to 20 by
+ * rooms that are too small. */
 static const struct {
     const char *source;
     uint32_t refusal, place;
@@ -138,8 +139,8 @@ static const struct {
 
 /* The cutter. */
 
-/* All but the second are plain. */
-static const uint32_t numbers[] = {ELDUVARN_PLAIN, ELDUVARN_PARAGRAPHS, 2, 257, UINT32_MAX};
+/* All but the second are plain; standard reading's number has tests of its own. */
+static const uint32_t numbers[] = {ELDUVARN_PLAIN, ELDUVARN_PARAGRAPHS, 3, 257, 258, UINT32_MAX};
 
 /* Expected are `count` tokens, or a refusal at a place. */
 static void cuts_to(const char *letter, size_t size, uint32_t number, size_t room, uint32_t refusal,
@@ -155,7 +156,7 @@ static void cuts_to(const char *letter, size_t size, uint32_t number, size_t roo
     give_back();
 }
 
-/* The same in each reading. */
+/* The same plainly and by paragraphs. */
 static void cuts(const char *letter, size_t size, size_t room, const uint32_t *records,
                  uint32_t count)
 {
@@ -234,6 +235,152 @@ static void test_returns_cut(void)
     }
 }
 
+/* Letters and their tokens in standard reading; 01's table of names has u at 2, b at 13. */
+enum { MOST_STANDARD = 6 };
+static const struct {
+    const char *source;
+    uint32_t count, tokens[MOST_STANDARD][ELDUVARN_TOKEN_WORDS];
+} standard[] = {
+    /* A word is letters and a number, and what follows is text; one space vanishes, and no tab. */
+    {"{\\u8217?}", 4,
+     {{1, 0, 0, 0, 0, 0, 0, 1}, {5, 2, 1, 8217, 0, 0, 1, 7}, {0, 0, 0, 0, 7, 1, 1, 7},
+      {2, 0, 0, 0, 0, 0, 8, 1}}},
+    {"{\\b2 a}", 4,
+     {{1, 0, 0, 0, 0, 0, 0, 1}, {5, 13, 1, 2, 0, 0, 1, 5}, {0, 0, 0, 0, 5, 1, 1, 5},
+      {2, 0, 0, 0, 0, 0, 6, 1}}},
+    {"{\\b  }", 4,
+     {{1, 0, 0, 0, 0, 0, 0, 1}, {5, 13, 0, 0, 0, 0, 1, 4}, {0, 0, 0, 0, 4, 1, 1, 4},
+      {2, 0, 0, 0, 0, 0, 5, 1}}},
+    {"{\\b\t}", 4,
+     {{1, 0, 0, 0, 0, 0, 0, 1}, {5, 13, 0, 0, 0, 0, 1, 3}, {0, 0, 0, 0, 3, 1, 1, 3},
+      {2, 0, 0, 0, 0, 0, 4, 1}}},
+    {"{\\b-;}", 4,
+     {{1, 0, 0, 0, 0, 0, 0, 1}, {5, 13, 0, 0, 0, 0, 1, 4}, {0, 0, 0, 0, 3, 2, 1, 4},
+      {2, 0, 0, 0, 0, 0, 5, 1}}},
+    {"{\\b-1-}", 4,
+     {{1, 0, 0, 0, 0, 0, 0, 1}, {5, 13, 1, 4294967295u, 0, 0, 1, 5}, {0, 0, 0, 0, 5, 1, 1, 5},
+      {2, 0, 0, 0, 0, 0, 6, 1}}},
+    {"{\\B1}", 3,
+     {{1, 0, 0, 0, 0, 0, 0, 1}, {5, 49, 1, 1, 1, 2, 1, 3}, {2, 0, 0, 0, 0, 0, 4, 1}}},
+    /* Symbols and hex escapes; the mark and a symbol keep their tail, and no space vanishes. */
+    {"{a\\~b}", 5,
+     {{1, 0, 0, 0, 0, 0, 0, 2}, {0, 0, 0, 0, 1, 1, 0, 2}, {6, 126, 0, 0, 0, 0, 2, 3},
+      {0, 0, 0, 0, 4, 1, 2, 3}, {2, 0, 0, 0, 0, 0, 5, 1}}},
+    {"{\\_\\-}", 4,
+     {{1, 0, 0, 0, 0, 0, 0, 1}, {6, 95, 0, 0, 0, 0, 1, 2}, {6, 45, 0, 0, 0, 0, 3, 2},
+      {2, 0, 0, 0, 0, 0, 5, 1}}},
+    {"{\\  a}", 4,
+     {{1, 0, 0, 0, 0, 0, 0, 1}, {6, 32, 0, 0, 0, 0, 1, 4}, {0, 0, 0, 0, 3, 2, 1, 4},
+      {2, 0, 0, 0, 0, 0, 5, 1}}},
+    {"{\\'80}", 3,
+     {{1, 0, 0, 0, 0, 0, 0, 1}, {6, 39, 1, 128, 0, 0, 1, 4}, {2, 0, 0, 0, 0, 0, 5, 1}}},
+    {"{\\'81 }", 4,
+     {{1, 0, 0, 0, 0, 0, 0, 1}, {6, 39, 1, 129, 0, 0, 1, 5}, {0, 0, 0, 0, 5, 1, 1, 5},
+      {2, 0, 0, 0, 0, 0, 6, 1}}},
+    {"{\\'+f0}", 4,
+     {{1, 0, 0, 0, 0, 0, 0, 1}, {6, 39, 1, 15, 0, 0, 1, 5}, {0, 0, 0, 0, 5, 1, 1, 5},
+      {2, 0, 0, 0, 0, 0, 6, 1}}},
+    {"{\\* a}", 4,
+     {{1, 0, 0, 0, 0, 0, 0, 1}, {4, 0, 0, 0, 0, 0, 1, 4}, {0, 0, 0, 0, 3, 2, 1, 4},
+      {2, 0, 0, 0, 0, 0, 5, 1}}},
+    /* A backslash and the byte behind it belong together: nothing is glued behind two. */
+    {"{\\\\{a}}", 6,
+     {{1, 0, 0, 0, 0, 0, 0, 1}, {0, 0, 0, 0, 2, 1, 1, 2}, {1, 0, 0, 0, 0, 0, 3, 2},
+      {0, 0, 0, 0, 4, 1, 3, 2}, {2, 0, 0, 0, 0, 0, 5, 1}, {2, 0, 0, 0, 0, 0, 6, 1}}},
+    {"{\\{a\\}}", 4,
+     {{1, 0, 0, 0, 0, 0, 0, 1}, {0, 0, 0, 0, 2, 2, 1, 3}, {0, 0, 0, 0, 5, 1, 4, 2},
+      {2, 0, 0, 0, 0, 0, 6, 1}}},
+    /* Text of white space is text; raw line ends vanish, and start a slice each. */
+    {"{ }", 3, {{1, 0, 0, 0, 0, 0, 0, 2}, {0, 0, 0, 0, 1, 1, 0, 2}, {2, 0, 0, 0, 0, 0, 2, 1}}},
+    {"{a\r\nb}", 4,
+     {{1, 0, 0, 0, 0, 0, 0, 2}, {0, 0, 0, 0, 1, 1, 0, 2}, {0, 0, 0, 0, 4, 1, 3, 2},
+      {2, 0, 0, 0, 0, 0, 5, 1}}},
+    /* A line feed directly behind a backslash and a carriage return belongs to that slice. */
+    {"{\\\r\n\nb}", 4,
+     {{1, 0, 0, 0, 0, 0, 0, 1}, {3, 0, 0, 0, 0, 0, 1, 3}, {0, 0, 0, 0, 5, 1, 4, 2},
+      {2, 0, 0, 0, 0, 0, 6, 1}}},
+    {"{\\\n\n \\\r\\\n}", 6,
+     {{1, 0, 0, 0, 0, 0, 0, 1}, {3, 0, 0, 0, 0, 0, 1, 2}, {0, 0, 0, 0, 4, 1, 3, 2},
+      {3, 0, 0, 0, 0, 0, 5, 2}, {3, 0, 0, 0, 0, 0, 7, 2}, {2, 0, 0, 0, 0, 0, 9, 1}}},
+    {"{\\\\\r\nb}", 4,
+     {{1, 0, 0, 0, 0, 0, 0, 1}, {0, 0, 0, 0, 2, 1, 1, 2}, {0, 0, 0, 0, 5, 1, 4, 2},
+      {2, 0, 0, 0, 0, 0, 6, 1}}},
+    {"", 0, {{0}}},
+    {" \r\n ", 0, {{0}}},
+};
+
+/* Letters refused in standard reading. */
+static const struct {
+    const char *source;
+    uint32_t refusal, place;
+} refused_standard[] = {
+    {"\x80", ELDUVARN_NOT_ASCII, 0},
+    {"\\'}", ELDUVARN_HEX_SHORT, 0},
+    {"{a\\'e}", ELDUVARN_HEX_SHORT, 2},
+    {"{\\'8\r0}", ELDUVARN_HEX_SHORT, 1},
+    {"{\\'zz}", ELDUVARN_HEX_BAD, 1},
+    {" {\\\r\n\\'zz}", ELDUVARN_HEX_BAD, 5},
+    {"{\\b2147483648}", ELDUVARN_NUMBER_BAD, 1},
+    {"{\\rtf1 hello\\b-2147483649 }", ELDUVARN_NUMBER_BAD, 12},
+    {"{\\b2147483648\\'zz}", ELDUVARN_NUMBER_BAD, 1},
+    /* 3 to 5 come before 6, in the last slice too. */
+    {"{a}\\'8", ELDUVARN_HEX_SHORT, 3},
+    {"{a\\'zz", ELDUVARN_HEX_BAD, 2},
+    {"{a}\\b2147483648", ELDUVARN_NUMBER_BAD, 3},
+    {"{\\'zz}a", ELDUVARN_HEX_BAD, 1},
+    {"a", ELDUVARN_LAST_SLICE, 0},
+    {"{a}b", ELDUVARN_LAST_SLICE, 2}, /* b is of the slice of the bracket before it */
+    {"\t {a} b\n", ELDUVARN_LAST_SLICE, 4},
+    {"{a\nb", ELDUVARN_LAST_SLICE, 2},
+    {"{\\}", ELDUVARN_LAST_SLICE, 1},
+    {"{a}\\~", ELDUVARN_LAST_SLICE, 3},
+    {"{a}\\*", ELDUVARN_LAST_SLICE, 3},
+    {"{a}\\b- c", ELDUVARN_LAST_SLICE, 3},
+    /* A backslash that ends the source; what is trimmed is no line break. */
+    {"{a\\", ELDUVARN_LAST_SLICE, 2},
+    {"{}\\\r\n", ELDUVARN_LAST_SLICE, 2},
+    {"\\", ELDUVARN_LAST_SLICE, 0},
+    {"", ELDUVARN_NO_TOKENS, 0},
+    {" \r\n ", ELDUVARN_NO_TOKENS, 0},
+    {"}", ELDUVARN_FIRST_TOKEN, 0},
+    {"\\a-}", ELDUVARN_FIRST_TOKEN, 0},
+    {" \\~{}", ELDUVARN_FIRST_TOKEN, 1},
+    {"{\\\r\n\\fonttbl}", ELDUVARN_TABLE_LINE_BREAK, 4},
+    {"{\\fonttbl\\f}", ELDUVARN_FONT_NUMBER, 9},
+    {"{a\\f-1}", ELDUVARN_NUMBER_FIELD, 2},
+    {"{\\u65?\\f-1}", ELDUVARN_NUMBER_FIELD, 6},
+    {"{a\\*}", ELDUVARN_IGNORABLE_IN_BODY, 2},
+    {"{}}}", ELDUVARN_NO_STATE, 3},
+    {"{}}b}", ELDUVARN_NO_STATE, 2},
+    {"{}}\\~}", ELDUVARN_NO_STATE, 3},
+    {"{}}\\ }", ELDUVARN_NO_STATE, 3},
+    {"{}}\\'41}", ELDUVARN_NO_STATE, 3},
+    {"{}}\\u}", ELDUVARN_NO_STATE, 3},
+    {"{a\\sl-2147483648}", ELDUVARN_LINE_SPACING, 2},
+};
+
+static void test_standard_cut(void)
+{
+    enum { ONE = ELDUVARN_TOKEN_WORDS };
+    for (size_t i = 0; i < COUNT(standard); i++) {
+        const char *source = standard[i].source;
+        size_t enough = (size_t)standard[i].count * ONE;
+        for (size_t room = 0; room < enough + ONE + 2; room++)
+            if (room < enough)
+                cuts_to(source, strlen(source), ELDUVARN_STANDARD, room, ELDUVARN_TOKEN_ROOM, 0,
+                        NULL, 0);
+            else
+                cuts_to(source, strlen(source), ELDUVARN_STANDARD, room, 0, 0,
+                        standard[i].tokens[0], standard[i].count);
+    }
+    for (size_t i = 0; i < COUNT(refused_standard); i++)
+        if (refused_standard[i].refusal <= ELDUVARN_LAST_SLICE)
+            for (size_t room = 0; room < 3; room++)
+                cuts_to(refused_standard[i].source, strlen(refused_standard[i].source),
+                        ELDUVARN_STANDARD, room * 5 * ONE, refused_standard[i].refusal,
+                        refused_standard[i].place, NULL, 0);
+}
+
 static void test_cut(void)
 {
     enum { ONE = ELDUVARN_TOKEN_WORDS };
@@ -281,6 +428,7 @@ static void test_cut(void)
             cut_refuses(refused[i].source, strlen(refused[i].source), 10 * ONE, refused[i].refusal,
                         refused[i].place);
     test_returns_cut();
+    test_standard_cut();
 }
 
 /* The reader. A letter with its counts, and its text in both readings. */
@@ -314,8 +462,10 @@ static struct read read_in(reading *by, const char *source, size_t size, const s
         read.words[i] = lend_words(room[i]);
     read.text = lend_bytes(room[TEXT]);
     will("%s reading of %zu bytes %.40s in %zu, %zu, %zu, %zu words and %zu bytes",
-         by == elduvarn_read_plain ? "plain" : "paragraph", size, source, room[0], room[1], room[2],
-         room[3], room[4]);
+         by == elduvarn_read_plain      ? "plain"
+         : by == elduvarn_read_standard ? "standard"
+                                        : "paragraph",
+         size, source, room[0], room[1], room[2], room[3], room[4]);
     read.answer = by(letter, size, read.words[0], room[0], read.words[1], room[1], read.words[2],
                      room[2], read.words[3], room[3], read.text, room[TEXT]);
     return read;
@@ -397,15 +547,21 @@ static const struct letter letters[] = {
 
 static const size_t ample[ROOMS] = {100 * ELDUVARN_TOKEN_WORDS, 20 * ELDUVARN_FONT_WORDS,
                                     20 * ELDUVARN_COLOUR_WORDS, 20 * ELDUVARN_BLOCK_WORDS, 100};
+/* Those of 01. */
 static reading *const readings[] = {elduvarn_read_plain, elduvarn_read_paragraphs};
+
+static void refuses_by(reading *by, const char *source, size_t size, uint32_t refusal,
+                       uint32_t place)
+{
+    struct read read = read_in(by, source, size, ample);
+    told(is_empty(&read, place), read.answer.refusal, refusal);
+    give_back();
+}
 
 static void refuses(const char *source, size_t size, uint32_t refusal, uint32_t place)
 {
-    for (size_t by = 0; by < COUNT(readings); by++) {
-        struct read read = read_in(readings[by], source, size, ample);
-        told(is_empty(&read, place), read.answer.refusal, refusal);
-        give_back();
-    }
+    for (size_t by = 0; by < COUNT(readings); by++)
+        refuses_by(readings[by], source, size, refusal, place);
 }
 
 /* What the table of letters does not say: records. */
@@ -424,7 +580,7 @@ struct indented {
     uint32_t length;
 };
 
-/* Letters of one style but for indents, with their blocks by paragraphs. */
+/* Letters of one style but for indents, with their blocks by paragraphs and in standard reading. */
 static const struct {
     const char *source;
     struct indented blocks[3];
@@ -470,6 +626,8 @@ static void test_indents(void)
             flush.length += indented[i].blocks[block].length;
         reads_indented(elduvarn_read_plain, indented[i].source, &flush, 1);
         reads_indented(elduvarn_read_paragraphs, indented[i].source, indented[i].blocks,
+                       indented[i].count);
+        reads_indented(elduvarn_read_standard, indented[i].source, indented[i].blocks,
                        indented[i].count);
     }
 }
@@ -524,6 +682,117 @@ static void test_returns_read(void)
     }
 }
 
+/* Letters in standard reading, with the flags of their blocks. */
+static const struct {
+    struct letter letter;
+    uint32_t flags[2];
+} by_standard[] = {
+    {{"{}", 2, 0, 0, 0, "", ""}, {0, 0}},
+    {{"{ }", 3, 0, 0, 1, " ", ""}, {0, 0}},
+    {{"{a\\par b}", 5, 0, 0, 1, "a\nb", ""}, {0, 0}},
+    {{"{a\r\nb\\\r\n c\\\nd}", 8, 0, 0, 1, "ab\n c\nd", ""}, {0, 0}},
+    {{"{\\\\{a}}", 6, 0, 0, 1, "\\a", ""}, {0, 0}},
+    {{"{\\\\\r\nb}", 4, 0, 0, 1, "\\b", ""}, {0, 0}},
+    /* Behind a u word the next character is passed over, whatever it is: a byte of text, an escape,
+     * a word, a symbol. It has no effect and no refusal. */
+    {{"{\\u8217?}", 4, 0, 0, 1, "\xE2\x80\x99", ""}, {0, 0}},
+    {{"{\\u8212 ?}", 4, 0, 0, 1, "\xE2\x80\x94", ""}, {0, 0}},
+    {{"{\\u8212\\'97b}", 5, 0, 0, 1, "\xE2\x80\x94" "b", ""}, {0, 0}},
+    {{"{\\u8212\\b a}", 5, 0, 0, 1, "\xE2\x80\x94" "a", ""}, {0, 0}},
+    {{"{\\u233\\u232 ab}", 5, 0, 0, 1, "\xC3\xA9" "ab", ""}, {0, 0}},
+    {{"{\\u65\\f-1\\u66\\*\\u67\\ a}", 9, 0, 0, 1, "ABCa", ""}, {0, 0}},
+    {{"{\\u65\r\n?b}", 4, 0, 0, 1, "Ab", ""}, {0, 0}},
+    {{"{\\u abc}", 4, 0, 0, 1, "bc", ""}, {0, 0}},
+    {{"{\\uc2\\u8217??a}", 5, 0, 0, 1, "\xE2\x80\x99" "a", ""}, {0, 0}},
+    {{"{\\uc3\\u65?\\b\\~a}", 8, 0, 0, 1, "Aa", ""}, {0, 0}},
+    {{"{\\uc0\\u65\\u66?\\uc-1\\u67?}", 9, 0, 0, 1, "AB?C?", ""}, {0, 0}},
+    {{"{\\uc\\u65?}", 5, 0, 0, 1, "A?", ""}, {0, 0}},
+    /* A brace ends the skipping, that of a hidden group too. */
+    {{"{\\uc2\\u8217{?b}}", 7, 0, 0, 1, "\xE2\x80\x99?b", ""}, {0, 0}},
+    {{"{a{\\uc2\\u65}bc}", 8, 0, 0, 1, "aAbc", ""}, {0, 0}},
+    {{"{\\u65{\\*\\x y}?}", 9, 0, 0, 1, "A?", ""}, {0, 0}},
+    /* Units pair with only skipped characters between them, and what is read parts them. */
+    {{"{\\u-10179?\\u-8704?}", 6, 0, 0, 1, "\xF0\x9F\x98\x80", ""}, {0, 0}},
+    {{"{\\u-10179?\r\n\\u-8704?}", 6, 0, 0, 1, "\xF0\x9F\x98\x80", ""}, {0, 0}},
+    {{"{\\u-10179?\\b\\u-8704?}", 7, 0, 0, 2, "\xEF\xBF\xBD\xEF\xBF\xBD", ""}, {0, 1}},
+    {{"{\\u-10179?\\uc1\\u-8704?}", 7, 0, 0, 1, "\xEF\xBF\xBD\xEF\xBF\xBD", ""}, {0, 0}},
+    {{"{\\u-10179?\\u?\\u-8704?}", 8, 0, 0, 1, "\xEF\xBF\xBD\xEF\xBF\xBD", ""}, {0, 0}},
+    /* Any number but 0 turns a flag on. */
+    {{"{\\b2 a}", 4, 0, 0, 1, "a", ""}, {1, 0}},
+    {{"{\\i-1 a\\i0 b}", 6, 0, 0, 2, "ab", ""}, {2, 0}},
+    {{"{\\ul a\\ulnone1 b}", 6, 0, 0, 2, "ab", ""}, {4, 0}},
+    {{"{\\B a}", 4, 0, 0, 1, "a", ""}, {0, 0}},
+    /* Symbols, and bytes by Windows-1252. */
+    {{"{a\\~b}", 5, 0, 0, 1, "a\xC2\xA0" "b", ""}, {0, 0}},
+    {{"{\\_\\- \\:c}", 7, 0, 0, 1, "\xE2\x80\x91\xC2\xAD c", ""}, {0, 0}},
+    {{"{\\'80}", 3, 0, 0, 1, "\xE2\x82\xAC", ""}, {0, 0}},
+    {{"{\\'81}", 3, 0, 0, 1, "\xEF\xBF\xBD", ""}, {0, 0}},
+    {{"{\\'9f\\'a0\\'7f}", 5, 0, 0, 1, "\xC5\xB8\xC2\xA0\x7F", ""}, {0, 0}},
+    {{"{\\'e9\\'e8\\'0a\\'0d}", 6, 0, 0, 1, "\xC3\xA9\xC3\xA8\n\r", ""}, {0, 0}},
+    /* Tables; the `;` behind a colour is a text of its own. */
+    {{"{\\fonttbl{\\f1 Arial;}}", 7, 2, 0, 0, "", ""}, {0, 0}},
+    {{"{\\colortbl\\red200\\green16\\blue46;}", 7, 0, 1, 0, "", ""}, {0, 0}},
+};
+
+static void reads_flags(const struct letter *letter, const uint32_t *flags)
+{
+    struct read read =
+        read_in(elduvarn_read_standard, letter->source, strlen(letter->source), ample);
+    int good = has_counts(&read, letter, letter->text);
+    for (uint32_t i = 0; good && i < letter->blocks; i++)
+        good = read.words[BLOCKS][i * NEXT + FLAGS] == flags[i];
+    told(good, read.answer.refusal, 0);
+    give_back();
+}
+
+/* The longest text: three bytes for each two of the letter. */
+static void test_longest_text(void)
+{
+    enum { PAIRS = ELDUVARN_MOST_SOURCE / 2 - 1, BYTES = 3 * PAIRS };
+    static char letter[ELDUVARN_MOST_SOURCE];
+    static uint8_t text[BYTES];
+    static const size_t rooms[ROOMS] = {(PAIRS + 2) * ELDUVARN_TOKEN_WORDS, 0, 0,
+                                        ELDUVARN_BLOCK_WORDS, ELDUVARN_MOST_TEXT};
+    letter[0] = '{';
+    for (size_t i = 0; i < PAIRS; i++) {
+        memcpy(letter + 1 + 2 * i, "\\_", 2);
+        memcpy(text + 3 * i, "\xE2\x80\x91", 3);
+    }
+    letter[ELDUVARN_MOST_SOURCE - 1] = '}';
+    for (size_t less = 0; less < 2; less++) {
+        size_t room[ROOMS];
+        memcpy(room, rooms, sizeof room);
+        room[TEXT] = less == 0 ? ELDUVARN_MOST_TEXT : BYTES - 1;
+        struct read read = read_in(elduvarn_read_standard, letter, sizeof letter, room);
+        if (less == 0)
+            told(read.answer.place == 0 && read.answer.tokens == PAIRS + 2 &&
+                     read.answer.text == BYTES && holds_bytes(read.text, room[TEXT], text, BYTES),
+                 read.answer.refusal, 0);
+        else
+            told(is_empty(&read, 0), read.answer.refusal, ELDUVARN_TEXT_ROOM);
+        give_back();
+    }
+}
+
+static void test_standard_read(void)
+{
+    static const uint32_t fonts[] = {0, 0, 0, 1, 14, 5};
+    static const uint32_t colours[] = {200 * 65536 + 16 * 256 + 46};
+    for (size_t i = 0; i < COUNT(by_standard); i++) {
+        const struct letter *letter = &by_standard[i].letter;
+        reads(elduvarn_read_standard, letter, letter->text);
+        reads_flags(letter, by_standard[i].flags);
+    }
+    reads_records(elduvarn_read_standard, "{\\fonttbl{\\f1 Arial;}}", FONTS, fonts, COUNT(fonts));
+    reads_records(elduvarn_read_standard, "{\\colortbl\\red200\\green16\\blue46;}", COLOURS,
+                  colours, COUNT(colours));
+    for (size_t i = 0; i < COUNT(refused_standard); i++)
+        refuses_by(elduvarn_read_standard, refused_standard[i].source,
+                   strlen(refused_standard[i].source), refused_standard[i].refusal,
+                   refused_standard[i].place);
+    test_longest_text();
+}
+
 /* Both sides of 64 states, of 65,536 bytes. */
 static void test_limits(void)
 {
@@ -538,10 +807,12 @@ static void test_limits(void)
     letter[63] = '{';
     letter[64] = '}';
     refuses(letter, 65, ELDUVARN_TOO_DEEP, 63);
+    refuses_by(elduvarn_read_standard, letter, 65, ELDUVARN_TOO_DEEP, 63);
     letter[64] = '{';
     letter[65] = '}';
     letter[0] = '\n';
     refuses(letter, 66, ELDUVARN_TOO_DEEP, 64);
+    refuses_by(elduvarn_read_standard, letter, 66, ELDUVARN_TOO_DEEP, 64);
 
     memset(letter, 'a', sizeof letter);
     letter[0] = '{';
@@ -552,6 +823,9 @@ static void test_limits(void)
          read.answer.refusal, 0);
     give_back();
     refuses(letter, sizeof letter, ELDUVARN_SOURCE_TOO_LONG, 0);
+    refuses_by(elduvarn_read_standard, letter, sizeof letter, ELDUVARN_SOURCE_TOO_LONG, 0);
+    cuts_to(letter, sizeof letter, ELDUVARN_STANDARD, ELDUVARN_TOKEN_WORDS,
+            ELDUVARN_SOURCE_TOO_LONG, 0, NULL, 0);
     cut_refuses(letter, sizeof letter, ELDUVARN_TOKEN_WORDS, ELDUVARN_SOURCE_TOO_LONG, 0);
 }
 
@@ -576,6 +850,7 @@ static void test_read(void)
     test_returns_read();
     for (size_t i = 0; i < COUNT(refused); i++)
         refuses(refused[i].source, strlen(refused[i].source), refused[i].refusal, refused[i].place);
+    test_standard_read();
     test_limits();
 }
 
@@ -792,13 +1067,12 @@ static void test_indent_not_zero(void)
 }
 
 /* A letter is read, stored, checked and read back, each in rooms of just enough. */
-static void test_round_trip(void)
+static void round_trip(reading *by, const char *shown)
 {
     static const char letter[] =
         "{\\rtf1{\\fonttbl{\\f0 Helvetica;}}\\fs24 Caf\\'e9 {\\b bold\\i  both}\\par "
         "\\pard\\qj\\sb120\\sa-120\\sl-276\\slmul1 \\u8212 dash\\cf2  coloured}";
-    static const char shown[] = "Caf\xC3\xA9" "bold both\n\xE2\x80\x94" "dash coloured";
-    struct read read = read_in(elduvarn_read_paragraphs, letter, strlen(letter), ample);
+    struct read read = read_in(by, letter, strlen(letter), ample);
     size_t words = (size_t)read.answer.blocks * ELDUVARN_BLOCK_WORDS, text = read.answer.text;
     size_t most = elduvarn_stored_most(read.answer.blocks, text);
     told(read.answer.place == 0 && read.answer.blocks == 6 && text == strlen(shown) &&
@@ -825,6 +1099,16 @@ static void test_round_trip(void)
              holds_bytes(text_room, text, text_bytes, text),
          back.refusal, 0);
     give_back();
+}
+
+/* In standard reading the space behind the hex escape stays, and the d behind the dash is passed
+ * over. */
+static void test_round_trip(void)
+{
+    round_trip(elduvarn_read_paragraphs,
+               "Caf\xC3\xA9" "bold both\n\xE2\x80\x94" "dash coloured");
+    round_trip(elduvarn_read_standard,
+               "Caf\xC3\xA9 bold both\n\xE2\x80\x94" "ash coloured");
 }
 
 static void test_stored(void)

@@ -5,10 +5,13 @@
 #   take FILE        takes standard input from that file, or ends with status 2
 #   build NAME       proves and builds that program, if that is not done yet, or ends with status 3
 #   keep FILE        keeps the letter on standard input, as far as a program takes it, in that file
-#   run NAME         runs it: standard input to standard output
+#   run NAME WORDS   runs it with those words: standard input to standard output
+#   $standard        the word that asks a program for standard reading: the reading's number, as in host/elduvarn.h
 #   explain NUMBER PLACE FILE   tells a refusal's name, place and condition, and shows the bytes around the place in the letter
 #
-# shellcheck shell=sh disable=SC2154
+# shellcheck shell=sh disable=SC2034,SC2154
+
+standard=2
 
 say() {
     printf '%s: %s\n' "$me" "$*" >&2
@@ -97,13 +100,14 @@ build() {
 # not take the script with it.
 run() (
     program=$here/target/bin/$1
+    shift
     machine=$(uname -m)
     case $machine in
-        x86_64 | amd64) exec "$program" ;;
+        x86_64 | amd64) exec "$program" "$@" ;;
     esac
     need_rt run
     kit=$(dirname "$(readlink -f "$(command -v rt)")")/../on/$machine/toolchain
-    exec "$kit/bin/qemu-x86_64" "$kit/lib/ld-linux-x86-64.so.2" --library-path "$kit/lib" "$program"
+    exec "$kit/bin/qemu-x86_64" "$kit/lib/ld-linux-x86-64.so.2" --library-path "$kit/lib" "$program" "$@"
 )
 
 # The number's row in the catalogue; the numbers that carry a place are those that it names (docs/REFUSALS.md).

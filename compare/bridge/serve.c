@@ -18,19 +18,14 @@ typedef unsigned char u8;
 typedef unsigned int u32;
 typedef unsigned long usize;
 
-enum { CUT, PLAIN, PARAGRAPHS, STORED_CHECK, STORED_READ, STORED_WRITE };
+enum { CUT, PLAIN, PARAGRAPHS, STANDARD, STORED_CHECK, STORED_READ, STORED_WRITE };
 enum { GUARD = 64, GUARD_BYTE = 0x6B, SPACE = 256 << 20, AHEAD = 1 << 16, BEHIND = 1 << 16 };
 
 struct answer {
     u32 words[7];
 };
 
-#ifdef CUTTER
-struct cut_answer {
-    u32 refusal, place, tokens;
-};
-struct cut_answer elduvarn_cut(const u8 *, usize, u32, u32 *, usize);
-#elif defined STORED
+#ifdef STORED
 struct stored_answer {
     u32 refusal;
     usize blocks, text;
@@ -43,10 +38,15 @@ u32 elduvarn_stored_check(const u8 *, usize);
 struct stored_answer elduvarn_stored_read(const u8 *, usize, u32 *, usize, u8 *, usize);
 struct write_answer elduvarn_stored_write(const u32 *, usize, const u8 *, usize, u8 *, usize);
 #else
-struct answer elduvarn_read_plain(const u8 *, usize, u32 *, usize, u32 *, usize, u32 *, usize,
-                                  u32 *, usize, u8 *, usize);
-struct answer elduvarn_read_paragraphs(const u8 *, usize, u32 *, usize, u32 *, usize, u32 *, usize,
-                                       u32 *, usize, u8 *, usize);
+struct cut_answer {
+    u32 refusal, place, tokens;
+};
+struct cut_answer elduvarn_cut(const u8 *, usize, u32, u32 *, usize);
+#ifndef CUTTER
+typedef struct answer reading(const u8 *, usize, u32 *, usize, u32 *, usize, u32 *, usize, u32 *,
+                              usize, u8 *, usize);
+reading elduvarn_read_plain, elduvarn_read_paragraphs, elduvarn_read_standard;
+#endif
 #endif
 
 static u8 space[SPACE] __attribute__((aligned(64)));
@@ -244,15 +244,18 @@ static struct answer answered(u32 function, struct given g, u8 **room, const u32
     (void)function;
     for (int i = 0; i < 4; i++)
         words[i] = (u32 *)room[i];
-#ifdef CUTTER
+#ifndef CUTTER
+    if (function != CUT) {
+        reading *read = function == PLAIN        ? elduvarn_read_plain
+                        : function == PARAGRAPHS ? elduvarn_read_paragraphs
+                                                 : elduvarn_read_standard;
+        return read(g.source, g.length, words[0], sizes[2], words[1], sizes[3], words[2],
+                    sizes[4], words[3], sizes[5], room[4], sizes[6]);
+    }
+#endif
     struct cut_answer cut = elduvarn_cut(g.source, g.length, g.reading, words[0], sizes[2]);
     struct answer answer = {{cut.refusal, cut.place, cut.tokens, 0, 0, 0, 0}};
     return answer;
-#else
-    return (function == PLAIN ? elduvarn_read_plain : elduvarn_read_paragraphs)(
-        g.source, g.length, words[0], sizes[2], words[1], sizes[3], words[2], sizes[4], words[3],
-        sizes[5], room[4], sizes[6]);
-#endif
 }
 #endif
 

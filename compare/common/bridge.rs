@@ -7,9 +7,10 @@ use std::process::{ChildStdin, ChildStdout, Command, Stdio};
 pub const CUT: u32 = 0;
 pub const PLAIN: u32 = 1;
 pub const PARAGRAPHS: u32 = 2;
-pub const STORED_CHECK: u32 = 3;
-pub const STORED_READ: u32 = 4;
-pub const STORED_WRITE: u32 = 5;
+pub const STANDARD: u32 = 3;
+pub const STORED_CHECK: u32 = 4;
+pub const STORED_READ: u32 = 5;
+pub const STORED_WRITE: u32 = 6;
 
 /// Bytes of requests that may be sent before their answers are received: they fit the pipe, so that
 /// neither end waits for the other. A single request may be larger.

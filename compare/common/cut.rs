@@ -8,6 +8,7 @@ pub type Told = [u32; 6];
 /// The numbers of readings for our cutter; any other is plain.
 pub const PLAIN: u32 = 0;
 pub const PARAGRAPHS: u32 = 1;
+pub const STANDARD: u32 = 2;
 
 pub const SOURCE_LIMIT: usize = 65_536;
 

@@ -70,12 +70,17 @@ pub fn every_sequence(alphabet: &Alphabet, longest: usize, sink: &mut Sink) {
     }
 }
 
-/// A sequence at random, of fragments from all alphabets.
+/// A sequence at random, of fragments from all alphabets of `ALPHABETS`.
 pub fn soup(random: &mut Random, longest: usize) -> Vec<u8> {
-    let home = random.pick(&ALPHABETS);
+    soup_of(&ALPHABETS, random, longest)
+}
+
+/// The same from other alphabets.
+pub fn soup_of(alphabets: &[Alphabet], random: &mut Random, longest: usize) -> Vec<u8> {
+    let home = random.pick(alphabets);
     let mut letter = home.front.as_bytes().to_vec();
     for _ in 0..random.between(1, longest) {
-        let from = if random.once_in(3) { random.pick(&ALPHABETS) } else { home };
+        let from = if random.once_in(3) { random.pick(alphabets) } else { home };
         letter.extend_from_slice(random.pick(from.fragments).as_bytes());
     }
     letter.extend_from_slice(home.back.as_bytes());

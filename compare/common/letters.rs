@@ -74,7 +74,7 @@ pub fn every_byte_everywhere(sink: &mut Sink) {
 }
 
 /// The same in any bytes.
-fn every_byte_in(bytes: &[u8], sink: &mut Sink) {
+pub fn every_byte_in(bytes: &[u8], sink: &mut Sink) {
     for place in 0..=bytes.len() {
         for byte in 0..128 {
             let mut put = bytes.to_vec();

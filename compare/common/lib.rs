@@ -4,6 +4,7 @@
 //!   grammar   letters at random
 //!   mutate    damaged letters
 //!   fragments, reading_grammar   letters for the whole reading, listed and at random
+//!   standard_letters, standard_grammar   the same for standard reading
 //!   oracle    the crate's answers, from both of its builds; mended, what it is asked by paragraphs
 //!   cut       the form of the crate's cuttings
 //!   whole     the form of its readings
@@ -23,6 +24,8 @@ pub mod program;
 pub mod random;
 pub mod reading_grammar;
 pub mod room;
+pub mod standard_grammar;
+pub mod standard_letters;
 pub mod whole;
 
 /// Reads `--name NUMBER` pairs over the numbers given for the names.

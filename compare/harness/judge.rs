@@ -4,7 +4,7 @@
 use crate::ours;
 use crate::report;
 use crate::seen::Seen;
-use common::cut::{PARAGRAPHS, PLAIN, ROOM_SMALL};
+use common::cut::{PARAGRAPHS, PLAIN, ROOM_SMALL, STANDARD};
 use common::mended::has_return;
 use common::oracle::{self, Reading};
 use common::random::Random;
@@ -106,9 +106,10 @@ impl Judge {
         match kind {
             Kind::Paragraphs => PARAGRAPHS,
             Kind::Plain if self.random.once_in(OTHER_NUMBER) => {
-                *self.random.pick(&[2, 3, 256, 257, 1 << 31, u32::MAX])
+                *self.random.pick(&[3, 4, 256, 257, 258, 1 << 31, u32::MAX])
             }
             Kind::Plain => PLAIN,
+            Kind::Standard => STANDARD,
         }
     }
 

@@ -61,7 +61,7 @@ macro_rules! readings {
         }
     };
 }
-readings!(elduvarn_read_plain elduvarn_read_paragraphs);
+readings!(elduvarn_read_plain elduvarn_read_paragraphs elduvarn_read_standard);
 
 extern "C" {
     fn elduvarn_cut(
@@ -112,6 +112,10 @@ pub fn read_plain(source: &[u8], rooms: Slices) -> [u32; 7] {
 
 pub fn read_paragraphs(source: &[u8], rooms: Slices) -> [u32; 7] {
     read(elduvarn_read_paragraphs, source, rooms)
+}
+
+pub fn read_standard(source: &[u8], rooms: Slices) -> [u32; 7] {
+    read(elduvarn_read_standard, source, rooms)
 }
 
 #[inline(always)]

@@ -1,4 +1,4 @@
-//! 01's "Body", and A5's indents.
+//! 01's "Body", and A5's indents. What standard reading has of its own is in standard_body.rs.
 
 use crate::cut::{number_of, CLOSE, IGNORABLE, LINE_BREAK, OPEN, TEXT, WORD};
 use crate::{units, Block, Kind, Met, Refusal, Rooms, Token};
@@ -41,7 +41,7 @@ pub struct Body {
     most_text: usize,
 }
 
-const U: u32 = number_of("u");
+pub const U: u32 = number_of("u");
 const PAR: u32 = number_of("par");
 const EMDASH: u32 = number_of("emdash");
 const LINE: u32 = number_of("line");
@@ -52,6 +52,17 @@ const SIGNS: [&str; 9] = [
 ];
 
 impl Body {
+    /// Nothing is read, and one state is held.
+    pub fn new(rooms: &Rooms) -> Body {
+        Body {
+            blocks: Vec::new(),
+            text: Vec::new(),
+            states: vec![FRESH],
+            most_blocks: rooms[BLOCKS] / WIDTHS[BLOCKS],
+            most_text: rooms[crate::TEXT].min(LONGEST),
+        }
+    }
+
     pub fn read(
         source: &[u8],
         tokens: &[Token],
@@ -60,13 +71,7 @@ impl Body {
         rooms: &Rooms,
         met: &mut Met,
     ) -> Result<Body, Refusal> {
-        let mut body = Body {
-            blocks: Vec::new(),
-            text: Vec::new(),
-            states: vec![FRESH],
-            most_blocks: rooms[BLOCKS] / WIDTHS[BLOCKS],
-            most_text: rooms[crate::TEXT].min(LONGEST),
-        };
+        let mut body = Body::new(rooms);
         let mut at = 0;
         while at < tokens.len() {
             let mut next = at + 1;
@@ -83,7 +88,7 @@ impl Body {
     }
 
     /// One token, or a run of `u`, whose first it is that finds no state.
-    fn step(
+    pub fn step(
         &mut self,
         source: &[u8],
         run: &[Token],
@@ -108,7 +113,7 @@ impl Body {
                 self.add(&source[place as usize..(place + length) as usize])?
             }
             [WORD, U, ..] => self.units(run, met)?,
-            [WORD, PAR, ..] if kind == Kind::Paragraphs => self.add(b"\n")?,
+            [WORD, PAR, ..] if kind != Kind::Plain => self.add(b"\n")?,
             [WORD, word @ EMDASH..=LINE, ..] => {
                 self.add(SIGNS[(word - EMDASH) as usize].as_bytes())?
             }
@@ -133,8 +138,13 @@ impl Body {
         self.add(&text)
     }
 
+    /// The skip count of the state on top.
+    pub fn skip_count(&self) -> Option<i32> {
+        self.states.last().map(|state| state.skip)
+    }
+
     /// Adds text in the state on top, of which there is one.
-    fn add(&mut self, text: &[u8]) -> Result<(), Refusal> {
+    pub fn add(&mut self, text: &[u8]) -> Result<(), Refusal> {
         let style = self.states[self.states.len() - 1].style.map(|word| word as u32);
         let joins = self.blocks.last().is_some_and(|block| block[..STYLE_WORDS] == style);
         if !joins && self.blocks.len() == self.most_blocks {
@@ -164,18 +174,19 @@ fn is_unit(token: &Token) -> bool {
 impl State {
     /// A word that adds no text; its number is 0 if it has none. The refusal is that of the word.
     fn word(&mut self, kind: Kind, word: u32, present: bool, number: i32) -> Result<(), u32> {
+        let on = !present || if kind == Kind::Standard { number != 0 } else { number == 1 };
         match crate::NAMES.get(word as usize).copied().unwrap_or("") {
             "cf" => self.style[COLOUR] = fitting(number)?,
             "f" => self.style[FONT] = fitting(number)?,
             "fs" => self.style[SIZE] = fitting(number)?,
-            "b" => self.flag(1, !present || number == 1),
-            "i" => self.flag(2, !present || number == 1),
-            "ul" => self.flag(4, !present || number == 1),
+            "b" => self.flag(1, on),
+            "i" => self.flag(2, on),
+            "ul" => self.flag(4, on),
             "ulnone" => self.flag(4, false),
-            "super" => self.flag(8, !present || number == 1),
-            "sub" => self.flag(16, !present || number == 1),
-            "scaps" => self.flag(32, !present || number == 1),
-            "strike" => self.flag(64, !present || number == 1),
+            "super" => self.flag(8, on),
+            "sub" => self.flag(16, on),
+            "scaps" => self.flag(32, on),
+            "strike" => self.flag(64, on),
             "plain" => self.style[..=FLAGS].copy_from_slice(&FRESH.style[..=FLAGS]),
             "pard" => self.style[ALIGNMENT..].fill(0),
             "ql" => self.style[ALIGNMENT] = 0,

@@ -1,6 +1,7 @@
 //! 01's "Cutting", with the mended rules on byte 11, and A2's on a carriage return.
 
 use crate::{Cut, Kind, Refusal, Token};
+use std::ops::Range;
 
 pub const TEXT: u32 = 0;
 pub const OPEN: u32 = 1;
@@ -17,7 +18,7 @@ pub const NAMES: [&str; 49] = [
     "fi", "ri", "li", "sb", "sa", "sl", "slmul", "red", "green", "blue",
     "emdash", "endash", "bullet", "lquote", "rquote", "ldblquote", "rdblquote", "tab", "line",
 ];
-const UNKNOWN: u32 = 49;
+pub const UNKNOWN: u32 = 49;
 
 /// The number of a name, found when this is compiled.
 pub const fn number_of(name: &str) -> u32 {
@@ -49,18 +50,27 @@ struct Part<'a> {
     end: usize,
 }
 
-pub fn tokens(source: &[u8], kind: Kind) -> Cut {
+/// From the first byte that is not white to behind the last one, of a source within the limits;
+/// none if it is blank.
+pub fn trimmed(source: &[u8]) -> Result<Option<Range<usize>>, Refusal> {
     if source.len() > 65_536 {
         return Err(Refusal::nowhere(1));
     }
     if source.iter().any(|byte| *byte > 127) {
         return Err(Refusal::nowhere(2));
     }
-    let mut tokens = Vec::new();
-    let Some(mut start) = source.iter().position(|byte| !white(*byte)) else {
-        return Ok(tokens);
+    let Some(start) = source.iter().position(|byte| !white(*byte)) else {
+        return Ok(None);
     };
     let end = source.iter().rposition(|byte| !white(*byte)).map_or(start, |last| last + 1);
+    Ok(Some(start..end))
+}
+
+pub fn tokens(source: &[u8], kind: Kind) -> Cut {
+    let mut tokens = Vec::new();
+    let Some(Range { mut start, end }) = trimmed(source)? else {
+        return Ok(tokens);
+    };
     let mut told = Vec::new();
     for place in start + 1..end {
         let whole = Part { source, start, end: place };
@@ -156,14 +166,14 @@ fn bare(kind: u32) -> Told {
 }
 
 /// Two hex digits, or `+` and one.
-fn byte_value(hex: &[u8]) -> Option<u32> {
+pub fn byte_value(hex: &[u8]) -> Option<u32> {
     let digit = |byte: u8| char::from(byte).to_digit(16);
     let high = if hex[0] == b'+' { 0 } else { digit(hex[0])? };
     Some(16 * high + digit(hex[1])?)
 }
 
 /// A minus sign or none, and digits, of at most 32 bits.
-fn decimal(digits: &[u8]) -> Option<i32> {
+pub fn decimal(digits: &[u8]) -> Option<i32> {
     let (sign, digits) = match digits {
         [b'-', digits @ ..] => (-1, digits),
         _ => (1, digits),

@@ -1,19 +1,24 @@
-//! A model of both readings, written from document 01, requests A2, A4 and A5 and the mended rules
-//! of docs/DIFFERENCES.md. It knows neither the crate nor our library, and takes the shortest way
-//! that a rule allows: it judges what the crate has no answer for, as are slices, refusals' places
-//! and indents.
+//! A model of the three readings, written from document 01, requests A1, A2, A4 and A5 and the
+//! mended rules of docs/DIFFERENCES.md. It knows neither the crate nor our library, and takes the
+//! shortest way that a rule allows: it judges what the crate has no answer for, as are slices,
+//! refusals' places, indents and all of standard reading.
 //!
 //!   cut      tokens
 //!   header   the walk and the tables
 //!   body     states and blocks
 //!   units    what a run of `u` adds
+//!   standard, standard_body   tokens and body by A1; samples, answers that are known beforehand
 
 mod body;
 mod cut;
 mod header;
+pub mod samples;
+mod standard;
+mod standard_body;
 mod units;
 
 pub use cut::NAMES;
+pub use standard::SYMBOL;
 
 use std::ops::Range;
 
@@ -37,8 +42,10 @@ pub type Block = [u32; BLOCK_WORDS];
 pub enum Kind {
     Plain,
     Paragraphs,
+    Standard,
 }
 
+/// The readings that the crate can be asked for.
 pub const KINDS: [Kind; 2] = [Kind::Plain, Kind::Paragraphs];
 
 /// The rooms in the order in which they are lent, by their places in `Rooms`.
@@ -81,13 +88,20 @@ pub struct Answer {
     pub text: Vec<u8>,
 }
 
-/// What was met that stands outside the equality with the crate, refusals aside.
+/// What was met that stands outside the equality with the crate, refusals aside; and what standard
+/// reading came by, so that a run that tested little shows.
 #[derive(Debug, Clone, Copy, Default, PartialEq, Eq)]
 pub struct Met {
     pub negative_skip: bool,
     /// Above 65,535, where the crate asks for more memory than it may get.
     pub large_skip: bool,
     pub ill_formed: bool,
+    /// Standard reading: a token passed over, a text passed over in part, skipping that a brace
+    /// ended, two units that pair.
+    pub skipped: bool,
+    pub in_part: bool,
+    pub ended: bool,
+    pub paired: bool,
 }
 
 impl Refusal {
@@ -132,7 +146,10 @@ impl Answer {
 
 /// Cuts a source of any length and bytes, in a room that holds everything.
 pub fn cut(source: &[u8], kind: Kind) -> Cut {
-    cut::tokens(source, kind)
+    match kind {
+        Kind::Standard => standard::tokens(source),
+        Kind::Plain | Kind::Paragraphs => cut::tokens(source, kind),
+    }
 }
 
 /// What a token room of so many words shows of a cutting.
@@ -162,7 +179,10 @@ fn answer(source: &[u8], kind: Kind, rooms: &Rooms, met: &mut Met) -> Result<Ans
         return Err(Refusal::at(9, first));
     }
     let header = header::walk(source, tokens, rooms)?;
-    let body = body::Body::read(source, tokens, &header.passed, kind, rooms, met)?;
+    let body = match kind {
+        Kind::Standard => standard_body::read(source, tokens, &header.passed, rooms, met)?,
+        _ => body::Body::read(source, tokens, &header.passed, kind, rooms, met)?,
+    };
     let fonts = header.fonts.iter().map(|(key, [place, length])| [*key, *place, *length]).collect();
     Ok(Answer {
         refusal: Refusal::default(),

@@ -2,11 +2,11 @@
 //! answer, whatever it is, from each build of the crate and from ours. No side judges another; the
 //! model says only which letters the crate has an answer for, and which rooms are small.
 
-use crate::judge::{BATCH, HEAD, JUNK};
 use crate::lent::{Call, Lent};
 use crate::outside::Outside;
 use crate::pairs::Pair;
 use crate::parts::{Differences, Judging};
+use crate::queue::{BATCH, HEAD, JUNK};
 use crate::seen::Seen;
 use crate::veil::{self, veil};
 use crate::{ours, report, small};
@@ -52,7 +52,7 @@ pub fn premise(letters: &Letters, kind: Kind) -> bool {
 }
 
 /// Whether two answers are the same to one who sees neither tokens nor the places of names.
-fn alike(one: &Whole, two: &Whole) -> bool {
+pub fn alike(one: &Whole, two: &Whole) -> bool {
     fn shown(document: &Document) -> impl PartialEq + '_ {
         (&document.fonts, &document.colours, &document.blocks, &document.text)
     }
@@ -218,7 +218,7 @@ impl Judge {
 }
 
 /// The letters in full, since what differs may stand anywhere.
-fn difference(side: &str, letters: &Letters, told: &[String; 2]) -> String {
+pub fn difference(side: &str, letters: &Letters, told: &[String; 2]) -> String {
     let [one, two] = letters.each_ref().map(|letter| letter.escape_ascii());
     format!("DIFFERENCE, {side}:\n  b\"{one}\"\n    {}\n  b\"{two}\"\n    {}", told[0], told[1])
 }

@@ -68,7 +68,7 @@ fn listed(judge: &mut Judge, seed: u64) {
     part(judge, "each place, telling letters", |judge| {
         for letter in read::telling().map(str::as_bytes) {
             for place in (0..=letter.len()).flat_map(|place| [place; FILLS]) {
-                let pair = pairs::with_holes(&mut random, letter, &[place]);
+                let pair = pairs::with_holes(&mut random, letter, &[place], &KINDS);
                 pair.iter().for_each(|pair| judge.pair(pair));
             }
         }
@@ -79,7 +79,7 @@ fn listed(judge: &mut Judge, seed: u64) {
                 // Most places are in a table: one before it is always reached.
                 let mut places = pairs::places(&mut random, letter);
                 places.insert(0, places[0].min(1));
-                let pair = pairs::with_holes(&mut random, letter, &places);
+                let pair = pairs::with_holes(&mut random, letter, &places, &KINDS);
                 pair.iter().for_each(|pair| judge.pair(pair));
             }
         });
@@ -96,7 +96,8 @@ fn drawn(judge: &mut Judge, seed: u64, count: usize) {
     for (name, tenths, letters) in SOURCES {
         let mut random = Random::new(seed ^ 0x41D_DE40 ^ tenths as u64);
         part(judge, name, |judge| {
-            (0..count * tenths / 10).for_each(|_| judge.pair(&pairs::draw(&mut random, letters)));
+            (0..count * tenths / 10)
+                .for_each(|_| judge.pair(&pairs::draw(&mut random, letters, &KINDS)));
         });
     }
 }

@@ -1,11 +1,11 @@
 //! One letter on all sides: the model against the crate, ours against the model.
 
-use crate::lent::{Call, Lent};
+use crate::lent::Call;
 use crate::outside::{agrees, Outside, Tallies};
 use crate::parts::{Differences, Judging};
+use crate::queue::{Queue, JUNK};
 use crate::seen::Seen;
-use crate::{ours, report, small};
-use common::bridge;
+use crate::{report, small};
 use common::mended::has_return;
 use common::oracle::{self, Reading};
 use common::random::Random;
@@ -14,26 +14,14 @@ use model::{Answer, Kind, Rooms, KINDS};
 /// One letter in so many is also read in small rooms, so many times.
 const SMALL_ROOMS: usize = 4;
 const TIMES: usize = 4;
-/// Bytes of calls that may wait; without the bridge nothing is gained by waiting.
-pub const BATCH: usize = if cfg!(bridge) { bridge::BATCH } else { 0 };
-/// Bytes of a request before its letter.
-pub const HEAD: usize = 32;
-/// Bits that all junk has, so that no byte of it is zero.
-pub const JUNK: u32 = 0x8101_0101;
 
 pub struct Judge {
     pub letters: u64,
-    pub calls: u64,
+    pub queue: Queue,
     pub seen: Seen,
     pub outside: Tallies,
     differences: Differences,
     random: Random,
-    lent: Lent,
-    /// Calls of our side that wait to be sent together, the answers expected, and the bytes of
-    /// the letters.
-    waiting: Vec<Call>,
-    expected: Vec<Answer>,
-    bytes: usize,
 }
 
 impl Judging for Judge {
@@ -48,14 +36,7 @@ impl Judging for Judge {
     }
 
     fn finish(&mut self) {
-        ours::send(&self.waiting);
-        let expected = std::mem::take(&mut self.expected);
-        for (call, expected) in std::mem::take(&mut self.waiting).iter().zip(&expected) {
-            if let Err(fault) = self.lent.made(call, expected) {
-                self.differences.found(call.number, || report::fault(call, expected, &fault));
-            }
-        }
-        self.bytes = 0;
+        self.queue.finish(&mut self.differences);
     }
 }
 
@@ -63,15 +44,11 @@ impl Judge {
     pub fn new(seed: u64) -> Self {
         Judge {
             letters: 0,
-            calls: 0,
+            queue: Queue::default(),
             seen: Seen::new(),
             outside: Tallies::default(),
             differences: Differences::default(),
             random: Random::new(seed),
-            lent: Lent::default(),
-            waiting: Vec::new(),
-            expected: Vec::new(),
-            bytes: 0,
         }
     }
 
@@ -162,19 +139,13 @@ impl Judge {
     }
 
     fn call(&mut self, letter: &[u8], kind: Kind, rooms: &Rooms, expected: Answer) {
-        self.calls += 1;
-        let bytes = letter.len() + HEAD;
-        if self.bytes + bytes > BATCH {
-            self.finish();
-        }
-        self.bytes += bytes;
-        self.waiting.push(Call {
+        let call = Call {
             number: self.letters,
             letter: letter.to_vec(),
             kind,
             rooms: *rooms,
             junk: self.random.draw() as u32 | JUNK,
-        });
-        self.expected.push(expected);
+        };
+        self.queue.put(call, expected, &mut self.differences);
     }
 }

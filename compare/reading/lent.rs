@@ -110,7 +110,7 @@ impl Lent {
 }
 
 /// Says where a room is not `front` and then zeros.
-fn wrong_element<T>(room: &[T], front: &[T]) -> Option<String>
+pub fn wrong_element<T>(room: &[T], front: &[T]) -> Option<String>
 where
     T: Copy + PartialEq + Default + std::fmt::Display,
 {

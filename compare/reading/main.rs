@@ -4,7 +4,9 @@
 //!   judge     one letter on all sides
 //!   hidden    the parts of a comparison of pairs; pairs, how they are drawn; veil, their premise
 //!   alike     one pair on each side
-//!   parts     what both comparisons share
+//!   standard  the parts of a comparison of standard reading; standard_judge, one letter or pair;
+//!             standard_seen, what they covered
+//!   parts     what the comparisons share; queue, calls that wait
 //!   outside   what 01 leaves out of the equality with the crate, and what the crate does there
 //!   small     rooms that may not hold the answer
 //!   lent      what is lent for a call, and what it must hold
@@ -22,10 +24,14 @@ mod ours;
 mod outside;
 mod pairs;
 mod parts;
+mod queue;
 mod read;
 mod report;
 mod seen;
 mod small;
+mod standard;
+mod standard_judge;
+mod standard_seen;
 mod vectors;
 mod veil;
 
@@ -34,7 +40,7 @@ use std::process::ExitCode;
 
 const USAGE: &str = "\
 modes: read [--model] [--seed N] [--count N] [--depth N], read-vectors FILE [--seed N] [--count N],
-hidden [--model] [--seed N] [--count N]";
+hidden [--model] [--seed N] [--count N], standard [--model] [--seed N] [--count N] [--depth N]";
 
 fn main() -> ExitCode {
     program::run(USAGE, mode)
@@ -48,6 +54,7 @@ fn mode(mode: &str, words: &[String]) -> Result<bool, String> {
             let [seed, count] = common::options(words, [("--seed", 1), ("--count", 300_000)])?;
             Ok(hidden::run(seed, count as usize))
         }
+        "standard" => Ok(standard::run(&Plan::of(words, 500_000, 3)?)),
         "read-vectors" => {
             let (path, words) = words.split_first().ok_or("no file")?;
             let [seed, count] = common::options(words, [("--seed", 1), ("--count", 300)])?;

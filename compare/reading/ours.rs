@@ -33,6 +33,7 @@ pub fn send(calls: &[Call]) {
         let function = match call.kind {
             Kind::Plain => bridge::PLAIN,
             Kind::Paragraphs => bridge::PARAGRAPHS,
+            Kind::Standard => bridge::STANDARD,
         };
         bridge::request(&mut requests, function, &call.letter, call.rooms, call.junk as u8);
     }
@@ -45,6 +46,7 @@ pub fn read(kind: Kind, source: &[u8], rooms: Slices) -> Numbers {
     match kind {
         Kind::Plain => library::read_plain(source, rooms),
         Kind::Paragraphs => library::read_paragraphs(source, rooms),
+        Kind::Standard => library::read_standard(source, rooms),
     }
 }
 
@@ -63,6 +65,40 @@ pub fn read(kind: Kind, source: &[u8], rooms: Slices) -> Numbers {
     }
     fill(text, &answer.text);
     answer.numbers()
+}
+
+/// Cuts a source of any length and bytes into a room of any size, for standard reading: refusal
+/// number, its place, token count.
+#[cfg(archive)]
+pub fn cut(source: &[u8], room: &mut [u32]) -> [u32; 3] {
+    library::cut(source, common::cut::STANDARD, room)
+}
+
+#[cfg(bridge)]
+pub fn cut(source: &[u8], room: &mut [u32]) -> [u32; 3] {
+    use common::{bridge, cut::STANDARD};
+    let junk = room.first().map_or(0, |word| *word as u8);
+    let mut request = Vec::new();
+    let sizes = [room.len(), STANDARD as usize, 0, 0, 0];
+    bridge::request(&mut request, bridge::CUT, source, sizes, junk);
+    bridge::send(&request);
+    let [refusal, place, tokens, ..] = bridge::receive([room, &mut [], &mut [], &mut []], &mut []);
+    [refusal, place, tokens]
+}
+
+#[cfg(not(any(archive, bridge)))]
+pub fn cut(source: &[u8], room: &mut [u32]) -> [u32; 3] {
+    let cut = model::cut(source, Kind::Standard);
+    match model::in_room(&cut, room.len()) {
+        Ok(tokens) => {
+            fill(room, tokens.as_flattened());
+            [0, 0, tokens.len() as u32]
+        }
+        Err(model::Refusal { number, place }) => {
+            fill(room, &[]);
+            [number, place, 0]
+        }
+    }
 }
 
 #[cfg(not(any(archive, bridge)))]

@@ -133,7 +133,7 @@ pub fn agrees(letter: &[u8], kind: Kind, answer: &Answer, whole: &Whole) -> bool
                 && answer.colours == document.colours
                 && match kind {
                     Kind::Plain => answer.blocks == document.blocks,
-                    Kind::Paragraphs => flush(&answer.blocks) == document.blocks,
+                    _ => flush(&answer.blocks) == document.blocks,
                 }
                 && answer.text == document.text
         }

@@ -4,7 +4,7 @@ use crate::veil;
 use common::cut::{NAMES, SOURCE_LIMIT};
 use common::random::Random;
 use common::{fragments, grammar, reading_grammar};
-use model::{Kind, KINDS};
+use model::Kind;
 
 /// What stands in a hole while it is not yet known whether the walk reaches it.
 const MARKER: &[u8] = b"{\\*\\hole}";
@@ -45,28 +45,35 @@ pub struct Pair {
 }
 
 /// A letter in parts: between each two stands a hole.
-struct Holed {
+struct Holed<'a> {
     parts: Vec<Vec<u8>>,
-    /// For each hole, whether the walk reaches it in both readings. The others hold the marker in
-    /// both letters.
+    /// For each hole, whether the walk reaches it in each of the readings. The others hold the
+    /// marker in both letters.
     reached: Vec<bool>,
+    kinds: &'a [Kind],
 }
 
 /// A pair from the first letter of `letters` that can have one, with holes at random.
-pub fn draw(random: &mut Random, letters: fn(&mut Random) -> Vec<u8>) -> Pair {
+pub fn draw(random: &mut Random, letters: fn(&mut Random) -> Vec<u8>, kinds: &[Kind]) -> Pair {
     loop {
         let letter = letters(random);
         let places = places(random, &letter);
-        if let Some(pair) = with_holes(random, &letter, &places) {
+        if let Some(pair) = with_holes(random, &letter, &places, kinds) {
             return pair;
         }
     }
 }
 
-/// A pair from a letter with holes at these places, ascending; none if the letter with its holes is
-/// not cut, if no hole is reached or if both letters come out the same.
-pub fn with_holes(random: &mut Random, letter: &[u8], places: &[usize]) -> Option<Pair> {
-    let holed = Holed::new(letter, places)?;
+/// A pair from a letter with holes at these places, ascending, whose premise holds in each of the
+/// readings; none if the letter with its holes is not cut, if no hole is reached or if both letters
+/// come out the same.
+pub fn with_holes(
+    random: &mut Random,
+    letter: &[u8],
+    places: &[usize],
+    kinds: &[Kind],
+) -> Option<Pair> {
+    let holed = Holed::new(letter, places, kinds)?;
     let holes = holed.reached.iter().filter(|reached| **reached).count();
     let room = SOURCE_LIMIT.checked_sub(holed.bytes())? / holes;
     let fills = [(); 2].map(|()| holed.fills(random, room));
@@ -75,16 +82,16 @@ pub fn with_holes(random: &mut Random, letter: &[u8], places: &[usize]) -> Optio
     (letters[0] != letters[1]).then_some(Pair { letters, holes, largest })
 }
 
-impl Holed {
-    fn new(letter: &[u8], places: &[usize]) -> Option<Holed> {
+impl<'a> Holed<'a> {
+    fn new(letter: &[u8], places: &[usize], kinds: &'a [Kind]) -> Option<Self> {
         let mut parts = Vec::new();
         let mut start = 0;
         for end in places.iter().copied().chain([letter.len()]) {
             parts.push(letter[start..end].to_vec());
             start = end;
         }
-        let mut holed = Holed { parts, reached: vec![true; places.len()] };
-        KINDS.into_iter().try_for_each(|kind| holed.find_reached(kind))?;
+        let mut holed = Holed { parts, reached: vec![true; places.len()], kinds };
+        kinds.iter().try_for_each(|kind| holed.find_reached(*kind))?;
         holed.reached.contains(&true).then_some(holed)
     }
 
@@ -113,7 +120,7 @@ impl Holed {
 
     fn fills(&self, random: &mut Random, room: usize) -> Vec<Vec<u8>> {
         let mut fill = |reached: &bool| match reached {
-            true => hidden_group(random, room),
+            true => hidden_group(random, room, self.kinds),
             false => MARKER.to_vec(),
         };
         self.reached.iter().map(|reached| fill(reached)).collect()
@@ -148,8 +155,14 @@ fn place(random: &mut Random, letter: &[u8]) -> usize {
 }
 
 /// A group that is hidden wherever the walk reaches it, of at most `room` bytes.
-fn hidden_group(random: &mut Random, room: usize) -> Vec<u8> {
-    let mut inside = [*random.pick(&FRONTS), *random.pick(&MARKS)].concat().into_bytes();
+fn hidden_group(random: &mut Random, room: usize, kinds: &[Kind]) -> Vec<u8> {
+    // Not each front is one in standard reading.
+    let mut inside = loop {
+        let inside = [*random.pick(&FRONTS), *random.pick(&MARKS)].concat().into_bytes();
+        if veil::is_hidden(&closed(&inside), kinds) {
+            break inside;
+        }
+    };
     let mut pieces = random.below(8);
     if random.once_in(200) {
         pieces += 40;
@@ -159,7 +172,7 @@ fn hidden_group(random: &mut Random, room: usize) -> Vec<u8> {
         let start = inside.len();
         secret(random, &mut inside);
         let more = closed(&inside);
-        if more.len() <= room && veil::is_hidden(&more) {
+        if more.len() <= room && veil::is_hidden(&more, kinds) {
             group = more;
         } else {
             inside.truncate(start);

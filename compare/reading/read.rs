@@ -27,7 +27,7 @@ pub fn run(plan: &Plan) -> bool {
         judge.outside.print();
     });
     judge.seen.print(HEADING, "model");
-    println!("calls: {}", judge.calls);
+    println!("calls: {}", judge.queue.calls);
     let differences = judge.differences().count;
     println!("{} letters compared, {differences} differences", judge.letters);
     differences == 0
@@ -90,7 +90,7 @@ fn faults_everywhere(sink: &mut letters::Sink) {
 }
 
 /// Refusals 1 and 2, and the longest letters that do not get them.
-fn outer_limits(sink: &mut letters::Sink) {
+pub fn outer_limits(sink: &mut letters::Sink) {
     for letter in telling() {
         for (place, byte) in [(0, 128), (letter.len() / 2, 200), (letter.len(), 255)] {
             let mut put = letter.as_bytes().to_vec();
@@ -161,7 +161,7 @@ fn behind_front(random: &mut Random, letter: Vec<u8>) -> Vec<u8> {
 }
 
 /// Mostly short: there each rule meets each other soonest.
-fn size(random: &mut Random) -> usize {
+pub fn size(random: &mut Random) -> usize {
     match random.below(10_000) {
         0..8_600 => random.between(2, 80),
         8_600..9_800 => random.between(80, 500),

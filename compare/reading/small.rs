@@ -3,14 +3,15 @@
 use common::random::Random;
 use model::{Answer, Rooms, BLOCKS, BLOCK_WORDS, TEXT, TOKENS, TOKEN_WORDS, WIDTHS};
 
-/// Rooms that hold everything, whatever the answer is: no byte gives more than one token, font,
-/// colour or byte of text, and no three bytes more than one block.
+/// Rooms that hold everything, whatever the answer is: no byte gives more than one token, font or
+/// colour, no two bytes more than three of text (`\_` does in standard reading), and no three bytes
+/// more than one block.
 pub fn ample(bytes: usize) -> Rooms {
     // More than the 256 that count.
     let fonts = bytes.min(260);
     let tokens = (bytes + 2) * TOKEN_WORDS - 1;
     let blocks = (bytes / 3 + 2) * BLOCK_WORDS + 5;
-    [tokens, fonts * 3 + 2, fonts + 1, blocks, bytes + 3]
+    [tokens, fonts * 3 + 2, fonts + 1, blocks, bytes + bytes / 2 + 3]
 }
 
 /// Rooms that hold the answer, often with little to spare for tokens, blocks and text. A table that
@@ -40,7 +41,8 @@ pub fn tight(random: &mut Random, answer: &Answer, bytes: usize) -> Rooms {
     rooms
 }
 
-fn around(random: &mut Random, enough: usize, width: usize) -> usize {
+/// Sizes around and below the one that is just enough.
+pub fn around(random: &mut Random, enough: usize, width: usize) -> usize {
     match random.below(6) {
         0 => 0,
         1 => random.below(width),

@@ -1,11 +1,11 @@
 //! The premise of a pair, told on the crate's tokens: both letters are cut, and are the same but
 //! for what stands in hidden groups that the header walk reaches and that a brace of their own
 //! closes. This walk shares no code with the model's. By paragraphs the tokens are others, and so
-//! may the hidden groups be.
+//! may the hidden groups be. For standard reading the crate has no tokens, and the model's are taken.
 
 use common::cut::{Cut, Told, CLOSE, IGNORABLE, LINE_BREAK, NAMES, OPEN, WORD};
 use common::oracle::{self, Reading};
-use model::{Kind, KINDS};
+use model::Kind;
 use std::ops::Range;
 
 /// A token without its places, and the bytes that these stand for; or a hidden group.
@@ -21,8 +21,12 @@ enum Group {
     Table,
 }
 
-/// The crate's tokens; none if it refuses the letter.
+/// The crate's tokens, or the model's; none if the letter is refused.
 pub fn tokens(letter: &[u8], kind: Kind) -> Option<Vec<Told>> {
+    if kind == Kind::Standard {
+        let tokens = model::cut(letter, kind).ok()?;
+        return Some(tokens.iter().filter_map(|token| token.first_chunk().copied()).collect());
+    }
     let text = std::str::from_utf8(letter).ok()?;
     match oracle::wrapping_reading(text, kind == Kind::Paragraphs) {
         Reading::Answered(Cut::Tokens(tokens)) => Some(tokens),
@@ -48,10 +52,10 @@ fn step<'a>(letter: &'a [u8], &[kind, word, present, number, place, length]: &To
     Step::Token([kind, word, present, number], &letter[place as usize..][..length as usize])
 }
 
-/// Whether a group, alone, is hidden and closed by its last byte, in both readings.
-pub fn is_hidden(group: &[u8]) -> bool {
-    KINDS.into_iter().all(|kind| {
-        tokens(group, kind).is_some_and(|tokens| hidden_groups(&tokens) == [0..tokens.len()])
+/// Whether a group, alone, is hidden and closed by its last byte, in each of the readings.
+pub fn is_hidden(group: &[u8], kinds: &[Kind]) -> bool {
+    kinds.iter().all(|kind| {
+        tokens(group, *kind).is_some_and(|tokens| hidden_groups(&tokens) == [0..tokens.len()])
     })
 }
 

@@ -27,10 +27,15 @@ pub const MOST_SOURCE: usize = 65_536;
 pub const MOST_FONTS: usize = 256;
 /// No more colours are read.
 pub const MOST_COLOURS: usize = 256;
+/// No letter has more bytes of text.
+pub const MOST_TEXT: usize = 98_304;
 
-/// Kind (0 text, 1 open, 2 close, 3 line break, 4 ignorable, 5 word), word number, 1 if a number is
-/// present, that number modulo 2^32, source place and length (of a text or an unknown word), source
-/// place and length of the slice that the token was cut from.
+/// Kind (0 text, 1 open, 2 close, 3 line break, 4 ignorable, 5 word, 6 symbol), word number, 1 if a
+/// number is present, that number modulo 2^32, source place and length (of a text or an unknown
+/// word), source place and length of the slice that the token was cut from.
+///
+/// Kind 6 is of [`Reading::Standard`] alone: the byte behind the backslash stands in place of the
+/// word number. `\'hh` is byte 39 with a number, the byte that `hh` says; no other symbol has one.
 pub type Token = [u32; TOKEN_WORDS];
 
 /// Key, source place and length of the name.
@@ -88,7 +93,7 @@ refusals! {
     HexBad = 4,
     /// A word's number is no 32-bit signed decimal.
     NumberBad = 5,
-    /// The last slice is not `}` alone.
+    /// The last slice is not `}` alone; in standard reading: the last token is no closing bracket.
     LastSlice = 6,
     /// There are more tokens than the room holds.
     TokenRoom = 7,
@@ -104,7 +109,7 @@ refusals! {
     NumberField = 12,
     /// `\*` in the body.
     IgnorableInBody = 13,
-    /// A bracket closed, a word or text with no state left.
+    /// A bracket closed, a word, symbol or text with no state left.
     NoState = 14,
     /// `\sl-2147483648` in the body.
     LineSpacing = 15,
@@ -173,7 +178,10 @@ pub struct Refused {
     ///
     /// A slice starts where the letter does, and at each `{`, `}`, `\` and line feed that has no
     /// `\` before it; by paragraphs, at no line feed that is directly behind the `\` and carriage
-    /// return of a line break. So the text behind a bracket belongs to the bracket's slice.
+    /// return of a line break. In standard reading one starts at each `{`, `}`, `\`, carriage return
+    /// and line feed, but not right behind the `\` that starts a slice, nor at a line feed right
+    /// behind such a `\` and a carriage return. So the text behind a bracket belongs to the bracket's
+    /// slice.
     pub place: usize,
 }
 
@@ -246,6 +254,11 @@ mod exported {
             fonts: *mut u32, fonts_len: usize, colours: *mut u32, colours_len: usize,
             blocks: *mut u32, blocks_len: usize, text: *mut u8, text_len: usize,
         ) -> ReadAnswer;
+        pub fn elduvarn_read_standard(
+            source: *const u8, source_len: usize, tokens: *mut u32, tokens_len: usize,
+            fonts: *mut u32, fonts_len: usize, colours: *mut u32, colours_len: usize,
+            blocks: *mut u32, blocks_len: usize, text: *mut u8, text_len: usize,
+        ) -> ReadAnswer;
         pub fn elduvarn_stored_check(list: *const u8, list_len: usize) -> u32;
         pub fn elduvarn_stored_read(
             list: *const u8, list_len: usize, blocks: *mut u32, blocks_len: usize,
@@ -258,7 +271,7 @@ mod exported {
     }
 }
 
-/// What becomes of `\` and a carriage return, of `\par`, and of the indents `\li`, `\ri` and `\fi`.
+/// By which rules a letter is cut and read.
 #[repr(u32)]
 #[derive(Clone, Copy, Debug, PartialEq, Eq, Hash)]
 pub enum Reading {
@@ -269,6 +282,11 @@ pub enum Reading {
     /// directly behind belongs, and text; each `\par` adds a line feed to the text, and indents are
     /// set.
     Paragraphs = 1,
+    /// By the RTF 1.9.1 specification: a word is letters, a number or none, and one space or none;
+    /// symbols and hex escapes are tokens of kind 6; behind each `\u` the next characters are passed
+    /// over, as many as `\uc` says; any number but 0 turns a flag on; `\par` adds a line feed, and
+    /// indents are set. What it leaves out is in docs/DIFFERENCES.md.
+    Standard = 2,
 }
 
 impl Reading {
@@ -299,7 +317,8 @@ pub fn cut<'a>(
     Ok(&tokens[..answer.tokens as usize])
 }
 
-/// What is lent to [`read`]. A letter of n bytes has at most n tokens, n blocks, n bytes of text.
+/// What is lent to [`read`]. A letter of n bytes has at most n tokens, n blocks and n bytes of text;
+/// in standard reading 3 * n / 2 bytes of text, as `\_` gives three bytes for two.
 pub struct Rooms<'a> {
     /// For tokens.
     pub tokens: &'a mut [Token],
@@ -309,7 +328,7 @@ pub struct Rooms<'a> {
     pub colours: &'a mut [Colour],
     /// For blocks.
     pub blocks: &'a mut [Block],
-    /// For the text of the blocks.
+    /// For the text of the blocks; [`MOST_TEXT`] bytes are enough.
     pub text: &'a mut [u8],
 }
 
@@ -344,6 +363,7 @@ pub fn read<'a>(
     let by = match reading {
         Reading::Plain => exported::elduvarn_read_plain,
         Reading::Paragraphs => exported::elduvarn_read_paragraphs,
+        Reading::Standard => exported::elduvarn_read_standard,
     };
     // SAFETY: all are slices, so not null, aligned, and of that many elements; the rooms are
     // borrowed for writing, so each overlaps nothing.

@@ -3,12 +3,12 @@
 //!     test          makes all calls; the last line counts them
 //!     test names    lists the refusals by number and name
 //!
-//! Exit status: 0 all passed, 1 not. Expected answers are read off document 01, requests A2 and A5
-//! and docs/REFUSALS.md. What happens at the borders of a room is tested by ../test.c.
+//! Exit status: 0 all passed, 1 not. Expected answers are read off document 01, requests A1, A2 and
+//! A5 and docs/REFUSALS.md. What happens at the borders of a room is tested by ../test.c.
 
 use elduvarn::{
     cut, read, stored, Block, Colour, Font, Letter, Reading, Refusal, Refused, Rooms, Token,
-    BLOCK_WORDS, FONT_WORDS, MOST_COLOURS, MOST_FONTS, MOST_SOURCE, TOKEN_WORDS,
+    BLOCK_WORDS, FONT_WORDS, MOST_COLOURS, MOST_FONTS, MOST_SOURCE, MOST_TEXT, TOKEN_WORDS,
 };
 use std::fmt::Debug;
 use std::process::ExitCode;
@@ -72,6 +72,7 @@ impl Lent {
     }
 }
 
+/// Those of 01.
 const READINGS: [Reading; 2] = [Reading::Plain, Reading::Paragraphs];
 const AMPLE: [usize; 5] = [100, 20, 20, 20, 100];
 const NONE: [usize; 5] = [0; 5];
@@ -110,6 +111,29 @@ const LETTERS: &[Known] = &[
     (r"{\rtf1 a\b b}", [6, 0, 0, 2], "ab", "ab"),
 ];
 
+/// Letters in standard reading: their tokens, blocks and text.
+const STANDARD: &[(&str, usize, usize, &str)] = &[
+    (r"{}", 2, 0, ""),
+    (r"{ }", 3, 1, " "),
+    (r"{\u8217?}", 4, 1, "\u{2019}"),
+    (r"{\u8212 ?}", 4, 1, "\u{2014}"),
+    (r"{\u8212\'97b}", 5, 1, "\u{2014}b"),
+    (r"{\u65\f-1\u66\*\u67\ a}", 9, 1, "ABCa"),
+    (r"{\uc2\u8217??a}", 5, 1, "\u{2019}a"),
+    (r"{\uc2\u8217{?b}}", 7, 1, "\u{2019}?b"),
+    (r"{\u-10179?\u-8704?}", 6, 1, "\u{1f600}"),
+    (r"{\u-10179?\b\u-8704?}", 7, 2, "\u{fffd}\u{fffd}"),
+    (r"{\b2 a}", 4, 1, "a"),
+    (r"{a\~b}", 5, 1, "a\u{a0}b"),
+    (r"{\_\-}", 4, 1, "\u{2011}\u{ad}"),
+    (r"{\'80}", 3, 1, "\u{20ac}"),
+    (r"{\'81}", 3, 1, "\u{fffd}"),
+    (r"{\'e9\'e8}", 4, 1, "\u{e9}\u{e8}"),
+    (r"{\\{a}}", 6, 1, r"\a"),
+    (r"{a\par b}", 5, 1, "a\nb"),
+    ("{a\r\nb\\\r\n c\\\nd}", 8, 1, "ab\n c\nd"),
+];
+
 /// Refusals for a room that is too small, in the order of rooms.
 const SMALL: [Refusal; 5] = [
     Refusal::TokenRoom,
@@ -125,11 +149,15 @@ fn sizes(letter: Letter<'_>) -> [usize; 5] {
 }
 
 /// In rooms of just enough, in ample ones, and each of them in turn one too small.
-fn reads(counts: &mut Counts, known: &Known, reading: Reading) {
-    let &(source, [tokens, fonts, colours, blocks], plain, paragraphs) = known;
-    let text = if reading == Reading::Plain { plain } else { paragraphs };
+fn reads(
+    counts: &mut Counts,
+    source: &str,
+    [tokens, fonts, colours, blocks]: [usize; 4],
+    text: &str,
+    reading: Reading,
+) {
     let enough = [tokens, fonts, colours, blocks, text.len()];
-    let what = format!("{reading:?} reading of {source}");
+    let what = format!("{reading:?} reading of {}", source.escape_default());
     for room in [enough, AMPLE] {
         let mut lent = Lent::of(room);
         let is = read(source.as_bytes(), reading, &mut lent.rooms())
@@ -212,12 +240,43 @@ fn test_refusals(counts: &mut Counts) {
         }
     }
     refuses(counts, b"", Reading::Plain, NONE, at(Refusal::NoTokens, 0));
+    let standard: &[(&[u8], Refusal, usize)] = &[
+        (&too_long, Refusal::SourceTooLong, 0),
+        (b"\x80", Refusal::NotAscii, 0),
+        (br"{a\'e}", Refusal::HexShort, 2),
+        (b"{\\'8\r0}", Refusal::HexShort, 1),
+        (br"{\'zz}", Refusal::HexBad, 1),
+        (br"{\rtf1 hello\b2147483648}", Refusal::NumberBad, 12),
+        // 3 to 5 come before 6, in the last slice too.
+        (br"{a}\'8", Refusal::HexShort, 3),
+        (br"{a\'zz", Refusal::HexBad, 2),
+        (br"{a}\b2147483648", Refusal::NumberBad, 3),
+        (b"a", Refusal::LastSlice, 0),
+        (br"{a}b", Refusal::LastSlice, 2),
+        (br"{\}", Refusal::LastSlice, 1),
+        (br"{a}\~", Refusal::LastSlice, 3),
+        (b"{}\\\r\n", Refusal::LastSlice, 2),
+        (b"", Refusal::NoTokens, 0),
+        (br"\a-}", Refusal::FirstToken, 0),
+        (b"{\\\r\n\\fonttbl}", Refusal::TableLineBreak, 4),
+        (br"{a\f-1}", Refusal::NumberField, 2),
+        (br"{a\*}", Refusal::IgnorableInBody, 2),
+        (br"{}}\~}", Refusal::NoState, 3),
+        (br"{\sl-2147483648}", Refusal::LineSpacing, 1),
+        (too_deep_later.as_bytes(), Refusal::TooDeep, 64),
+    ];
+    for &(source, refusal, place) in standard {
+        refuses(counts, source, Reading::Standard, AMPLE, at(refusal, place));
+    }
 }
 
 fn test_read(counts: &mut Counts) {
-    for known in LETTERS {
-        reads(counts, known, Reading::Plain);
-        reads(counts, known, Reading::Paragraphs);
+    for &(source, sizes, plain, paragraphs) in LETTERS {
+        reads(counts, source, sizes, plain, Reading::Plain);
+        reads(counts, source, sizes, paragraphs, Reading::Paragraphs);
+    }
+    for &(source, tokens, blocks, text) in STANDARD {
+        reads(counts, source, [tokens, 0, 0, blocks], text, Reading::Standard);
     }
     let mut lent = Lent::of(AMPLE);
     let mut rooms = lent.rooms();
@@ -238,9 +297,37 @@ fn test_read(counts: &mut Counts) {
     let mut lent = Lent::of([3, 0, 0, 1, MOST_SOURCE - 2]);
     let longest = read(&letter, Reading::Plain, &mut lent.rooms()).map(sizes);
     counts.check("the longest letter", longest, Ok([3, 0, 0, 1, MOST_SOURCE - 2]));
+    test_longest_text(counts);
+    test_flags(counts);
 }
 
-/// Letters of one style but for indents: their blocks by paragraphs; read plainly, one block.
+/// Any number but 0 turns a flag on in standard reading; a name is lower case.
+fn test_flags(counts: &mut Counts) {
+    let mut lent = Lent::of(AMPLE);
+    let mut rooms = lent.rooms();
+    let letters = [(br"{\b2 a}", 1), (br"{\i-1a}", 2), (br"{\i0 a}", 0), (br"{\B1 a}", 0)];
+    for (source, flags) in letters {
+        let what = format!("flags of {}", source.escape_ascii());
+        let is = read(source, Reading::Standard, &mut rooms).map(|letter| letter.blocks);
+        counts.check(&what, is, Ok(&[block(flags, 0, 1)][..]));
+    }
+}
+
+/// Three bytes of text for each two of the letter, in the room that holds any letter's text.
+fn test_longest_text(counts: &mut Counts) {
+    let pairs = MOST_SOURCE / 2 - 1;
+    let letter = "{".to_owned() + &r"\_".repeat(pairs) + "}";
+    let mut lent = Lent::of([pairs + 2, 0, 0, 1, MOST_TEXT]);
+    let mut rooms = lent.rooms();
+    let longest = read(letter.as_bytes(), Reading::Standard, &mut rooms);
+    let text = longest.map(|letter| letter.text_str() == Ok(&"\u{2011}".repeat(pairs)));
+    counts.check("the longest text", text, Ok(true));
+    let room = [pairs + 2, 0, 0, 1, 3 * pairs - 1];
+    refuses(counts, letter.as_bytes(), Reading::Standard, room, at(Refusal::TextRoom, 0));
+}
+
+/// Letters of one style but for indents: their blocks by paragraphs and in standard reading; read
+/// plainly, one block.
 fn test_indents(counts: &mut Counts, rooms: &mut Rooms<'_>) {
     let letters: &[(&str, &[Block])] = &[
         (r"{\li720\ri-360\fi15 a}", &[indented([720, -360, 15], 0, 1)]),
@@ -252,8 +339,11 @@ fn test_indents(counts: &mut Counts, rooms: &mut Rooms<'_>) {
     ];
     for &(source, blocks) in letters {
         let length = blocks.iter().map(|block| block[BLOCK_WORDS - 1]).sum();
-        let readings =
-            [(Reading::Plain, &[block(0, 0, length)] as &[Block]), (Reading::Paragraphs, blocks)];
+        let readings = [
+            (Reading::Plain, &[block(0, 0, length)] as &[Block]),
+            (Reading::Paragraphs, blocks),
+            (Reading::Standard, blocks),
+        ];
         for (reading, blocks) in readings {
             let what = format!("{reading:?} reading of {source}, its blocks");
             let is = read(source.as_bytes(), reading, rooms).map(|letter| letter.blocks);
@@ -328,6 +418,7 @@ fn test_cut(counts: &mut Counts) {
         }
     }
     test_returns_cut(counts);
+    test_standard_cut(counts);
 }
 
 /// A line break of a backslash, a carriage return and a line feed is one slice with its tail.
@@ -340,6 +431,47 @@ fn test_returns_cut(counts: &mut Counts) {
     counts.check("a return, plain", cut(letter, Reading::Plain, &mut room), Ok(&plain[..]));
     let is = cut(letter, Reading::Paragraphs, &mut room);
     counts.check("a return, by paragraphs", is, Ok(&paragraphs[..]));
+    let is = cut(letter, Reading::Standard, &mut room);
+    counts.check("a return, in standard reading", is, Ok(&paragraphs[..]));
+}
+
+/// Tokens of standard reading: symbols, a hex escape, a word with its text.
+fn test_standard_cut(counts: &mut Counts) {
+    let letter = br"{\~ a\'80\u8217?\\{}}";
+    let should = [
+        [1, 0, 0, 0, 0, 0, 0, 1],
+        [6, 126, 0, 0, 0, 0, 1, 4],
+        [0, 0, 0, 0, 3, 2, 1, 4],
+        [6, 39, 1, 128, 0, 0, 5, 4],
+        [5, 2, 1, 8217, 0, 0, 9, 7],
+        [0, 0, 0, 0, 15, 1, 9, 7],
+        [0, 0, 0, 0, 17, 1, 16, 2],
+        [1, 0, 0, 0, 0, 0, 18, 1],
+        [2, 0, 0, 0, 0, 0, 19, 1],
+        [2, 0, 0, 0, 0, 0, 20, 1],
+    ];
+    for size in [0, 9, 10, 12] {
+        let mut room = vec![[9; TOKEN_WORDS]; size];
+        let fits = size >= should.len();
+        let told = if fits { Ok(&should[..]) } else { Err(at(Refusal::TokenRoom, 0)) };
+        let what = format!("Standard cutting in a room of {size}");
+        counts.check(&what, cut(letter, Reading::Standard, &mut room), told);
+        let used = if fits { should.len() } else { 0 };
+        let zero = room[used..].iter().flatten().all(|&word| word == 0);
+        counts.check(&format!("{what}, behind the tokens"), zero, true);
+    }
+    let mut room = [[9; TOKEN_WORDS]; 3];
+    for (source, refused) in [
+        (br"{\'8}a".as_slice(), at(Refusal::HexShort, 1)),
+        (br"{a}\'zz", at(Refusal::HexBad, 3)),
+        (br"{a}\b2147483648", at(Refusal::NumberBad, 3)),
+        (br"{a\", at(Refusal::LastSlice, 2)),
+    ] {
+        let what = format!("Standard cutting of {}", source.escape_ascii());
+        counts.check(&what, cut(source, Reading::Standard, &mut room), Err(refused));
+        counts.check("its room", room, [[0; TOKEN_WORDS]; 3]);
+        room = [[9; TOKEN_WORDS]; 3];
+    }
 }
 
 /// The sample listing, and its list.
@@ -427,19 +559,25 @@ fn test_indent_not_zero(counts: &mut Counts) {
     }
 }
 
-/// A letter is read, stored, checked and read back.
+/// A letter is read, stored, checked and read back. In standard reading the space behind the hex
+/// escape stays, and the `d` behind the dash is passed over.
 fn test_round_trip(counts: &mut Counts) {
+    let paragraphs = "Caf\u{e9}bold both\n\u{2014}dash coloured";
+    round_trip(counts, Reading::Paragraphs, paragraphs);
+    round_trip(counts, Reading::Standard, "Caf\u{e9} bold both\n\u{2014}ash coloured");
+}
+
+fn round_trip(counts: &mut Counts, reading: Reading, shown: &str) {
     let source = concat!(
         r"{\rtf1{\fonttbl{\f0 Helvetica;}}\fs24 Caf\'e9 {\b bold\i  both}\par ",
         r"\pard\qj\sb120\sa-120\sl-276\slmul1 \u8212 dash\cf2  coloured}",
     );
     let mut lent = Lent::of([source.len(), MOST_FONTS, MOST_COLOURS, source.len(), source.len()]);
     let mut rooms = lent.rooms();
-    let letter = match read(source.as_bytes(), Reading::Paragraphs, &mut rooms) {
+    let letter = match read(source.as_bytes(), reading, &mut rooms) {
         Ok(letter) => letter,
         Err(refusal) => return counts.check("the letter", Err(refusal), Ok(())),
     };
-    let shown = "Caf\u{e9}bold both\n\u{2014}dash coloured";
     counts.check("its text", letter.text_str(), Ok(shown));
     counts.check("its blocks", letter.blocks.len(), 6);
     let mut room = vec![9; stored::most(letter.blocks.len(), letter.text.len())];
@@ -478,9 +616,11 @@ fn test_header(counts: &mut Counts) {
         ("MostSource", MOST_SOURCE),
         ("MostFonts", MOST_FONTS),
         ("MostColours", MOST_COLOURS),
+        ("MostText", MOST_TEXT),
     ];
     ours.extend(sizes.map(|(name, size)| (name.to_owned(), size as u32)));
-    ours.extend(READINGS.map(|reading| (format!("{reading:?}"), reading.number())));
+    let readings = [Reading::Plain, Reading::Paragraphs, Reading::Standard];
+    ours.extend(readings.map(|reading| (format!("{reading:?}"), reading.number())));
     counts.check("what the header declares", ours, header);
 }
 

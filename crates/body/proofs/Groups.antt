@@ -12,7 +12,7 @@ use borrow.Author.Tests.{ltb-true, ltb-false, ne-eqb, eqb-true, eqb-false}
 use lib.ListN.{getD}
 use lib.Dec.{eqb, ltb}
 use Rattle.readings.specs.declared.Reading.{Reading}
-use Rattle.tokens.specs.declared.item.Item.the-variants.{Text, Closing, LineBreak, Ignorable, Word, Unknown}
+use Rattle.tokens.specs.declared.item.Item.the-variants.{Text, Closing, LineBreak, Ignorable, Word, Unknown, Symbol}
 use Rattle.tokens.specs.Tokens.{Shown, Token, sliceOf, shownIn, tokenWords, shownBy}
 use Rattle.tokens.specs.Tokens
 use Rattle.tokens.specs.Items.{itemAt, itemOf, numberAt, shownOf, shownAll, sliceAt, tokenAt}
@@ -66,16 +66,17 @@ module _ (src ws : List ℕ) (n : ℕ) where
 module _ (src ws : List ℕ) (ts : List Shown) where
   pub passed-none : (getD ws 0 0 ≡ 1 → ⊥) → 0 ≡ passedBy (shownOf src (itemAt ws)) ts
   unfolding itemAt itemOf
-  passed-none n = rw (ne-eqb (getD ws 0 0) 1 n) (go (eqb (getD ws 0 0) 2) (eqb (getD ws 0 0) 3) (eqb (getD ws 0 0) 4) (eqb (getD ws 0 0) 5) (eqb (getD ws 1 0) 49))
+  passed-none n = rw (ne-eqb (getD ws 0 0) 1 n) (go (eqb (getD ws 0 0) 2) (eqb (getD ws 0 0) 3) (eqb (getD ws 0 0) 4) (eqb (getD ws 0 0) 5) (eqb (getD ws 1 0) 49) (eqb (getD ws 0 0) 6))
     where
-      go : (b c d e u : Bool)
-          → 0 ≡ passedBy (shownOf src (cond b Closing (cond c LineBreak (cond d Ignorable (cond e (cond u (Unknown (getD ws 4 0) (getD ws 5 0) (numberAt ws)) (Word (getD ws 1 0) (numberAt ws))) (Text (getD ws 4 0) (getD ws 5 0))))))) ts
-      go true c d e u = refl
-      go false true d e u = refl
-      go false false true e u = refl
-      go false false false true true = refl
-      go false false false true false = refl
-      go false false false false u = refl
+      go : (b c d e u f : Bool)
+          → 0 ≡ passedBy (shownOf src (cond b Closing (cond c LineBreak (cond d Ignorable (cond e (cond u (Unknown (getD ws 4 0) (getD ws 5 0) (numberAt ws)) (Word (getD ws 1 0) (numberAt ws))) (cond f (Symbol (getD ws 1 0) (numberAt ws)) (Text (getD ws 4 0) (getD ws 5 0)))))))) ts
+      go true c d e u f = refl
+      go false true d e u f = refl
+      go false false true e u f = refl
+      go false false false true true f = refl
+      go false false false true false f = refl
+      go false false false false u true = refl
+      go false false false false u false = refl
 
   -- where some are passed over, the first is an opening bracket
   pub passed-open : {h : ℕ} → h ≡ passedBy (shownOf src (itemAt ws)) ts → 0 < h → getD ws 0 0 ≡ 1
@@ -126,6 +127,7 @@ module _ (rd : Reading) where
   act-parts (Shown.text p bs) t ts z e = absurd (omega arith)
   act-parts (Shown.word w num) t ts z e = absurd (omega arith)
   act-parts (Shown.unknown p bs num) t ts z e = absurd (omega arith)
+  act-parts (Shown.symbol b num) t ts z e = absurd (omega arith)
 
   act-kept : (x : Shown) (t : Token) (ts : List Token) {h : ℕ} → h ≤ 0 → h ≡ passedBy x (shownBy ts) → at (sliceOf t) (tokenDeed rd (shownIn t)) ≡ actOf rd (stepBy x t ts)
   act-kept Shown.opening t ts z e = entered-kept t ts (rw e at z)
@@ -135,6 +137,7 @@ module _ (rd : Reading) where
   act-kept (Shown.text p bs) t ts z e = refl
   act-kept (Shown.word w num) t ts z e = refl
   act-kept (Shown.unknown p bs num) t ts z e = refl
+  act-kept (Shown.symbol b num) t ts z e = refl
 
 -- the act of the token that words start with: what is passed over has no place
 module _ (rd : Reading) (src ws : List ℕ) where

@@ -1,5 +1,6 @@
 // The body (01, Body; `Parser::parse` in the crate): the tokens that the header walk leaves become blocks and text in two lent
-// rooms, by one machine: a stack of 64 states, the run of units under way, the page, one token at a time.
+// rooms, by one machine: a stack of 64 states, the run of units under way, the characters still to be
+// passed over, the page, one token at a time.
 //
 // What one token does is said in `deeds`; `group` tells what of the tokens the walk passes over.
 //
@@ -16,6 +17,7 @@ use blocks::PAGE_WORDS;
 use blocks::Page;
 use blocks::Room;
 use blocks::TEXT;
+use deeds::passing::owed_behind;
 use deeds::stack::Moved;
 use deeds::turn;
 use readings::Reading;
@@ -81,16 +83,19 @@ pub fn lay_body(
     states[0] = State::fresh().row();
     let mut depth: usize = 1;
     let mut run = [0u32; RUN_WORDS];
+    let mut owed: usize = 0;
     let mut page = [0usize; PAGE_WORDS];
     let mut t = tokens;
     let mut n = count;
     while 0 < n {
         let h = passed(t, n);
+        let behind = owed_behind(source, reading, t, &states, depth, owed);
         let moved = turn(
             source,
             reading,
             t,
             h,
+            owed,
             &mut states,
             depth,
             &mut run,
@@ -98,6 +103,7 @@ pub fn lay_body(
             blocks,
             text,
         );
+        owed = behind;
         let here = t;
         let at = (h + 1) * TOKEN_WORDS;
         t = &t[at..];

@@ -1,10 +1,10 @@
--- Bytes: 01's classes of bytes, and runs of a class at the two ends of a list. Assumes nothing: these are definitions.
+-- Bytes: 01's classes of bytes, and those of 02, and runs of a class at the two ends of a list. Assumes nothing: these are definitions.
 use Prim.Native.Nat.{ℕ, zero, suc}
 use mathlib.Core.List.{List, [], _∷_}
 use mathlib.Core.Bool.{Bool, true, false, cond, not, _&&_, _||_}
 use lib.Dec.{leb, ltb, eqb}
 use Rattle.bytes.specs.declared.Class.{Class}
-use Rattle.bytes.specs.declared.Class.the-variants.{White, WordEnd, InWord, Space, Numeral, Semicolon}
+use Rattle.bytes.specs.declared.Class.the-variants.{White, WordEnd, InWord, Space, Numeral, Semicolon, Alpha, Digit}
 
 -- "White space is bytes 9 to 13 and 32."
 abbrev pub isWhite : ℕ → Bool
@@ -26,6 +26,10 @@ isSpecial b = eqb b 92 || (eqb b 123 || (eqb b 125 || eqb b 10))
 abbrev pub isLetter : ℕ → Bool
 isLetter b = leb 97 b && leb b 122
 
+-- 02, A1: "letters (a to z, A to Z)"
+abbrev pub isAlpha : ℕ → Bool
+isAlpha b = isLetter b || (leb 65 b && leb b 90)
+
 -- the classes by name
 abbrev pub inClass : Class → ℕ → Bool
 inClass White b = isWhite b
@@ -34,6 +38,8 @@ inClass InWord b = not (endsWord b)
 inClass Space b = eqb b 32
 inClass Numeral b = isNumeral b
 inClass Semicolon b = eqb b 59
+inClass Alpha b = isAlpha b
+inClass Digit b = leb 48 b && leb b 57
 
 -- how many bytes that pass a test stand in front
 unfoldable pub lead : (ℕ → Bool) → List ℕ → ℕ

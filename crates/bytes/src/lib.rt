@@ -9,7 +9,7 @@
 ghost use mathlib.Core.Path.{_≡_};
 ghost use Prim.Native.Nat.{_≤_};
 ghost use lib.ListN.{length};
-ghost use Rattle.bytes.specs.Bytes.{isWhite, endsWord, isNumeral, isSpecial, isLetter, isHigh, inClass, any, lead, body};
+ghost use Rattle.bytes.specs.Bytes.{isWhite, endsWord, isNumeral, isSpecial, isLetter, isAlpha, isHigh, inClass, any, lead, body};
 
 pub enum Class {
     // 9 to 13 and 32
@@ -24,6 +24,10 @@ pub enum Class {
     Numeral,
     // 59 alone
     Semicolon,
+    // a to z and A to Z
+    Alpha,
+    // 0 to 9
+    Digit,
 }
 
 // White space, as the crate's `str::trim` takes it.
@@ -58,6 +62,12 @@ pub fn is_letter(b: u8) -> bool
     (b'a' <= b) & (b <= b'z')
 }
 
+pub fn is_alpha(b: u8) -> bool
+    ensures { λ r. ⌜ r ≡ isAlpha b ⌝ }
+{
+    is_letter(b) | ((b'A' <= b) & (b <= b'Z'))
+}
+
 fn is_in(b: u8, class: Class) -> bool
     ensures { λ r. ⌜ r ≡ inClass class b ⌝ }
 {
@@ -68,6 +78,8 @@ fn is_in(b: u8, class: Class) -> bool
         Class::Space => b == 32,
         Class::Numeral => is_numeral(b),
         Class::Semicolon => b == b';',
+        Class::Alpha => is_alpha(b),
+        Class::Digit => (b'0' <= b) & (b <= b'9'),
     }
 }
 

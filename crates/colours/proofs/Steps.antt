@@ -23,7 +23,7 @@ use Rattle.rooms.specs.Rooms.{tableLimit}
 use Rattle.tokens.specs.declared.Property.{Property}
 use Rattle.tokens.specs.Tokens.{Token, valueOf, tokenWords}
 use Rattle.tokens.specs.declared.item.Item.{Item}
-use Rattle.tokens.specs.declared.item.Item.the-variants.{Text, Opening, Closing, LineBreak, Ignorable, Word, Unknown}
+use Rattle.tokens.specs.declared.item.Item.the-variants.{Text, Opening, Closing, LineBreak, Ignorable, Word, Unknown, Symbol}
 use Rattle.tokens.specs.Items.{itemAt, shownOf, sliceAt, tokensAll}
 use Rattle.tokens.proofs.Items.{rest, words-less, tokens-none, tokens-some}
 use Rattle.colours.specs.declared.Colour.{Colour}
@@ -98,6 +98,7 @@ effect-token limit src Closing cs c = refl
 effect-token limit src LineBreak cs c = refl
 effect-token limit src Ignorable cs c = refl
 effect-token limit src (Unknown p n num) cs c = refl
+effect-token limit src (Symbol b num) cs c = refl
 
 abbrev SmallEffect : Effect → Type 0
 SmallEffect (Set c) = Small c
@@ -130,6 +131,7 @@ effect-small Closing c s = s
 effect-small LineBreak c s = s
 effect-small Ignorable c s = s
 effect-small (Unknown p n num) c s = s
+effect-small (Symbol b num) c s = s
 
 -- the colours so far are the room's first k words
 abbrev state : List ℕ → ℕ → Colour → Found Colours

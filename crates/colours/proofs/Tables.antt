@@ -117,6 +117,7 @@ sound-token limit Shown.closing s h = h
 sound-token limit Shown.lineBreak s h = h
 sound-token limit Shown.ignorable s h = h
 sound-token limit (Shown.unknown p bs num) s h = h
+sound-token limit (Shown.symbol b num) s h = h
 
 pub sound-from : (limit : ℕ) (x : Found Colours) (ts : List Token) → SoundIf limit x → SoundIf limit (coloursFrom limit x ts)
 unfolding coloursFrom

@@ -72,6 +72,7 @@ colourToken limit Shown.closing s = becomes s
 colourToken limit Shown.lineBreak s = becomes s
 colourToken limit Shown.ignorable s = becomes s
 colourToken limit (Shown.unknown p bs num) s = becomes s
+colourToken limit (Shown.symbol b num) s = becomes s
 
 -- a token; a refusal has the place of its slice
 abbrev pub nextColour : ℕ → Found Colours → Token → Found Colours

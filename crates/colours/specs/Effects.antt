@@ -5,7 +5,7 @@ use mathlib.Core.Bool.{cond}
 use lib.Dec.{eqb, ltb}
 use Rattle.tokens.specs.Tokens.{valueOf}
 use Rattle.tokens.specs.declared.item.Item.{Item}
-use Rattle.tokens.specs.declared.item.Item.the-variants.{Text, Opening, Closing, LineBreak, Ignorable, Word, Unknown}
+use Rattle.tokens.specs.declared.item.Item.the-variants.{Text, Opening, Closing, LineBreak, Ignorable, Word, Unknown, Symbol}
 use Rattle.colours.specs.declared.Colour.{Colour}
 use Rattle.colours.specs.declared.Effect.{Effect}
 use Rattle.colours.specs.declared.Effect.the-variants.{Set, Store, Unfit}
@@ -32,6 +32,7 @@ effectOf Closing c = Set c
 effectOf LineBreak c = Set c
 effectOf Ignorable c = Set c
 effectOf (Unknown p n num) c = Set c
+effectOf (Symbol b num) c = Set c
 
 -- a colour whose values fit
 pub record Small (c : Colour) : Type 0 where

@@ -109,6 +109,7 @@ fn step(i: Item, c: Colour) -> Effect
         Item::LineBreak => Effect::Set(c),
         Item::Ignorable => Effect::Set(c),
         Item::Unknown(_, _, _) => Effect::Set(c),
+        Item::Symbol(_, _) => Effect::Set(c),
     }
 }
 

@@ -16,7 +16,8 @@ use Rattle.readings.specs.declared.Reading.{Reading}
 use Rattle.readings.specs.declared.Reading.the-variants.{Plain, Paragraphs}
 use Rattle.slices.specs.Slices.{split, slices, withFeeds}
 use Rattle.tokens.specs.Tokens.{recordOf}
-use Rattle.tokenize.specs.Tokenize.{mark, plain, hexValue, hexEscape, lineBreakAnd, shownWord, numbered, named, bareLength, wordTail, word, other, otherBy, escaped, tokens}
+use Rattle.controls.specs.Controls.{shownWord, numbered}
+use Rattle.tokenize.specs.Tokenize.{mark, plain, hexValue, hexEscape, lineBreakAnd, named, bareLength, wordTail, word, other, otherBy, escaped, tokens}
 use Rattle.cutter.specs.Cutting.{located, last, allSlices, trimmed, tokenStream, cutAnswer, cutRoom}
 
 -- a letter, a room's words, the answer's number, place and count, and the room's first words, of which the rest are zero

@@ -14,22 +14,31 @@ use Rattle.answers.specs.declared.Outcome.the-variants.{Done, Refused}
 use Rattle.answers.specs.Answers.{refusal, refusalAt, outcomeCount}
 use Rattle.bytes.specs.Bytes.{isHigh, any}
 use Rattle.readings.specs.declared.Reading.{Reading}
-use Rattle.rooms.specs.Streams.{end, stop, _▸_, count, answer}
+use Rattle.rooms.specs.Streams.{Stream, end, stop, _▸_, andThen, count, answer}
 use Rattle.rooms.specs.Rooms.{capacity, settled}
 use Rattle.rooms.proofs.Streams.{count-then, count-each, answer-count}
 use Rattle.slices.specs.Slices.{slicesBy, slices}
 use Rattle.slices.proofs.Slices.{joined}
 use Rattle.slices.proofs.Feeds.{joined-slicesBy}
-use Rattle.tokens.specs.Tokens.{Shown, token, tokenLayout, tokenWords}
+use Rattle.tokens.specs.Tokens.{Shown, Token, token, tokenLayout, tokenWords}
 use Rattle.tokens.specs.Tokens
-use Rattle.tokenize.specs.Tokenize.{tokens}
-use Rattle.tokenize.proofs.Sizes.{count-tokens}
-use Rattle.cutter.specs.Cutting.{located, last, allSlices, trimStart, trimmed, tokenStream, cutAnswer}
+use Rattle.readings.specs.declared.Reading.the-variants.{Plain, Paragraphs, Standard}
+use Rattle.answers.specs.declared.Refusal.{Refusal}
+use Rattle.standard.specs.Closing.{isBracket}
+use Rattle.cutter.specs.Cutting.{tokensBy, located, last, lastBy, allSlices, cutBy, trimStart, trimmed, tokenStream, cutAnswer}
+use Rattle.cutter.proofs.ByReading.{count-by}
+use Rattle.cutter.proofs.Closing.{cut-all}
 
 module _ (rd : Reading) where
   count-located : (p : ℕ) (s : List ℕ) → count (located rd p s) ≤ length s
   unfolding located
-  count-located p s = rw (count-each (λ (w : Why). refusalAt w p) (token p (length s)) (tokens rd p s)) (count-tokens rd p s)
+  count-located p s = rw (count-each (λ (w : Why). refusalAt w p) (token p (length s)) (tokensBy rd p s)) (count-by rd p s)
+
+  -- a check behind a slice adds none
+  count-check : (p : ℕ) (a : Stream Refusal Token) (t : Bool) → count (andThen a (cond t end (stop (refusalAt LastSlice p)))) ≤ count a
+  unfolding count
+  count-check p a true = omega (arith, count-then a end)
+  count-check p a false = omega (arith, count-then a (stop (refusalAt LastSlice p)))
 
   count-last : (p : ℕ) (s : List ℕ) → count (last p s) ≤ length s
   unfolding last count
@@ -41,10 +50,15 @@ module _ (rd : Reading) where
       go false = omega arith
   count-last p (b ∷ c ∷ s) = omega arith
 
+  count-last-by : (d : Reading) → ((p : ℕ) (s : List ℕ) → count (located d p s) ≤ length s) → (p : ℕ) (s : List ℕ) → count (lastBy d p s) ≤ length s
+  count-last-by Plain h p s = count-last p s
+  count-last-by Paragraphs h p s = count-last p s
+  count-last-by Standard h p s = omega (arith, count-check p (located Standard p s) (isBracket s), h p s)
+
   count-all : (p : ℕ) (ss : List (List ℕ)) → count (allSlices rd p ss) ≤ length (joined ss)
   unfolding allSlices joined count
   count-all p [] = omega arith
-  count-all p (s ∷ []) = omega (arith, count-last p s, length-append s [])
+  count-all p (s ∷ []) = omega (arith, count-last-by rd count-located p s, length-append s [])
   count-all p (s ∷ t ∷ ss) =
       omega (arith, count-then (located rd p s) (allSlices rd (p + length s) (t ∷ ss)), count-located p s, count-all (p + length s) (t ∷ ss), length-append s (t ++ joined ss))
 
@@ -57,12 +71,12 @@ module _ (rd : Reading) where
   count-stream src = go (ltb 65536 (length src)) refl (any isHigh src)
     where
       go : (t : Bool) → ltb 65536 (length src) ≡ t → (u : Bool)
-          → count (cond t (stop (refusal SourceTooLong)) (cond u (stop (refusal NotAscii)) (allSlices rd (trimStart src) (slicesBy rd (trimmed src))))) ≤ 65536
+          → count (cond t (stop (refusal SourceTooLong)) (cond u (stop (refusal NotAscii)) (cutBy rd (trimStart src) (slicesBy rd (trimmed src))))) ≤ 65536
       go true e u = omega arith
       go false e true = omega arith
       go false e false =
           let j : length (joined (slicesBy rd (trimmed src))) ≡ length (trimmed src) = ap length (joined-slicesBy rd (trimmed src)) in
-          omega (arith, count-all (trimStart src) (slicesBy rd (trimmed src)), length-trimmed src, ltb-false 65536 (length src) e)
+          rw (cut-all rd src) (omega (arith, count-all (trimStart src) (slicesBy rd (trimmed src)), length-trimmed src, ltb-false 65536 (length src) e))
 
   -- the count of an answer
   pub count-answer : (src : List ℕ) (total : ℕ) → outcomeCount (cutAnswer rd src total) ≤ 65536

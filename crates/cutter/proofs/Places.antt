@@ -23,10 +23,13 @@ use Rattle.slices.proofs.Slices.{joined}
 use Rattle.slices.proofs.Feeds.{joined-slicesBy}
 use Rattle.tokens.specs.Tokens.{Shown, Token, token, sliceOf, sliceLengthOf, shownIn}
 use Rattle.tokens.specs.Tokens
-use Rattle.tokenize.specs.Tokenize.{tokens}
+use Rattle.readings.specs.declared.Reading.the-variants.{Plain, Paragraphs, Standard}
+use Rattle.standard.specs.Closing.{isBracket}
 use Rattle.rooms.proofs.Streams.{Each, Each-then, Each-each, Each-weaken}
-use Rattle.tokenize.proofs.Places.{Stands, stands-after, stands-before, tokens-stand}
-use Rattle.cutter.specs.Cutting.{located, last, allSlices, trimStart, trimmed, tokenStream}
+use Rattle.controls.proofs.Places.{Stands, stands-after, stands-before}
+use Rattle.cutter.specs.Cutting.{tokensBy, located, last, lastBy, allSlices, cutBy, trimStart, trimmed, tokenStream}
+use Rattle.cutter.proofs.ByReading.{stand-by}
+use Rattle.cutter.proofs.Closing.{cut-all}
 
 -- a token of bytes s that stand at p: what it shows stands in them, and its slice ends in them
 abbrev pub PlacedIn : List ℕ → ℕ → Token → Type 0
@@ -46,8 +49,8 @@ module _ (rd : Reading) where
   pub located-places : (p : ℕ) (s : List ℕ) → Each (PlacedIn s p) (located rd p s)
   unfolding located
   located-places p s =
-      Each-each (PlacedIn s p) (λ (w : Why). refusalAt w p) (token p (length s)) (tokens rd p s)
-      (Each-weaken (Stands s p) (λ (t : Shown). PlacedIn s p (token p (length s) t)) (λ t h. (h, omega arith)) (tokens rd p s) (tokens-stand rd p s))
+      Each-each (PlacedIn s p) (λ (w : Why). refusalAt w p) (token p (length s)) (tokensBy rd p s)
+      (Each-weaken (Stands s p) (λ (t : Shown). PlacedIn s p (token p (length s) t)) (λ t h. (h, omega arith)) (tokensBy rd p s) (stand-by rd p s))
 
   pub last-places : (p : ℕ) (s : List ℕ) → Each (PlacedIn s p) (last p s)
   unfolding last
@@ -59,10 +62,19 @@ module _ (rd : Reading) where
       go false = tt
   last-places p (b ∷ c ∷ s) = tt
 
+  last-by-places : (d : Reading) → ((p : ℕ) (s : List ℕ) → Each (PlacedIn s p) (located d p s)) → (p : ℕ) (s : List ℕ) → Each (PlacedIn s p) (lastBy d p s)
+  last-by-places Plain h p s = last-places p s
+  last-by-places Paragraphs h p s = last-places p s
+  last-by-places Standard h p s = Each-then (PlacedIn s p) (located Standard p s) (cond (isBracket s) end (stop (refusalAt LastSlice p))) (h p s) (go (isBracket s))
+    where
+      go : (t : Bool) → Each (PlacedIn s p) (cond t end (stop (refusalAt LastSlice p)))
+      go true = tt
+      go false = tt
+
   pub all-places : (p : ℕ) (ss : List (List ℕ)) → Each (PlacedIn (joined ss) p) (allSlices rd p ss)
   unfolding allSlices joined
   all-places p [] = tt
-  all-places p (s ∷ []) = Each-weaken (PlacedIn s p) _ (placed-before [] s p) (last p s) (last-places p s)
+  all-places p (s ∷ []) = Each-weaken (PlacedIn s p) _ (placed-before [] s p) (lastBy rd p s) (last-by-places rd located-places p s)
   all-places p (s ∷ t ∷ ss) =
       Each-then (PlacedIn (s ++ joined (t ∷ ss)) p) (located rd p s) (allSlices rd (p + length s) (t ∷ ss))
       (Each-weaken (PlacedIn s p) _ (placed-before (joined (t ∷ ss)) s p) (located rd p s) (located-places p s))
@@ -83,9 +95,9 @@ module _ (rd : Reading) where
   unfolding tokenStream
   stream-places src = go (ltb 65536 (length src)) (any isHigh src)
     where
-      go : (t u : Bool) → Each (Placed src) (cond t (stop (refusal SourceTooLong)) (cond u (stop (refusal NotAscii)) (allSlices rd (trimStart src) (slicesBy rd (trimmed src)))))
+      go : (t u : Bool) → Each (Placed src) (cond t (stop (refusal SourceTooLong)) (cond u (stop (refusal NotAscii)) (cutBy rd (trimStart src) (slicesBy rd (trimmed src)))))
       go true u = tt
       go false true = tt
       go false false =
-          Each-weaken (PlacedIn (trimmed src) (trimStart src)) (Placed src) (trimmed-places src) (allSlices rd (trimStart src) (slicesBy rd (trimmed src)))
-          (rw (joined-slicesBy rd) at (all-places (trimStart src) (slicesBy rd (trimmed src))))
+          rw (cut-all rd src) (Each-weaken (PlacedIn (trimmed src) (trimStart src)) (Placed src) (trimmed-places src) (allSlices rd (trimStart src) (slicesBy rd (trimmed src)))
+          (rw (joined-slicesBy rd) at (all-places (trimStart src) (slicesBy rd (trimmed src)))))

@@ -7,6 +7,7 @@ use native.Mathlib.Omega.{arith}
 use borrow.Author.Tests.{ne-eqb, lt-ltb, le-ltb}
 use lib.ListN.{length, getD, take, drop, replicate, length-drop}
 use lib.Seq.{take-all}
+use lib.Dec.{eqb}
 use Rattle.answers.specs.declared.Refusal.{Refusal}
 use Rattle.answers.specs.declared.Why.the-variants.{SourceTooLong, NotAscii, LastSlice, TokenRoom}
 use Rattle.answers.specs.declared.Why.{Why}
@@ -27,7 +28,9 @@ use Rattle.tokens.specs.Tokens.{Shown, Token, token, tokenWords, recordWords, b
 use Rattle.tokens.specs.Tokens
 use Rattle.tokens.proofs.Records.{token-sized, closing-record, wrote-token}
 use Rattle.tokens.proofs.Sealing.{sealed-wrote}
-use Rattle.cutter.specs.Cutting.{last, allSlices, trimmed, tokenStream, cutAnswer, cutRoom}
+use Rattle.standard.specs.Closing.{isBracket}
+use Rattle.cutter.proofs.Closing.{cut-all}
+use Rattle.cutter.specs.Cutting.{trimStart, last, allSlices, trimmed, tokenStream, cutAnswer, cutRoom}
 
 module _ (p : ℕ) where
   pub last-long : (s : List ℕ) → (length s ≡ 1 → ⊥) → last p s ≡ stop (refusalAt LastSlice p)
@@ -73,7 +76,11 @@ module _ (rd : Reading) where
         unfolding tokenStream trimmed
         stream-slices =
             let t : take (length src - a) (drop a src) ≡ drop a src = take-all (length src - a) (drop a src) (simp length-drop (omega arith)) in
-            rw (le-ltb 65536 (length src) h, ← q, g, y, t, ← x)
+            rw (le-ltb 65536 (length src) h, ← q, g) (cut-all rd src ∙ trimmed-as t)
+          where
+            trimmed-as : take (length src - a) (drop a src) ≡ drop a src
+                → allSlices rd (trimStart src) (slicesBy rd (trimmed src)) ≡ allSlices rd a (slicesBy rd (take e (take (length src - a) (drop a src))))
+            trimmed-as t = rw (y, t, ← x) refl
 
   -- what `whole` wrote, settled
   module _ (src : List ℕ) {room room′ : List ℕ} {r : Outcome} (w : Wrote tokenLayout byRefusal 0 room (tokenStream rd src) r room′) where
@@ -111,3 +118,14 @@ module _ (rd : Reading) where
         rw (w .holds n e, c) (putAll-front tokenLayout token-sized (tokenStream rd src) room (rw (c, length-wrote) at h)) in
         let l : length (encode tokenLayout (tokenStream rd src)) ≡ n * tokenWords = length-encode tokenLayout token-sized (tokenStream rd src) ∙ rw c in
         z ∙ rw (← settle-fits e h, f, length-wrote, l)
+
+-- a slice that is `}` alone, as the code tests it
+pub bracket-not : (s : List ℕ) → (length s ≡ 1 → ⊥) → false ≡ isBracket s
+bracket-not [] h = refl
+bracket-not (b ∷ []) h = absurd (h refl)
+bracket-not (b ∷ c ∷ s) h = refl
+
+pub bracket-one : (s : List ℕ) → length s ≡ 1 → eqb (getD s 0 0) 125 ≡ isBracket s
+bracket-one [] h = absurd (omega arith)
+bracket-one (b ∷ []) h = refl
+bracket-one (b ∷ c ∷ s) h = absurd (omega arith)

@@ -22,14 +22,16 @@ use Rattle.bytes.proofs.Runs.{lead-length}
 use Rattle.readings.specs.declared.Reading.{Reading}
 use Rattle.rooms.specs.Streams.{Stream, end, stop, _▸_, andThen, each, items, answer, ended}
 use Rattle.rooms.proofs.Streams.{Each, done-refused}
-use Rattle.readings.specs.declared.Reading.the-variants.{Plain, Paragraphs}
+use Rattle.readings.specs.declared.Reading.the-variants.{Plain, Paragraphs, Standard}
 use Rattle.slices.specs.Slices.{startsSlice, onto, split, slices, slicesBy, isReturn, startsWithFeed, takeFeed, withFeeds}
+use Rattle.slices.specs.Slices.{Behind, anything, startsStandard, behind, splitStandard, standardSlices}
 use Rattle.slices.proofs.Slices.{joined}
 use Rattle.slices.proofs.Feeds.{joined-slicesBy}
 use Rattle.tokens.specs.Tokens.{Shown, Token, token, sliceOf}
 use Rattle.tokens.specs.Tokens
-use Rattle.tokenize.specs.Tokenize.{tokens}
-use Rattle.cutter.specs.Cutting.{located, last, allSlices, trimStart, trimmed, tokenStream, startsFrom, SliceAt, SlicesIn}
+use Rattle.standard.specs.Closing.{isBracket}
+use Rattle.cutter.specs.Cutting.{tokensBy, located, last, lastBy, allSlices, cutBy, trimStart, trimmed, tokenStream, startsFrom, SliceAt, SlicesIn}
+use Rattle.cutter.proofs.Closing.{cut-all}
 use Rattle.cutter.proofs.Places.{Placed, stream-places}
 
 -- ---- no slice is empty
@@ -78,9 +80,25 @@ unfolding withFeeds
 feeds-full [] f = tt
 feeds-full (s ∷ ss) f = take-full s (withFeeds ss) (f .0) (feeds-full ss (f .1))
 
+split-standard-full : (before : Behind) (s : List ℕ) → FullTail (splitStandard before s)
+unfolding splitStandard
+split-standard-full before [] = tt
+split-standard-full before (b ∷ s) =
+    go (startsStandard before b) (onto-full b (splitStandard (behind before b) s) (split-standard-full (behind before b) s))
+  where
+    go : (t : Bool) → Full (onto b (splitStandard (behind before b) s)) → FullTail (cond t ([] ∷ onto b (splitStandard (behind before b) s)) (onto b (splitStandard (behind before b) s)))
+    go true h = h
+    go false h = full-tail (onto b (splitStandard (behind before b) s)) h
+
+standard-full : (s : List ℕ) → Full (standardSlices s)
+unfolding standardSlices
+standard-full [] = tt
+standard-full (b ∷ s) = onto-full b (splitStandard (behind anything b) s) (split-standard-full (behind anything b) s)
+
 slicesBy-full : (rd : Reading) (s : List ℕ) → Full (slicesBy rd s)
 slicesBy-full Plain s = slices-full s
 slicesBy-full Paragraphs s = feeds-full (slices s) (slices-full s)
+slicesBy-full Standard s = standard-full s
 
 -- ---- where a slice starts
 
@@ -149,6 +167,17 @@ module _ (rd : Reading) where
       go false = told-at P LastSlice p h
   all-last P p h (b ∷ c ∷ s) = told-at P LastSlice p h
 
+  all-last-by : (d : Reading) (P : ℕ → Type 0) (p : ℕ) → P p → (s : List ℕ) → All P (lastBy d p s)
+  unfolding located
+  all-last-by Plain P p h s = all-last P p h s
+  all-last-by Paragraphs P p h s = all-last P p h s
+  all-last-by Standard P p h s =
+      all-then P (located Standard p s) (cond (isBracket s) end (stop (refusalAt LastSlice p))) (all-each P p (length s) h (tokensBy Standard p s)) (go (isBracket s))
+    where
+      go : (t : Bool) → All P (cond t end (stop (refusalAt LastSlice p)))
+      go true = tt
+      go false = told-at P LastSlice p h
+
   -- a place at which one of the slices starts
   abbrev From : ℕ → List (List ℕ) → ℕ → Type 0
   From p ss q = startsFrom q p ss ≡ true
@@ -156,20 +185,20 @@ module _ (rd : Reading) where
   all-starts : (p : ℕ) (ss : List (List ℕ)) → All (From p ss) (allSlices rd p ss)
   unfolding allSlices
   all-starts p [] = tt
-  all-starts p (s ∷ []) = all-last (From p (s ∷ [])) p (starts-first p s []) s
+  all-starts p (s ∷ []) = all-last-by rd (From p (s ∷ [])) p (starts-first p s []) s
   all-starts p (s ∷ t ∷ ss) =
       all-then (From p (s ∷ t ∷ ss)) (located rd p s) (allSlices rd (p + length s) (t ∷ ss))
-      (unfold located in all-each (From p (s ∷ t ∷ ss)) p (length s) (starts-first p s (t ∷ ss)) (tokens rd p s))
+      (unfold located in all-each (From p (s ∷ t ∷ ss)) p (length s) (starts-first p s (t ∷ ss)) (tokensBy rd p s))
       (all-weaken (From (p + length s) (t ∷ ss)) (From p (s ∷ t ∷ ss)) (λ q h. starts-later q p s (t ∷ ss) h) (allSlices rd (p + length s) (t ∷ ss)) (all-starts (p + length s) (t ∷ ss)))
 
   all-stream : (src : List ℕ) → All (SliceAt rd src) (tokenStream rd src)
   unfolding tokenStream
   all-stream src = go (ltb 65536 (length src)) (any isHigh src)
     where
-      go : (t u : Bool) → All (SliceAt rd src) (cond t (stop (refusal SourceTooLong)) (cond u (stop (refusal NotAscii)) (allSlices rd (trimStart src) (slicesBy rd (trimmed src)))))
+      go : (t u : Bool) → All (SliceAt rd src) (cond t (stop (refusal SourceTooLong)) (cond u (stop (refusal NotAscii)) (cutBy rd (trimStart src) (slicesBy rd (trimmed src)))))
       go true u = told-none (SliceAt rd src) SourceTooLong refl
       go false true = told-none (SliceAt rd src) NotAscii refl
-      go false false = all-weaken (From (trimStart src) (slicesBy rd (trimmed src))) (SliceAt rd src) (slice-at src) (allSlices rd (trimStart src) (slicesBy rd (trimmed src))) (all-starts (trimStart src) (slicesBy rd (trimmed src)))
+      go false false = rw (cut-all rd src) (all-weaken (From (trimStart src) (slicesBy rd (trimmed src))) (SliceAt rd src) (slice-at src) (allSlices rd (trimStart src) (slicesBy rd (trimmed src))) (all-starts (trimStart src) (slicesBy rd (trimmed src))))
 
   -- ---- of a source
 

@@ -57,6 +57,7 @@ record-shown src (Shown.word w num) z h =
     ∙ ap (Shown.word w) (number-back num)
 record-shown src (Shown.unknown p bs num) z h =
     ap (λ (cs : List ℕ). Shown.unknown p cs (propertyOf (hasOf num) (valueOf num))) (bytes-back src p bs (h .0)) ∙ ap (Shown.unknown p bs) (number-back num)
+record-shown src (Shown.symbol b num) z h = ap (Shown.symbol b) (number-back num)
 
 -- a record's words, with those of its slice
 token-back : (src : List ℕ) (t : Token) (z : List ℕ) → Placed src t → tokenAt src (tokenLayout .words t ++ z) ≡ t

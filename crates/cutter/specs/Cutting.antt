@@ -1,4 +1,4 @@
--- 01, Cutting and Answer numbers, and 02, A2 and A4: a source's tokens by the reading, the one answer and the one content of the token room.
+-- 01, Cutting and Answer numbers, and 02, A1, A2 and A4: a source's tokens by the reading, the one answer and the one content of the token room.
 -- Assumes nothing: these are definitions.
 use Prim.Native.Nat.{ℕ, _+_, _*_, _≤_, _<_}
 use mathlib.Core.Path.{_≡_}
@@ -16,15 +16,24 @@ use Rattle.bytes.specs.Bytes.{isHigh, inClass, lead, body, any}
 use Rattle.rooms.specs.Streams.{Stream, end, stop, _▸_, andThen, items, answer, each}
 use Rattle.rooms.specs.Rooms.{settled, content}
 use Rattle.readings.specs.declared.Reading.{Reading}
+use Rattle.readings.specs.declared.Reading.the-variants.{Plain, Paragraphs, Standard}
 use Rattle.slices.specs.Slices.{slicesBy}
-use Rattle.tokens.specs.Tokens.{Shown, Token, token, sliceOf, sliceLengthOf, tokenWords, tokenLayout}
+use Rattle.tokens.specs.Tokens.{Shown, Token, token, sliceOf, sliceLengthOf, shownIn, tokenWords, tokenLayout}
 use Rattle.tokens.specs.Items.{tokensAll}
 use Rattle.tokenize.specs.Tokenize.{tokens}
+use Rattle.standard.specs.Standard.{tokens as standardTokens}
+use Rattle.standard.specs.Closing.{isClosing, isBracket}
 use Rattle.answers.specs.declared.Refusal.{Refusal}
 
--- the tokens of a slice at place p, each with the slice's place and length; its refusals have that place too (02, A4)
+-- the tokens of a slice at place p by the reading; 02, A1: "Cutting, by rules of its own"
+abbrev pub tokensBy : Reading → ℕ → List ℕ → Stream Why Shown
+tokensBy Plain p s = tokens Plain p s
+tokensBy Paragraphs p s = tokens Paragraphs p s
+tokensBy Standard p s = standardTokens p s
+
+-- each with the slice's place and length; its refusals have that place too (02, A4)
 unfoldable pub located : Reading → ℕ → List ℕ → Stream Refusal Token
-located rd p s = each (λ (w : Why). refusalAt w p) (token p (length s)) (tokens rd p s)
+located rd p s = each (λ (w : Why). refusalAt w p) (token p (length s)) (tokensBy rd p s)
 
 -- "the last slice is not `}` alone": 6
 unfoldable pub last : ℕ → List ℕ → Stream Refusal Token
@@ -32,11 +41,40 @@ last p [] = stop (refusalAt LastSlice p)
 last p (b ∷ []) = cond (eqb b 125) (token p 1 Shown.closing ▸ end) (stop (refusalAt LastSlice p))
 last p (b ∷ c ∷ s) = stop (refusalAt LastSlice p)
 
+-- the last slice by the reading: by the specification it is cut as the others, and is refused if it is not `}` alone
+abbrev pub lastBy : Reading → ℕ → List ℕ → Stream Refusal Token
+lastBy Plain p s = last p s
+lastBy Paragraphs p s = last p s
+lastBy Standard p s = andThen (located Standard p s) (cond (isBracket s) end (stop (refusalAt LastSlice p)))
+
 -- "cutting left to right, all slices but the last, gives the first of 3 to 5; then 6"
 unfoldable pub allSlices : Reading → ℕ → List (List ℕ) → Stream Refusal Token
 allSlices rd p [] = end
-allSlices rd p (s ∷ []) = last p s
+allSlices rd p (s ∷ []) = lastBy rd p s
 allSlices rd p (s ∷ t ∷ ss) = andThen (located rd p s) (allSlices rd (p + length s) (t ∷ ss))
+
+-- 02, A1: "The whole source is cut first: 3 to 5 come before 6 wherever they stand."
+unfoldable pub every : ℕ → List (List ℕ) → Stream Refusal Token
+every p [] = end
+every p (s ∷ ss) = andThen (located Standard p s) (every (p + length s) ss)
+
+-- "6: the last token is no closing bracket." It has the place of the slice that the token was cut from
+unfoldable pub closedBehind : Token → Stream Refusal Token → Stream Refusal Token
+closedBehind t end = cond (isClosing (shownIn t)) end (stop (refusalAt LastSlice (sliceOf t)))
+closedBehind t (stop r) = stop r
+closedBehind t (u ▸ s) = u ▸ closedBehind u s
+
+unfoldable pub closing : Stream Refusal Token → Stream Refusal Token
+closing end = end
+closing (stop r) = stop r
+closing (t ▸ s) = t ▸ closedBehind t s
+
+-- the tokens of a trimmed source's slices. In standard reading these are `allSlices` too, as the last slice is never without a token
+-- (proofs/Closing.antt)
+abbrev pub cutBy : Reading → ℕ → List (List ℕ) → Stream Refusal Token
+cutBy Plain p ss = allSlices Plain p ss
+cutBy Paragraphs p ss = allSlices Paragraphs p ss
+cutBy Standard p ss = closing (every p ss)
 
 -- "Trim both ends.": where the trimmed source starts, and its bytes
 abbrev pub trimStart : List ℕ → ℕ
@@ -52,7 +90,7 @@ unfoldable pub tokenStream : Reading → List ℕ → Stream Refusal Token
 tokenStream rd src =
     cond (ltb 65536 (length src)) (stop (refusal SourceTooLong))
     (cond (any isHigh src) (stop (refusal NotAscii))
-    (allSlices rd (trimStart src) (slicesBy rd (trimmed src))))
+    (cutBy rd (trimStart src) (slicesBy rd (trimmed src))))
 
 -- the one answer for a source and a room of so many words: "more tokens than the token room holds" is 7
 unfoldable pub cutAnswer : Reading → List ℕ → ℕ → Outcome

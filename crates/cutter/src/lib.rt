@@ -2,7 +2,9 @@
 //
 //   cut         the whole: answers 1 to 7 in 01's order; the room holds the records and zeros, or zeros alone
 //   whole       the source's length, its bytes, trimming
-//   all_slices  slice by slice; the last must be `}` alone. It holds the slice, so it writes the slice's place and length behind each
+//   cut_slice   one slice, by the reading's rules
+//   last_by     the last slice, which must be `}` alone
+//   all_slices  slice by slice. It holds the slice, so it writes the slice's place and length behind each
 //               token, and says the place with a refusal
 //
 // `cut` is total. Cutting goes on past a full room, so that 3 to 6 come before 7.
@@ -29,9 +31,10 @@ ghost use lib.ListN.{length, replicate};
 ghost use Rattle.names.specs.Names.{rows};
 ghost use Rattle.rooms.specs.Rooms.{Wrote};
 ghost use Rattle.slices.specs.Slices.{slicesBy};
-ghost use Rattle.tokens.specs.Tokens.{tokenLayout};
-ghost use Rattle.cutter.specs.Cutting.{last as lastOf, allSlices, tokenStream, Cuts};
-ghost use Rattle.rooms.specs.Streams.{byRefusal};
+ghost use Rattle.standard.specs.Closing.{isBracket};
+ghost use Rattle.tokens.specs.Tokens.{shownLayout, tokenLayout};
+ghost use Rattle.cutter.specs.Cutting.{tokensBy, last as lastOf, lastBy, allSlices, tokenStream, Cuts};
+ghost use Rattle.rooms.specs.Streams.{byName, byRefusal};
 
 // The last slice: a closing bracket alone.
 fn last(s: &[u8], place: usize, room: &mut [u32], n: usize) -> Outcome
@@ -50,6 +53,70 @@ fn last(s: &[u8], place: usize, room: &mut [u32], n: usize) -> Outcome
     Outcome::Done(n + 1)
 }
 
+// The tokens of a slice, by the reading's rules.
+fn cut_slice(
+    reading: Reading,
+    s: &[u8],
+    place: usize,
+    names: &Table,
+    room: &mut [u32],
+    n: usize,
+) -> Written
+    requires { ⌜ (place + length (now s) ≤ 65536) × (n ≤ place) × (now names ≡ rows) ⌝ }
+    ensures { λ r. ⌜ Wrote shownLayout byName n (now (room .entry)) (tokensBy reading place (now (s .entry))) r (now (room .exit)) ⌝ }
+{
+    if reading.is_standard() {
+        return standard::slice_tokens(s, place, names, room, n);
+    }
+    slice_tokens(reading, s, place, names, room, n)
+}
+
+fn is_bracket(s: &[u8]) -> bool
+    ensures { λ r. ⌜ r ≡ isBracket (now (s .entry)) ⌝ }
+{
+    if s.len() != 1 {
+        return false;
+    }
+    s[0] == b'}'
+}
+
+// The last slice by the specification: it is cut as the others first.
+fn standard_last(s: &[u8], place: usize, names: &Table, room: &mut [u32], n: usize) -> Outcome
+    requires { ⌜ (place + length (now s) ≤ 65536) × (n ≤ place) × (now names ≡ rows) ⌝ }
+    ensures { λ r. ⌜ Wrote tokenLayout byRefusal n (now (room .entry)) (lastBy Reading.Standard place (now (s .entry))) r (now (room .exit)) ⌝ }
+{
+    let p = place as u32;
+    let one = standard::slice_tokens(s, place, names, room, n);
+    match one {
+        Written::Refused(why) => Outcome::Refused(Refusal::at(why, p)),
+        Written::Done(m) => {
+            if is_bracket(s) {
+                seal(room, n, m, p, s.len() as u32);
+                return Outcome::Done(m);
+            }
+            Outcome::Refused(Refusal::at(Why::LastSlice, p))
+        }
+    }
+}
+
+// The last slice by the reading.
+fn last_by(
+    reading: Reading,
+    s: &[u8],
+    place: usize,
+    names: &Table,
+    room: &mut [u32],
+    n: usize,
+) -> Outcome
+    requires { ⌜ (place + length (now s) ≤ 65536) × (n < 65536) × (n ≤ place) × (now names ≡ rows) ⌝ }
+    ensures { λ r. ⌜ Wrote tokenLayout byRefusal n (now (room .entry)) (lastBy reading place (now (s .entry))) r (now (room .exit)) ⌝ }
+{
+    if reading.is_standard() {
+        return standard_last(s, place, names, room, n);
+    }
+    last(s, place, room, n)
+}
+
 // All slices of a trimmed source that stands at `place`.
 fn all_slices(reading: Reading, s: &[u8], place: usize, names: &Table, room: &mut [u32]) -> Outcome
     requires { ⌜ (place + length (now s) ≤ 65536) × (now names ≡ rows) ⌝ }
@@ -66,7 +133,7 @@ fn all_slices(reading: Reading, s: &[u8], place: usize, names: &Table, room: &mu
         if t.len() <= e {
             break;
         }
-        let one = slice_tokens(reading, &t[..e], p, names, room, n);
+        let one = cut_slice(reading, &t[..e], p, names, room, n);
         match one {
             Written::Refused(why) => {
                 return Outcome::Refused(Refusal::at(why, p as u32));
@@ -79,7 +146,7 @@ fn all_slices(reading: Reading, s: &[u8], place: usize, names: &Table, room: &mu
         t = &t[e..];
         p = p + e;
     }
-    last(t, p, room, n)
+    last_by(reading, t, p, names, room, n)
 }
 
 // The source, if it is short enough and of bytes below 128, trimmed and cut.

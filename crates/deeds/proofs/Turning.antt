@@ -6,7 +6,7 @@
 -- Assumes nothing.
 use mathlib.Core.Path.{_≡_, refl, sym, ap, _∙_}
 use mathlib.Core.List.{List, [], _∷_}
-use mathlib.Core.Bool.{Bool, true, false, cond, _&&_}
+use mathlib.Core.Bool.{Bool, true, false, cond, _&&_, _||_}
 use Prim.Native.Nat.{ℕ, _-_, _<_, _≤_}
 use native.Mathlib.Omega.{arith}
 use borrow.Author.Tests.{eqb-true}
@@ -17,7 +17,7 @@ use Rattle.answers.specs.declared.Why.the-variants.{NoState}
 use Rattle.answers.specs.Answers.{refusal, becomes}
 use Rattle.readings.specs.declared.Reading.{Reading}
 use Rattle.tokens.specs.declared.Property.{Property}
-use Rattle.tokens.specs.Items.{numberAt}
+use Rattle.tokens.specs.Items.{itemAt, shownOf, numberAt}
 use Rattle.settings.specs.Fields.{Setting, freshRow, styleOf}
 use Rattle.settings.specs.Fields as field
 use Rattle.settings.specs.declared.Act.{Act}
@@ -26,22 +26,23 @@ use Rattle.settings.specs.Effects as does
 use Rattle.utf8.specs.Utf8.{written, utf8}
 use Rattle.units.specs.declared.Run.{Run}
 use Rattle.units.specs.declared.Gave.{Gave}
-use Rattle.units.specs.Units.{before, values, step}
+use Rattle.units.specs.Units.{before, nothing, values}
 use Rattle.machine.specs.Stack.{moved, held}
-use Rattle.machine.specs.Machine.{Deed, parts, ended, gave, textsOf, writtenAll, skipOf, moveOf, settle, spoken, said}
+use Rattle.machine.specs.Machine.{Deed, parts, ended, gave, textsOf, left, isPassed, writtenAll, moveOf, settle, spoken, said, stepOf}
+use Rattle.machine.proofs.Left.{isTelling, left-read}
 use Rattle.machine.proofs.Stack.{held-top}
 use Rattle.blocks.specs.declared.Page.{Page}
 use Rattle.blocks.specs.declared.Room.{Room}
 use Rattle.blocks.specs.declared.Room.the-variants.{Fits, NoBlock, NoText}
 use Rattle.blocks.specs.Laying.{Laying, on, off, pageOf, roomed, addOf, Held}
 use Rattle.deeds.specs.declared.stack.Moved.{Moved}
-use Rattle.deeds.specs.declared.stack.Moved.the-variants.{Refuses}
-use Rattle.runs.specs.Runs.{rows, laidAll}
-use Rattle.deeds.specs.Deeds.{doing}
-use Rattle.deeds.specs.Turns.{deedAt, movedBy, staysBy, Deep, Took, turned, turnOf, Turns}
-use Rattle.runs.proofs.Saying.{laid-off, laid-append, said-none, said-own, said-ended, said-text, said-values}
-use Rattle.deeds.proofs.Moves.{took-keep}
-use Rattle.deeds.proofs.Words.{at-token, kind-word, unit-at}
+use Rattle.deeds.specs.declared.stack.Moved.the-variants.{Holds, Refuses}
+use Rattle.runs.specs.Runs.{rows, stepBy, stepsBy, laidAll}
+use Rattle.deeds.specs.Deeds.{doing, symbolEffect, tokenDeed}
+use Rattle.deeds.specs.Turns.{deedAt, effectAt, movedBy, staysBy, Deep, Took, turned, turnOf, Turns}
+use Rattle.runs.proofs.Saying.{laid-off, laid-append, said-none, said-own, said-ended, said-text, told-text, said-values}
+use Rattle.deeds.proofs.Moves.{took-keep, took-parts}
+use Rattle.deeds.proofs.Words.{at-token, kind-word, kind-symbol, act-telling, unit-at}
 
 -- ---- a token that says nothing
 
@@ -72,15 +73,46 @@ module _ (states : List (List ℕ)) (depth : ℕ) {r : Moved} {states′ : List 
   turns-act e = turns-quiet states depth (doing (meaning a)) k h e
 
 -- a `u` word that finds no state
-pub turns-stopped : (states : List (List ℕ)) (depth : ℕ) → length states ≡ 64 → depth ≡ 0 → {page b t : List ℕ} {w v : ℕ} → Held page w v → (skip : ℕ) (run : Run) (num : Property)
-    → Turns (Refuses NoState) states run page b t w v (turnOf (held [] states depth) (pageOf page) b t (step skip run num) (Deed.unit num))
+pub turns-stopped : (rd : Reading) (states : List (List ℕ)) (depth : ℕ) → length states ≡ 64 → depth ≡ 0 → {page b t : List ℕ} {w v : ℕ} → Held page w v → (run : Run) (num : Property)
+    → Turns (Refuses NoState) states run page b t w v (turnOf (held [] states depth) (pageOf page) b t (stepOf (stepsBy rd) (held [] states depth) run num) (Deed.unit num))
 unfolding turnOf laidAll held moved said
-turns-stopped states depth all z h skip run num = record {
+turns-stopped rd states depth all z h run num = record {
   does = rw z refl;
   deep = omega arith;
   all = all;
   held = h;
 }
+
+-- a token that is passed over
+is-passed : (d : Deed Setting) → isPassed d ≡ true → d ≡ Deed.passes
+is-passed Deed.passes e = refl
+is-passed (Deed.unit num) e = cc
+is-passed Deed.opens e = cc
+is-passed Deed.closes e = cc
+is-passed (Deed.sets ss) e = cc
+is-passed (Deed.says bs) e = cc
+is-passed (Deed.tells bs) e = cc
+is-passed (Deed.refuses why) e = cc
+is-passed Deed.parts e = cc
+is-passed (Deed.stops why) e = cc
+
+said-passed : (st : List (List ℕ)) (run : Run) → said rows st (nothing run) Deed.passes ≡ []
+unfolding said values writtenAll spoken
+said-passed [] run = refl
+said-passed (top ∷ rest) run = refl
+
+pub turns-passed : (states : List (List ℕ)) (depth : ℕ) → length states ≡ 64 → depth ≤ 64 → {page b t : List ℕ} {w v : ℕ} → Held page w v
+    → (step : Run → Property → Gave) (run : Run) (d : Deed Setting) → isPassed d ≡ true
+    → Turns (Holds depth) states run page b t w v (turnOf (held [] states depth) (pageOf page) b t (gave step run d) d)
+unfolding turnOf laidAll gave
+turns-passed states depth all deep h step run d e =
+    let q : d ≡ Deed.passes = is-passed d e in
+    record {
+      does = rw (q, said-passed (held [] states depth) run, ← took-parts states depth all deep .does) refl;
+      deep = deep;
+      all = all;
+      held = h;
+    }
 
 -- ---- text that was laid, and the stack that stays
 
@@ -110,6 +142,18 @@ module _ (states : List (List ℕ)) (depth : ℕ) (all : length states ≡ 64) (
     held = h;
   }
 
+  pub turns-tell : {r : Moved} → r ≡ staysBy room depth → (bytes : List ℕ)
+      → roomed room (pageOf page′) b′ t′ ≡ addOf (pageOf page) (styleOf (getD states (depth - 1) [])) bytes b t
+      → Turns r states before page′ b′ t′ w v (turnOf (held [] states depth) (pageOf page) b t (ended before) (Deed.tells bytes))
+  unfolding turnOf
+  turns-tell i bytes e = record {
+    does = rw (i, told-text states depth z (pageOf page) b t bytes, ← took-keep states depth all z deep .does)
+        (room-turns room (held [] states depth) states depth (pageOf page′) b′ t′ before e refl);
+    deep = rw i (room-deep room depth deep);
+    all = all;
+    held = h;
+  }
+
   pub turns-break : {r : Moved} → r ≡ staysBy room depth → roomed room (pageOf page′) b′ t′ ≡ addOf (pageOf page) (styleOf (getD states (depth - 1) [])) (written 10) b t
       → Turns r states before page′ b′ t′ w v (turnOf (held [] states depth) (pageOf page) b t (ended before) (Deed.says (10 ∷ [])))
   unfolding written utf8
@@ -120,14 +164,14 @@ module _ (states : List (List ℕ)) (depth : ℕ) (all : length states ≡ 64) (
       → {e : Effect} → e ≡ does.says c → Turns r states before page′ b′ t′ w v (turnOf (held [] states depth) (pageOf page) b t (ended before) (doing e))
   turns-says i c e q = rw q (turns-text i (written c) e)
 
-  pub turns-unit : {r : Moved} → r ≡ staysBy room depth → (run : Run) (num : Property) {run′ : Run}
-      → roomed room (pageOf page′) b′ t′ ≡ laidAll (on (pageOf page) b t) (spoken rows (getD states (depth - 1) []) (writtenAll (values (step (getD (getD states (depth - 1) []) field.skip 0) run num))))
-      → run′ ≡ step (getD (getD states (depth - 1) []) field.skip 0) run num .run
-      → Turns r states run′ page′ b′ t′ w v (turnOf (held [] states depth) (pageOf page) b t (step (skipOf rows (held [] states depth)) run num) (Deed.unit num))
+  pub turns-unit : {r : Moved} → r ≡ staysBy room depth → (rd : Reading) (run : Run) (num : Property) {run′ : Run}
+      → roomed room (pageOf page′) b′ t′ ≡ laidAll (on (pageOf page) b t) (spoken rows (getD states (depth - 1) []) (writtenAll (values (stepBy rd (getD (getD states (depth - 1) []) field.skip 0) run num))))
+      → run′ ≡ stepBy rd (getD (getD states (depth - 1) []) field.skip 0) run num .run
+      → Turns r states run′ page′ b′ t′ w v (turnOf (held [] states depth) (pageOf page) b t (stepOf (stepsBy rd) (held [] states depth) run num) (Deed.unit num))
   unfolding turnOf
-  turns-unit i run num {run′} e f =
-      let s : getD (getD states (depth - 1) []) field.skip 0 ≡ skipOf rows (held [] states depth) = rw (held-top [] states depth z) in
-      let g : Gave = step (skipOf rows (held [] states depth)) run num in
+  turns-unit i rd run num {run′} e f =
+      let s : stepBy rd (getD (getD states (depth - 1) []) field.skip 0) run num ≡ stepOf (stepsBy rd) (held [] states depth) run num = rw (held-top [] states depth z) in
+      let g : Gave = stepOf (stepsBy rd) (held [] states depth) run num in
       let q : roomed room (pageOf page′) b′ t′ ≡ laidAll (on (pageOf page) b t) (said rows (held [] states depth) g (Deed.unit num)) =
       rw (said-values states depth z (pageOf page) b t g (Deed.unit num) refl, ← s) e in
       let f′ : run′ ≡ g .run = rw s at f in
@@ -192,22 +236,45 @@ unfolding effect painterWord paragraphWord characterWord endingWord indentWord
 word-turn rd st p b t w num true q = rw (eqb-true w 2 q) (unit-turn st p b t num)
 word-turn rd st p b t w num false q = refl
 
-pub turns-word : (rd : Reading) (src ws : List ℕ) (st : List (List ℕ)) (p : Page) (b t : List ℕ) (h : ℕ) → h ≤ 0 → getD ws 0 0 ≡ 5 → (a : Act) {num : Property}
-    → num ≡ numberAt ws → meaning a ≡ effect rd (getD ws 1 0) num → {r : Moved} {states : List (List ℕ)} {run : Run} {page b′ t′ : List ℕ} {w v : ℕ}
-    → Turns r states run page b′ t′ w v (turnOf st p b t (ended before) (doing (meaning a))) → Turns r states run page b′ t′ w v (turnOf st p b t (ended before) (deedAt rd src ws h))
-turns-word rd src ws st p b t h z k a {num} e f {r} {states} {run} {page} {b′} {t′} {w} {v} g =
-    let q : turnOf st p b t (ended before) (doing (meaning a)) ≡ turnOf st p b t (ended before) (deedAt rd src ws h) =
-    ap (λ (x : Effect). turnOf st p b t (ended before) (doing x)) (f ∙ ap (λ (x : Property). effect rd (getD ws 1 0) x) e)
-    ∙ word-turn rd st p b t (getD ws 1 0) (numberAt ws) (eqb (getD ws 1 0) 2) refl
-    ∙ ap (turnOf st p b t (ended before)) (kind-word rd src ws k ∙ at-token rd src ws h z) in
+-- a word, or a symbol, by its effect
+act-turn : (rd : Reading) (src ws : List ℕ) (st : List (List ℕ)) (p : Page) (b t : List ℕ) → eqb (getD ws 0 0) 5 || eqb (getD ws 0 0) 6 ≡ true
+    → turnOf st p b t (ended before) (doing (effectAt rd ws)) ≡ turnOf st p b t (ended before) (tokenDeed rd (shownOf src (itemAt ws)))
+unfolding effectAt
+act-turn rd src ws st p b t k = go (eqb (getD ws 0 0) 5) refl k
+  where
+    go : (x : Bool) → eqb (getD ws 0 0) 5 ≡ x → x || eqb (getD ws 0 0) 6 ≡ true
+        → turnOf st p b t (ended before) (doing (cond x (effect rd (getD ws 1 0) (numberAt ws)) (symbolEffect (getD ws 1 0) (numberAt ws))))
+        ≡ turnOf st p b t (ended before) (tokenDeed rd (shownOf src (itemAt ws)))
+    go true e k = word-turn rd st p b t (getD ws 1 0) (numberAt ws) (eqb (getD ws 1 0) 2) refl
+        ∙ ap (turnOf st p b t (ended before)) (kind-word rd src ws (eqb-true (getD ws 0 0) 5 e))
+    go false e k = ap (turnOf st p b t (ended before)) (kind-symbol rd src ws (eqb-true (getD ws 0 0) 6 k))
+
+-- it is read: what is left of it is all of it, or behind its run no more than that
+doing-turn : (st : List (List ℕ)) (p : Page) (b t : List ℕ) (n : ℕ) (d : Deed Setting) → isTelling d ≡ false → isPassed (left n d) ≡ false
+    → turnOf st p b t (ended before) d ≡ turnOf st p b t (ended before) (left n d)
+doing-turn st p b t n d e q = ap (turnOf st p b t (ended before)) (left-read n d d refl e q)
+
+pub turns-act-at : (rd : Reading) (src ws : List ℕ) (st : List (List ℕ)) (p : Page) (b t : List ℕ) (h n : ℕ) → h ≤ 0 → eqb (getD ws 0 0) 5 || eqb (getD ws 0 0) 6 ≡ true
+    → isPassed (left n (deedAt rd src ws h)) ≡ false → (a : Act) → meaning a ≡ effectAt rd ws
+    → {r : Moved} {states : List (List ℕ)} {run : Run} {page b′ t′ : List ℕ} {w v : ℕ}
+    → Turns r states run page b′ t′ w v (turnOf st p b t (ended before) (doing (meaning a)))
+    → Turns r states run page b′ t′ w v (turnOf st p b t (ended before) (left n (deedAt rd src ws h)))
+turns-act-at rd src ws st p b t h n z k x a f g =
+    let d : Deed Setting = deedAt rd src ws h in
+    let q : turnOf st p b t (ended before) (doing (meaning a)) ≡ turnOf st p b t (ended before) (left n d) =
+    ap (λ (y : Effect). turnOf st p b t (ended before) (doing y)) f
+    ∙ act-turn rd src ws st p b t k
+    ∙ ap (turnOf st p b t (ended before)) (at-token rd src ws h z)
+    ∙ doing-turn st p b t n d (act-telling rd src ws h z k) x in
     rw (← q) g
 
 -- a `u` word
-pub turns-step : (rd : Reading) (src ws : List ℕ) (st : List (List ℕ)) (p : Page) (b t : List ℕ) (h : ℕ) → (eqb (getD ws 0 0) 5 && eqb (getD ws 1 0) 2) ≡ true → (0 < h → getD ws 0 0 ≡ 1)
-    → (run₀ : Run) {num : Property} → num ≡ numberAt ws → {r : Moved} {states : List (List ℕ)} {run : Run} {page b′ t′ : List ℕ} {w v : ℕ}
-    → Turns r states run page b′ t′ w v (turnOf st p b t (step (skipOf rows st) run₀ num) (Deed.unit num))
-    → Turns r states run page b′ t′ w v (turnOf st p b t (gave (skipOf rows st) run₀ (deedAt rd src ws h)) (deedAt rd src ws h))
+pub turns-step : (rd : Reading) (src ws : List ℕ) (st : List (List ℕ)) (p : Page) (b t : List ℕ) (h n : ℕ) → (eqb (getD ws 0 0) 5 && eqb (getD ws 1 0) 2) ≡ true → (0 < h → getD ws 0 0 ≡ 1)
+    → isPassed (left n (deedAt rd src ws h)) ≡ false → (run₀ : Run) {num : Property} → num ≡ numberAt ws
+    → {r : Moved} {states : List (List ℕ)} {run : Run} {page b′ t′ : List ℕ} {w v : ℕ}
+    → Turns r states run page b′ t′ w v (turnOf st p b t (stepOf (stepsBy rd) st run₀ num) (Deed.unit num))
+    → Turns r states run page b′ t′ w v (turnOf st p b t (gave (stepOf (stepsBy rd) st) run₀ (left n (deedAt rd src ws h))) (left n (deedAt rd src ws h)))
 unfolding gave
-turns-step rd src ws st p b t h c l run₀ {num} e g =
-    let q : Deed.unit num ≡ deedAt rd src ws h = ap Deed.unit e ∙ unit-at rd src ws h c l in
+turns-step rd src ws st p b t h n c l x run₀ {num} e g =
+    let q : Deed.unit num ≡ left n (deedAt rd src ws h) = left-read n (Deed.unit num) (deedAt rd src ws h) (ap Deed.unit e ∙ unit-at rd src ws h c l) refl x in
     rw (← q) g

@@ -4,14 +4,15 @@ use Prim.Native.Nat.{ℕ, _≤_, _<_}
 use mathlib.Core.Path.{_≡_}
 use mathlib.Core.List.{List, []}
 use mathlib.Core.Bool.{cond}
-use lib.ListN.{length}
-use lib.Dec.{ltb}
+use lib.ListN.{length, getD}
+use lib.Dec.{ltb, eqb}
 use Rattle.answers.specs.declared.Why.{Why}
 use Rattle.answers.specs.declared.Why.the-variants.{BlockRoom, TextRoom}
 use Rattle.answers.specs.Answers.{Fate, becomes, fails}
 use Rattle.readings.specs.declared.Reading.{Reading}
-use Rattle.tokens.specs.Items.{itemAt, shownOf}
+use Rattle.tokens.specs.Items.{itemAt, shownOf, numberAt}
 use Rattle.settings.specs.Fields.{Setting, freshRow}
+use Rattle.settings.specs.Effects.{Effect, effect}
 use Rattle.units.specs.declared.Run.{Run}
 use Rattle.units.specs.declared.Gave.{Gave}
 use Rattle.machine.specs.Stack.{stackLimit, moved, held}
@@ -23,11 +24,15 @@ use Rattle.blocks.specs.Laying.{Laying, on, off, pageOf, Held}
 use Rattle.deeds.specs.declared.stack.Moved.{Moved}
 use Rattle.deeds.specs.declared.stack.Moved.the-variants.{Holds, Refuses}
 use Rattle.runs.specs.Runs.{rows, laidAll}
-use Rattle.deeds.specs.Deeds.{tokenDeed}
+use Rattle.deeds.specs.Deeds.{tokenDeed, symbolEffect}
 
 -- what the token that words start with does, where the walk passes over h tokens behind it
 unfoldable pub deedAt : Reading → List ℕ → List ℕ → ℕ → Deed Setting
 deedAt rd src ws h = cond (ltb 0 h) parts (tokenDeed rd (shownOf src (itemAt ws)))
+
+-- the effect of a word or a symbol that words start with
+unfoldable pub effectAt : Reading → List ℕ → Effect
+effectAt rd ws = cond (eqb (getD ws 0 0) 5) (effect rd (getD ws 1 0) (numberAt ws)) (symbolEffect (getD ws 1 0) (numberAt ws))
 
 -- what an answer says of the states that it leaves
 abbrev pub movedBy : Moved → List (List ℕ) → Fate (List (List ℕ))

@@ -2,11 +2,12 @@
 use mathlib.Core.Path.{_≡_, sym, ap, _∙_}
 use mathlib.Core.List.{List}
 use Prim.Native.Nat.{ℕ}
+use Rattle.readings.specs.declared.Reading.{Reading}
 use Rattle.parser.specs.declared.Answer.{Answer}
 use Rattle.extraction.specs.declared.listing.Listed.{Listed}
 use Rattle.extraction.specs.Extractor.{TextOf, Extracts}
 
-module _ {letter : List ℕ} {r r′ : Answer} {room room′ : List ℕ} (x : TextOf letter r room) (y : TextOf letter r′ room′) where
+module _ {rd : Reading} {letter : List ℕ} {r r′ : Answer} {room room′ : List ℕ} (x : TextOf rd letter r room) (y : TextOf rd letter r′ room′) where
   pub same-answer : r ≡ r′
   same-answer = x .answer ∙ sym (y .answer)
 
@@ -16,7 +17,7 @@ module _ {letter : List ℕ} {r r′ : Answer} {room room′ : List ℕ} (x : Te
 abbrev listed : ℕ → ℕ → Listed
 listed n b = record { number = n; bytes = b }
 
-module _ {letter page : List ℕ} {r r′ : Listed} {page′ page″ : List ℕ} (x : Extracts letter page r page′) (y : Extracts letter page r′ page″) where
+module _ {rd : Reading} {letter page : List ℕ} {r r′ : Listed} {page′ page″ : List ℕ} (x : Extracts rd letter page r page′) (y : Extracts rd letter page r′ page″) where
   pub same-listed : r ≡ r′
   same-listed = ap (λ (n : ℕ). listed n (r .bytes)) (x .number ∙ sym (y .number)) ∙ ap (listed (r′ .number)) (x .bytes ∙ sym (y .bytes))
 

@@ -1,4 +1,4 @@
--- 01, Sample letters: the rooms of the extractor, what it reads of a letter and what it prints of it. Assumes nothing: these are
+-- 01, Sample letters: the rooms of the extractor, what it reads of a letter and what it prints of it, by the reading (01's is plain). Assumes nothing: these are
 -- definitions.
 use Prim.Native.Nat.{ℕ, _*_, _≤_}
 use mathlib.Core.Path.{_≡_}
@@ -11,7 +11,7 @@ use Rattle.answers.specs.Answers.{refusal, Found, found, refused}
 use Rattle.tokens.specs.Tokens.{tokenWords}
 use Rattle.fonts.specs.Rows.{fontWords}
 use Rattle.colours.specs.Colours.{colourWords}
-use Rattle.readings.specs.declared.Reading.the-variants.{Plain}
+use Rattle.readings.specs.declared.Reading.{Reading}
 use Rattle.blocks.specs.Pages.{blockWords, textOf}
 use Rattle.parser.specs.Parsing.{Sizes, Letter, answerNumber, answerPlace, answerCounts}
 use Rattle.parser.specs.declared.Answer.{Answer}
@@ -31,17 +31,17 @@ letterMost = 8192
 abbrev pub longer : List ℕ → Bool
 longer letter = ltb letterMost (length letter)
 
-unfoldable pub extractedAnswer : List ℕ → Answer
-extractedAnswer letter = cond (longer letter) (Refuses (refusal SourceTooLong)) (readAnswer Plain letter extractorRooms)
+unfoldable pub extractedAnswer : Reading → List ℕ → Answer
+extractedAnswer rd letter = cond (longer letter) (Refuses (refusal SourceTooLong)) (readAnswer rd letter extractorRooms)
 
 -- the text room: the text and zeros, or zeros alone: "Any refusal .. zeroes all lent rooms."
-unfoldable pub extractedText : List ℕ → List ℕ
-extractedText letter = cond (longer letter) (replicate (extractorRooms .text) 0) (textRoom Plain letter extractorRooms)
+unfoldable pub extractedText : Reading → List ℕ → List ℕ
+extractedText rd letter = cond (longer letter) (replicate (extractorRooms .text) 0) (textRoom rd letter extractorRooms)
 
 -- what `text_of` answers, and the text room that it leaves; the answer counts no more bytes than the room has
-pub record TextOf (letter : List ℕ) (r : Answer) (room : List ℕ) : Type 0 where
-  pub answer : r ≡ extractedAnswer letter
-  pub text : room ≡ extractedText letter
+pub record TextOf (rd : Reading) (letter : List ℕ) (r : Answer) (room : List ℕ) : Type 0 where
+  pub answer : r ≡ extractedAnswer rd letter
+  pub text : room ≡ extractedText rd letter
   pub within : (answerCounts r) .text ≤ extractorRooms .text
 
 -- the text itself; a refusal has none
@@ -49,23 +49,23 @@ abbrev pub textIn : Found Letter → List ℕ
 textIn (found l) = textOf (l .pieces)
 textIn (refused r) = []
 
-unfoldable pub letterText : List ℕ → List ℕ
-letterText letter = cond (longer letter) [] (textIn (letterOf Plain letter extractorRooms))
+unfoldable pub letterText : Reading → List ℕ → List ℕ
+letterText rd letter = cond (longer letter) [] (textIn (letterOf rd letter extractorRooms))
 
 -- what the extractor prints of a letter
-unfoldable pub extracted : List ℕ → List ℕ
-extracted letter =
-    let a = extractedAnswer letter in
+unfoldable pub extracted : Reading → List ℕ → List ℕ
+extracted rd letter =
+    let a = extractedAnswer rd letter in
     let z = extractorRooms in
-    listing (answerNumber a) (answerPlace a) (answerCounts a) (fontRoom Plain letter z) (colourRoom Plain letter z) (blockRoom Plain letter z) (textRoom Plain letter z)
+    listing (answerNumber a) (answerPlace a) (answerCounts a) (fontRoom rd letter z) (colourRoom rd letter z) (blockRoom rd letter z) (textRoom rd letter z)
 
 -- what `extract` answers, and the page that it leaves: the listing, whole, and behind it what stood there before
-pub record Extracts (letter page : List ℕ) (r : Listed) (page′ : List ℕ) : Type 0 where
-  pub number : r .number ≡ answerNumber (extractedAnswer letter)
-  pub bytes : r .bytes ≡ length (extracted letter)
-  pub content : page′ ≡ extracted letter ++ drop (length (extracted letter)) page
+pub record Extracts (rd : Reading) (letter page : List ℕ) (r : Listed) (page′ : List ℕ) : Type 0 where
+  pub number : r .number ≡ answerNumber (extractedAnswer rd letter)
+  pub bytes : r .bytes ≡ length (extracted rd letter)
+  pub content : page′ ≡ extracted rd letter ++ drop (length (extracted rd letter)) page
 
 -- a letter read in the extractor's rooms: the answer, the text room, and what is listed of all rooms
-pub record ReadInRooms (letter : List ℕ) (r : Answer) (fonts colours blocks room : List ℕ) : Type 0 where
-  pub text-of : TextOf letter r room
-  pub listed : listing (answerNumber r) (answerPlace r) (answerCounts r) fonts colours blocks room ≡ extracted letter
+pub record ReadInRooms (rd : Reading) (letter : List ℕ) (r : Answer) (fonts colours blocks room : List ℕ) : Type 0 where
+  pub text-of : TextOf rd letter r room
+  pub listed : listing (answerNumber r) (answerPlace r) (answerCounts r) fonts colours blocks room ≡ extracted rd letter

@@ -39,22 +39,23 @@ const BLOCK_ROOM: usize = 128 * BLOCK_WORDS;
 // No listing of these rooms has more bytes.
 pub const PAGE_BYTES: usize = 65536;
 
-// A letter in the extractor's rooms, read plain. A longer letter than it takes gets refusal 1, and no text.
+// A letter in the extractor's rooms, by a reading. A longer letter than it takes gets refusal 1, and no text.
 fn read(
     letter: &[u8],
+    reading: Reading,
     tokens: &mut [u32; TOKEN_ROOM],
     fonts: &mut [u32; FONT_ROOM],
     colours: &mut [u32; COLOUR_ROOM],
     blocks: &mut [u32; BLOCK_ROOM],
     text: &mut [u8; TEXT_BYTES],
 ) -> Answer
-    ensures { λ r. ⌜ ReadInRooms (now (letter .entry)) r (now (fonts .exit)) (now (colours .exit)) (now (blocks .exit)) (now (text .exit)) ⌝ }
+    ensures { λ r. ⌜ ReadInRooms reading (now (letter .entry)) r (now (fonts .exit)) (now (colours .exit)) (now (blocks .exit)) (now (text .exit)) ⌝ }
 {
     if LETTER_MOST < letter.len() {
         clear_bytes_from(text, 0);
         return Answer::Refuses(Refusal::of(Why::SourceTooLong));
     }
-    reader::read(letter, Reading::Plain, tokens, fonts, colours, blocks, text)
+    reader::read(letter, reading, tokens, fonts, colours, blocks, text)
 }
 
 // The listing of an answer over the extractor's rooms: the page holds any.
@@ -73,8 +74,8 @@ fn list_whole(
 }
 
 // A letter's answer, and its text: as many bytes of the room as the answer counts, and zeros behind them.
-pub fn text_of(letter: &[u8], text: &mut [u8; TEXT_BYTES]) -> Answer
-    ensures { λ r. ⌜ TextOf (now (letter .entry)) r (now (text .exit)) ⌝ }
+pub fn text_of(letter: &[u8], reading: Reading, text: &mut [u8; TEXT_BYTES]) -> Answer
+    ensures { λ r. ⌜ TextOf reading (now (letter .entry)) r (now (text .exit)) ⌝ }
 {
     let mut tokens = [0u32; TOKEN_ROOM];
     let mut fonts = [0u32; FONT_ROOM];
@@ -82,6 +83,7 @@ pub fn text_of(letter: &[u8], text: &mut [u8; TEXT_BYTES]) -> Answer
     let mut blocks = [0u32; BLOCK_ROOM];
     read(
         letter,
+        reading,
         &mut tokens,
         &mut fonts,
         &mut colours,
@@ -91,8 +93,8 @@ pub fn text_of(letter: &[u8], text: &mut [u8; TEXT_BYTES]) -> Answer
 }
 
 // A letter's listing on a page, whole.
-pub fn extract(letter: &[u8], page: &mut [u8; PAGE_BYTES]) -> Listed
-    ensures { λ r. ⌜ Extracts (now (letter .entry)) (now (page .entry)) r (now (page .exit)) ⌝ }
+pub fn extract(letter: &[u8], reading: Reading, page: &mut [u8; PAGE_BYTES]) -> Listed
+    ensures { λ r. ⌜ Extracts reading (now (letter .entry)) (now (page .entry)) r (now (page .exit)) ⌝ }
 {
     let mut tokens = [0u32; TOKEN_ROOM];
     let mut fonts = [0u32; FONT_ROOM];
@@ -101,6 +103,7 @@ pub fn extract(letter: &[u8], page: &mut [u8; PAGE_BYTES]) -> Listed
     let mut text = [0u8; TEXT_BYTES];
     let answer = read(
         letter,
+        reading,
         &mut tokens,
         &mut fonts,
         &mut colours,

@@ -31,7 +31,7 @@ use Rattle.tokens.specs.declared.Property.{Property}
 use Rattle.tokens.specs.declared.Property.the-variants.{None, Value}
 use Rattle.tokens.specs.Tokens.{Token, tokenWords}
 use Rattle.tokens.specs.declared.item.Item.{Item}
-use Rattle.tokens.specs.declared.item.Item.the-variants.{Text, Opening, Closing, LineBreak, Ignorable, Word, Unknown}
+use Rattle.tokens.specs.declared.item.Item.the-variants.{Text, Opening, Closing, LineBreak, Ignorable, Word, Unknown, Symbol}
 use Rattle.tokens.specs.Items.{part, itemAt, shownOf, sliceAt, tokensAll}
 use Rattle.tokens.proofs.Items.{rest, words-less, tokens-none, tokens-some}
 use Rattle.fonts.specs.declared.rows.Font.{Font as Row}
@@ -92,6 +92,7 @@ fontAfter src Opening f = f
 fontAfter src LineBreak f = f
 fontAfter src Ignorable f = f
 fontAfter src (Unknown p n num) f = f
+fontAfter src (Symbol b num) f = f
 
 -- what follows a store
 abbrev thenFont : Font → Fate Fonts → Fate Fonts
@@ -151,6 +152,7 @@ effect-token limit src Opening s = refl
 effect-token limit src LineBreak s = refl
 effect-token limit src Ignorable s = refl
 effect-token limit src (Unknown p n num) s = refl
+effect-token limit src (Symbol b num) s = refl
 
 -- the font that an effect leaves is this one
 abbrev Leaves : Font → Effect → Type 0
@@ -184,6 +186,7 @@ effect-row src Opening f = refl
 effect-row src LineBreak f = refl
 effect-row src Ignorable f = refl
 effect-row src (Unknown p n num) f = refl
+effect-row src (Symbol b num) f = refl
 
 -- the loop: what is left, from the present table and font, leads where the whole leads
 pub record Loop (src tokens : List ℕ) (count : ℕ) (room₀ : List ℕ) (limit : ℕ) (room ws : List ℕ) (n : ℕ) (font : Row) (held : ℕ) : Type 0 where

@@ -98,6 +98,7 @@ module _ (limit : ℕ) where
   sound-token Shown.lineBreak s h = h
   sound-token Shown.ignorable s h = h
   sound-token (Shown.unknown p bs num) s h = h
+  sound-token (Shown.symbol b num) s h = h
 
   sound-at : (p : ℕ) (x : Fate Fonts) → SoundFate limit x → SoundIf limit (foundAt p x)
   sound-at p (becomes s) h = h

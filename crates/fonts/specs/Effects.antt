@@ -13,7 +13,7 @@ use Rattle.bytes.specs.Bytes.{inClass, body}
 use Rattle.tokens.specs.declared.Property.{Property}
 use Rattle.tokens.specs.declared.Property.the-variants.{None, Value}
 use Rattle.tokens.specs.declared.item.Item.{Item}
-use Rattle.tokens.specs.declared.item.Item.the-variants.{Text, Opening, Closing, LineBreak, Ignorable, Word, Unknown}
+use Rattle.tokens.specs.declared.item.Item.the-variants.{Text, Opening, Closing, LineBreak, Ignorable, Word, Unknown, Symbol}
 use Rattle.tokens.specs.Items.{part}
 use Rattle.fonts.specs.declared.rows.Font.{Font as Row}
 use Rattle.fonts.specs.declared.Effect.{Effect}
@@ -44,6 +44,7 @@ effectOf src Opening f = Set f
 effectOf src LineBreak f = Set f
 effectOf src Ignorable f = Set f
 effectOf src (Unknown p n num) f = Set f
+effectOf src (Symbol b num) f = Set f
 
 -- 11, unless the store was refused
 abbrev pub unnumbered : Written → Why

@@ -45,6 +45,7 @@ fontToken limit Shown.opening s = becomes s
 fontToken limit Shown.lineBreak s = becomes s
 fontToken limit Shown.ignorable s = becomes s
 fontToken limit (Shown.unknown p bs num) s = becomes s
+fontToken limit (Shown.symbol b num) s = becomes s
 
 -- a token; a refusal has the place of its slice
 abbrev pub nextFont : ℕ → Found Fonts → Token → Found Fonts

@@ -138,6 +138,7 @@ fn step(source: &[u8], i: Item, f: Font) -> Effect
         Item::LineBreak => Effect::Set(f),
         Item::Ignorable => Effect::Set(f),
         Item::Unknown(_, _, _) => Effect::Set(f),
+        Item::Symbol(_, _) => Effect::Set(f),
     }
 }
 

@@ -1,4 +1,4 @@
-// A letter's text for people: the letter comes by standard input, its text goes to standard output, each `\par` a line feed. A
+// A letter's text for people: the letter comes by standard input, its text by the specification goes to standard output. A
 // refusal is one line on standard error, its number and its place, and no text. Its rooms hold what any letter of up to 65,536 bytes
 // needs, but for a block every second byte.
 use answers::Refusal;
@@ -63,7 +63,7 @@ fn run(
     let n = io::read_full(STDIN_FILENO, letter);
     let answer = read(
         &letter[..n],
-        Reading::Paragraphs,
+        Reading::Standard,
         tokens,
         fonts,
         colours,

@@ -20,7 +20,7 @@ use Rattle.answers.specs.Answers.{refusalAt, Found, found, refused}
 use Rattle.rooms.proofs.Streams.{done-refused}
 use Rattle.tokens.specs.declared.Property.{Property}
 use Rattle.tokens.specs.Tokens.{Token, tokenWords, shownBy}
-use Rattle.tokens.specs.declared.item.Item.the-variants.{Text, Closing, LineBreak, Ignorable, Word, Unknown}
+use Rattle.tokens.specs.declared.item.Item.the-variants.{Text, Closing, LineBreak, Ignorable, Word, Unknown, Symbol}
 use Rattle.tokens.specs.Items.{propertyOf, itemOf, itemAt, shownAll, tokensAll}
 use Rattle.tokens.proofs.Items.{item-opening, tokens-take, tokens-shown}
 use Rattle.rooms.proofs.Clearing.{overlaid-front}
@@ -44,18 +44,19 @@ module _ (ws : List ℕ) where
   unfolding itemAt itemOf
   opens-no h =
       rw (ne-eqb _ 1 h)
-      (go (eqb (getD ws 0 0) 2) (eqb (getD ws 0 0) 3) (eqb (getD ws 0 0) 4) (eqb (getD ws 0 0) 5) (eqb (getD ws 1 0) 49)
+      (go (eqb (getD ws 0 0) 2) (eqb (getD ws 0 0) 3) (eqb (getD ws 0 0) 4) (eqb (getD ws 0 0) 5) (eqb (getD ws 1 0) 49) (eqb (getD ws 0 0) 6)
       (propertyOf (getD ws 2 0) (getD ws 3 0)))
     where
-      go : (b c d e u : Bool) (num : Property)
+      go : (b c d e u f : Bool) (num : Property)
           → false ≡ opens (cond b Closing (cond c LineBreak (cond d Ignorable
-          (cond e (cond u (Unknown (getD ws 4 0) (getD ws 5 0) num) (Word (getD ws 1 0) num)) (Text (getD ws 4 0) (getD ws 5 0))))))
-      go true c d e u num = refl
-      go false true d e u num = refl
-      go false false true e u num = refl
-      go false false false true true num = refl
-      go false false false true false num = refl
-      go false false false false u num = refl
+          (cond e (cond u (Unknown (getD ws 4 0) (getD ws 5 0) num) (Word (getD ws 1 0) num)) (cond f (Symbol (getD ws 1 0) num) (Text (getD ws 4 0) (getD ws 5 0)))))))
+      go true c d e u f num = refl
+      go false true d e u f num = refl
+      go false false true e u f num = refl
+      go false false false true true f num = refl
+      go false false false true false f num = refl
+      go false false false false u true num = refl
+      go false false false false u false num = refl
 
 done-done : (n m : ℕ) → Done n ≡ Done m → n ≡ m
 done-done n m e = cc

@@ -14,7 +14,7 @@ use Rattle.answers.specs.Answers.{Found, found, refused}
 use Rattle.rooms.specs.Rooms.{tableLimit}
 use Rattle.tokens.specs.Tokens.{Token, token, shownWords, tokenWords, shownBy}
 use Rattle.tokens.specs.declared.item.Item.{Item}
-use Rattle.tokens.specs.declared.item.Item.the-variants.{Text, Opening, Closing, LineBreak, Ignorable, Word, Unknown}
+use Rattle.tokens.specs.declared.item.Item.the-variants.{Text, Opening, Closing, LineBreak, Ignorable, Word, Unknown, Symbol}
 use Rattle.tokens.specs.Items.{itemAt, shownOf, sliceAt, tokenAt, tokensAll}
 use Rattle.tokens.proofs.Items.{rest, words-less, tokens-none, tokens-some, tokens-drop}
 use Rattle.fonts.specs.Rows.{tableWords, fontWords}
@@ -87,6 +87,7 @@ opening-of Ignorable e = absurd (false≢true e)
 opening-of (Text p n) e = absurd (false≢true e)
 opening-of (Word w num) e = absurd (false≢true e)
 opening-of (Unknown p n num) e = absurd (false≢true e)
+opening-of (Symbol b num) e = absurd (false≢true e)
 
 -- the step of a token that is no opening bracket
 passes : (f c : ℕ) (s : Tables) (src t : List ℕ) (ts : List Token) (i : Item) → opens i ≡ false
@@ -98,6 +99,7 @@ passes f c s src t ts Ignorable e = refl
 passes f c s src t ts (Text p n) e = refl
 passes f c s src t ts (Word w num) e = refl
 passes f c s src t ts (Unknown p n num) e = refl
+passes f c s src t ts (Symbol b num) e = refl
 
 on-bad : {a b h : ℕ} {q : Refusal} → On a b h ≡ Bad q → ⊥
 on-bad e = let z : _≡_ {A = ℕ} 0 1 = cc in omega arith

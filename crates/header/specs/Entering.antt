@@ -9,7 +9,7 @@ use Rattle.answers.specs.declared.Why.the-variants.{TableLineBreak}
 use Rattle.answers.specs.Answers.{refusalAt, Found, found, refused}
 use Rattle.tokens.specs.Tokens.{Token, shownBy}
 use Rattle.tokens.specs.declared.item.Item.{Item}
-use Rattle.tokens.specs.declared.item.Item.the-variants.{Text, Opening, Closing, LineBreak, Ignorable, Word, Unknown}
+use Rattle.tokens.specs.declared.item.Item.the-variants.{Text, Opening, Closing, LineBreak, Ignorable, Word, Unknown, Symbol}
 use Rattle.fonts.specs.Rows.{Font, tableWords, InFront}
 use Rattle.fonts.specs.Fonts.{fonts}
 use Rattle.colours.specs.Colours.{colours}
@@ -48,6 +48,7 @@ opens Ignorable = false
 opens (Text p n) = false
 opens (Word w num) = false
 opens (Unknown p n num) = false
+opens (Symbol b num) = false
 
 -- the tables in front of two rooms, and their counts
 pub record Holds (s : Tables) (nf nc : ℕ) (fs cs : List ℕ) : Type 0 where

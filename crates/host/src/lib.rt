@@ -1,8 +1,8 @@
-// What hosts written in C or Rust call: six exported functions over sources, lists and lent rooms, each a pointer and a length.
+// What hosts written in C or Rust call: seven exported functions over sources, lists and lent rooms, each a pointer and a length.
 // host/elduvarn.h declares them.
 //
 //   elduvarn_cut                                     a letter's tokens, by a reading that is said by its number
-//   elduvarn_read_plain, elduvarn_read_paragraphs    a letter, read whole
+//   elduvarn_read_plain, _paragraphs, _standard      a letter, read whole
 //   elduvarn_stored_check, _read, _write             the stored form
 //
 // Every function is total, and says what the crate below says.
@@ -65,6 +65,30 @@ pub extern "C" fn elduvarn_read_paragraphs(
     let answer = read(
         source,
         Reading::Paragraphs,
+        tokens,
+        fonts,
+        colours,
+        blocks,
+        text,
+    );
+    of_reading(answer)
+}
+
+#[no_mangle]
+pub extern "C" fn elduvarn_read_standard(
+    source: &[u8],
+    tokens: &mut [u32],
+    fonts: &mut [u32],
+    colours: &mut [u32],
+    blocks: &mut [u32],
+    text: &mut [u8],
+) -> ReadAnswer
+    ensures { λ r. ⌜ ReadFor Reading.Standard (now (source .entry)) (sizes (now (tokens .entry)) (now (fonts .entry)) (now (colours .entry)) (now (blocks .entry)) (now (text .entry)))
+        r (now (tokens .exit)) (now (fonts .exit)) (now (colours .exit)) (now (blocks .exit)) (now (text .exit)) ⌝ }
+{
+    let answer = read(
+        source,
+        Reading::Standard,
         tokens,
         fonts,
         colours,

@@ -5,6 +5,7 @@ use crate::same::same;
 use crate::say;
 use extraction::PAGE_BYTES;
 use extraction::extract;
+use readings::Reading;
 ghost use Prim.Native.Nat.{_≤_};
 ghost use lib.ListN.{length};
 ghost use Rattle.letters.specs.Listed.{Whole};
@@ -51,7 +52,7 @@ pub fn read_and_judge(
     let letter_end = letter.letter;
     let from = letter.listing;
     let end = letter.end;
-    let listed = extract(&rest[LENGTH_BYTES..letter_end], page);
+    let listed = extract(&rest[LENGTH_BYTES..letter_end], Reading::Plain, page);
     count_in(listed.number, answers);
     judge(&rest[from..end], page, listed.bytes, letters, agree)
 }

@@ -13,7 +13,7 @@ use lib.Seq.{take-all}
 use Rattle.answers.specs.declared.Outcome.{Outcome}
 use Rattle.answers.specs.Answers.{outcomeNumber, outcomePlace, outcomeCount}
 use Rattle.tokens.specs.Tokens.{tokenWords}
-use Rattle.readings.specs.declared.Reading.the-variants.{Plain}
+use Rattle.readings.specs.declared.Reading.{Reading}
 use Rattle.cutter.specs.Cutting.{cutAnswer, cutRoom}
 use Rattle.lines.specs.Lines.{lines}
 use Rattle.lines.specs.Pages.{Put, PutWhole}
@@ -62,7 +62,7 @@ written-more {count} {room} {left} {rest} w {n} e =
       all = rw (t, e, append-assoc) (w .all ∙ ap (λ (l : List ℕ). w .written ++ l) (lines-split tokenWords left partTokens rest));
     }
 
-pub list-lines : (letter : List ℕ) (words : ℕ) {o : Outcome} {room : List ℕ} → o ≡ cutAnswer Plain letter words → room ≡ cutRoom Plain letter words → length room ≡ words
-    → tokenLines letter (length room) ≡ firstLine o ++ lines tokenWords (outcomeCount o) room
+pub list-lines : (rd : Reading) (letter : List ℕ) (words : ℕ) {o : Outcome} {room : List ℕ} → o ≡ cutAnswer rd letter words → room ≡ cutRoom rd letter words → length room ≡ words
+    → tokenLines rd letter (length room) ≡ firstLine o ++ lines tokenWords (outcomeCount o) room
 unfolding tokenLines
-list-lines letter words e f n = rw (n, e, f)
+list-lines rd letter words e f n = rw (n, e, f)

@@ -5,7 +5,7 @@ use lib.ListN.{take}
 use Rattle.answers.specs.declared.Outcome.{Outcome}
 use Rattle.answers.specs.Answers.{outcomeNumber, outcomePlace, outcomeCount}
 use Rattle.tokens.specs.Tokens.{tokenWords}
-use Rattle.readings.specs.declared.Reading.the-variants.{Plain}
+use Rattle.readings.specs.declared.Reading.{Reading}
 use Rattle.cutter.specs.Cutting.{cutAnswer, cutRoom}
 use Rattle.lines.specs.Lines.{item, placeItem, lines}
 
@@ -14,10 +14,10 @@ unfoldable pub firstLine : Outcome → List ℕ
 firstLine o = item (outcomeNumber o) 32 ++ (placeItem (outcomeNumber o) (outcomePlace o) ++ item (outcomeCount o) 10)
 
 -- then the words of each token, one a line; the letter is cut in a room of so many words
-unfoldable pub tokenLines : List ℕ → ℕ → List ℕ
-tokenLines letter words =
-    let o = cutAnswer Plain letter words in
-    firstLine o ++ lines tokenWords (outcomeCount o) (cutRoom Plain letter words)
+unfoldable pub tokenLines : Reading → List ℕ → ℕ → List ℕ
+tokenLines rd letter words =
+    let o = cutAnswer rd letter words in
+    firstLine o ++ lines tokenWords (outcomeCount o) (cutRoom rd letter words)
 
 -- the first part of the lines of so many tokens: those of 1,024
 abbrev pub partTokens : ℕ

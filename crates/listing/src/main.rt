@@ -1,4 +1,5 @@
-// Lists a letter's tokens: the letter comes by standard input, the list goes to standard output.
+// Lists a letter's tokens: the letter comes by standard input, the list goes to standard output. It is cut plain, or by the reading whose
+// number is the first argument.
 //
 // The first line has the answer's number, of a refusal its place, and the count of tokens. Then each token has a line: its words in decimal, with the
 // number as a signed one. A read that fails counts as the letter's end.
@@ -99,23 +100,30 @@ fn write_tokens(room: &[u32], count: usize, page: &mut [u8; PAGE_BYTES]) {
     write_part(rest, left, page);
 }
 
-// Writes a letter's list: that is the answer's line and the lines of the room's tokens. The letter is named for the promise alone.
-fn write_list(letter: &[u8], outcome: Outcome, room: &[u32], page: &mut [u8; PAGE_BYTES])
-    requires { ⌜ tokenLines (now letter) (length (now room)) ≡ firstLine outcome ++ lines tokenWords (outcomeCount outcome) (now room) ⌝ }
+// Writes a letter's list: that is the answer's line and the lines of the room's tokens. Reading and letter are named for the
+// promise alone.
+fn write_list(
+    reading: Reading,
+    letter: &[u8],
+    outcome: Outcome,
+    room: &[u32],
+    page: &mut [u8; PAGE_BYTES],
+)
+    requires { ⌜ tokenLines reading (now letter) (length (now room)) ≡ firstLine outcome ++ lines tokenWords (outcomeCount outcome) (now room) ⌝ }
 {
     write_first_line(outcome, page);
     write_tokens(room, outcome.count(), page);
 }
 
-fn print(letter: &[u8], room: &mut [u32], page: &mut [u8; PAGE_BYTES]) {
-    let outcome = cutter::cut(letter, Reading::Plain, room);
-    write_list(letter, outcome, room, page);
+fn print(reading: Reading, letter: &[u8], room: &mut [u32], page: &mut [u8; PAGE_BYTES]) {
+    let outcome = cutter::cut(letter, reading, room);
+    write_list(reading, letter, outcome, room, page);
 }
 
 // Reads the letter, and prints its list.
 fn run(letter: &mut [u8], room: &mut [u32], page: &mut [u8; PAGE_BYTES]) {
     let n = io::read_full(STDIN_FILENO, letter);
-    print(&letter[..n], room, page);
+    print(asked::reading(), &letter[..n], room, page);
 }
 
 fn in_rooms(

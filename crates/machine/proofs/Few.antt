@@ -1,7 +1,9 @@
 -- The machine says no more than there are tokens: each token says one thing, and what a run of units still owes was kept back by
 -- one of its tokens.
---     step-few      a unit
---     machine-few   all tokens
+--     Few                      a token that says no more than it may
+--     step-few, standard-few   a unit, as 01 has it and by 02, A1
+--     ended-few                what ends a run
+--     machine-few              all tokens, if each `u` token says no more than it may
 -- Assumes nothing.
 use mathlib.Core.Path.{_≡_, refl, ap, _∙_}
 use mathlib.Core.List.{List, [], _∷_, _++_}
@@ -16,10 +18,10 @@ use Rattle.rooms.specs.Streams.{Stream, end, items}
 use Rattle.tokens.specs.declared.Property.{Property}
 use Rattle.units.specs.declared.Run.{Run}
 use Rattle.units.specs.declared.Gave.{Gave}
-use Rattle.units.specs.Units.{before, unitOf, isHigh, isLow, alone, pair, skipCount, nothing, taken, met, metAny, step, values}
+use Rattle.units.specs.Units.{before, unitOf, isHigh, isLow, alone, pair, skipCount, nothing, taken, takenAny, met, metAny, step, standardStep, values}
 use Rattle.machine.specs.Stack.{moved, stackOf}
-use Rattle.machine.specs.Machine.{States, Deed, opens, closes, sets, says, unit, refuses, parts, stops, Act, at}
-use Rattle.machine.specs.Machine.{ended, gave, textsOf, writtenAll, _▸▸_, onward, moveOf, skipOf, spoken, said, machine}
+use Rattle.machine.specs.Machine.{States, Steps, Deed, opens, closes, sets, says, tells, unit, refuses, parts, stops, passes, Act, at}
+use Rattle.machine.specs.Machine.{ended, gave, textsOf, left, owedBehind, writtenAll, _▸▸_, onward, moveOf, spoken, said, stepOf, owesOf, machine}
 
 -- what a run still owes
 abbrev pub owed : Run → ℕ
@@ -29,14 +31,14 @@ one-most : (b : Bool) → cond b 1 0 ≤ 1
 one-most true = omega arith
 one-most false = omega arith
 
-abbrev Few : Run → Gave → Type 0
+abbrev pub Few : Run → Gave → Type 0
 Few run g = length (values g) + owed (g .run) ≤ 1 + owed run
 
-nothing-few : (run after : Run) → after .high ≡ run .high → Few run (nothing after)
+pub nothing-few : (run after : Run) → after .high ≡ run .high → Few run (nothing after)
 unfolding values
 nothing-few run after e = rw e (omega arith)
 
-taken-few : (run : Run) (u : ℕ) → Few run (taken run u)
+pub taken-few : (run : Run) (u : ℕ) → Few run (taken run u)
 unfolding taken values
 taken-few run u = go (ltb 0 (run .high)) (isLow u) (isHigh u)
   where
@@ -70,7 +72,7 @@ pub step-few : (skip : ℕ) (run : Run) (num : Property) → Few run (step skip 
 unfolding step
 step-few skip run num = any-few skip run (unitOf num)
 
-ended-few : (run : Run) → length (values (ended run)) ≡ owed run
+pub ended-few : (run : Run) → length (values (ended run)) ≡ owed run
 unfolding values
 ended-few run = go (ltb 0 (run .high))
   where
@@ -78,17 +80,29 @@ ended-few run = go (ltb 0 (run .high))
     go true = refl
     go false = refl
 
+any-standard : (run : Run) (us : List ℕ) → Few run (takenAny run us)
+unfolding takenAny
+any-standard run [] = let h = ended-few run in omega arith
+any-standard run (u ∷ us) = taken-few run u
+
+pub standard-few : (run : Run) (num : Property) → Few run (standardStep run num)
+unfolding standardStep
+standard-few run num = any-standard run (unitOf num)
+
 -- a token, with its own text
-gave-few : {S : Type 0} (skip : ℕ) (run : Run) (d : Deed S) → length (values (gave skip run d)) + length (textsOf d) + owed (gave skip run d .run) ≤ 1 + owed run
+gave-few : {S : Type 0} (step : Run → Property → Gave) → ((run : Run) (num : Property) → Few run (step run num))
+    → (run : Run) (d : Deed S) → length (values (gave step run d)) + length (textsOf d) + owed (gave step run d .run) ≤ 1 + owed run
 unfolding gave
-gave-few skip run (unit num) = let h = step-few skip run num in omega arith
-gave-few skip run (says bs) = let h = ended-few run in omega arith
-gave-few skip run opens = let h = ended-few run in omega arith
-gave-few skip run closes = let h = ended-few run in omega arith
-gave-few skip run (sets ss) = let h = ended-few run in omega arith
-gave-few skip run (refuses why) = let h = ended-few run in omega arith
-gave-few skip run parts = let h = ended-few run in omega arith
-gave-few skip run (stops why) = let h = ended-few run in omega arith
+gave-few step few run (unit num) = let h = few run num in omega arith
+gave-few step few run passes = let h = nothing-few run run refl in omega arith
+gave-few step few run (says bs) = let h = ended-few run in omega arith
+gave-few step few run (tells bs) = let h = ended-few run in omega arith
+gave-few step few run opens = let h = ended-few run in omega arith
+gave-few step few run closes = let h = ended-few run in omega arith
+gave-few step few run (sets ss) = let h = ended-few run in omega arith
+gave-few step few run (refuses why) = let h = ended-few run in omega arith
+gave-few step few run parts = let h = ended-few run in omega arith
+gave-few step few run (stops why) = let h = ended-few run in omega arith
 
 length-written : (cs : List ℕ) → length (writtenAll cs) ≡ length cs
 unfolding writtenAll
@@ -120,25 +134,32 @@ module _ {R S E : Type 0} (states : States R S E) where
   onward-few p (becomes st) more = omega arith
   onward-few p (fails why) more = omega arith
 
-  pub machine-few : (st : List R) (run : Run) (acts : List (Act S)) → length (items (machine states st run acts)) ≤ length acts + owed run
-  unfolding machine items
-  machine-few st run [] =
-      let xs : List E = said states st (ended run) parts in
-      let z : Stream Refusal E = end in
-      let a = ap length (front-items xs z) in
-      let b = length-append xs [] in
-      let c = said-most st (ended run) parts in
-      let d = ended-few run in
-      omega arith
-  machine-few st run (at p d ∷ acts) =
-      let g : Gave = gave (skipOf states st) run d in
-      let m : Fate (List R) = moved (states .fresh) st (moveOf states d) in
-      let more : Stream Refusal E = machine states (stackOf m) (g .run) acts in
-      let xs : List E = said states st g d in
-      let a = ap length (front-items xs (onward p m more)) in
-      let b = length-append xs (items (onward p m more)) in
-      let c = said-most st g d in
-      let e = gave-few (skipOf states st) run d in
-      let f = onward-few p m more in
-      let h = machine-few (stackOf m) (g .run) acts in
-      omega arith
+  module _ (steps : Steps R) (few : (r : R) (run : Run) (num : Property) → Few run (steps .step r run num)) where
+    step-of : (st : List R) (run : Run) (num : Property) → Few run (stepOf steps st run num)
+    step-of [] run num = nothing-few run run refl
+    step-of (top ∷ rest) run num = few top run num
+
+    pub machine-few : (st : List R) (run : Run) (n : ℕ) (acts : List (Act S)) → length (items (machine states steps st run n acts)) ≤ length acts + owed run
+    unfolding machine items
+    machine-few st run n [] =
+        let xs : List E = said states st (ended run) parts in
+        let z : Stream Refusal E = end in
+        let a = ap length (front-items xs z) in
+        let b = length-append xs [] in
+        let c = said-most st (ended run) parts in
+        let d = ended-few run in
+        omega arith
+    machine-few st run n (at p d ∷ acts) =
+        let e : Deed S = left n d in
+        let g : Gave = gave (stepOf steps st) run e in
+        let m : Fate (List R) = moved (states .fresh) st (moveOf states e) in
+        let k : ℕ = owedBehind (owesOf steps st) n d in
+        let more : Stream Refusal E = machine states steps (stackOf m) (g .run) k acts in
+        let xs : List E = said states st g e in
+        let a = ap length (front-items xs (onward p m more)) in
+        let b = length-append xs (items (onward p m more)) in
+        let c = said-most st g e in
+        let f = gave-few (stepOf steps st) (step-of st) run e in
+        let o = onward-few p m more in
+        let h = machine-few (stackOf m) (g .run) k acts in
+        omega arith

@@ -7,7 +7,8 @@
 -- Assumes nothing.
 use mathlib.Core.Path.{_≡_, refl, ap}
 use mathlib.Core.List.{List, [], _∷_}
-use Prim.Native.Nat.{ℕ}
+use Prim.Native.Nat.{ℕ, zero, suc}
+use lib.ListN.{drop}
 use Rattle.answers.specs.declared.Refusal.{Refusal}
 use Rattle.answers.specs.Answers.{Fate, becomes, fails, Told}
 use Rattle.answers.proofs.Refusals.{at-zero, told-at}
@@ -16,7 +17,8 @@ use Rattle.units.specs.declared.Run.{Run}
 use Rattle.units.specs.declared.Gave.{Gave}
 use Rattle.units.specs.Units.{before}
 use Rattle.machine.specs.Stack.{moved, stackOf}
-use Rattle.machine.specs.Machine.{States, Deed, opens, closes, sets, says, unit, refuses, parts, stops, Act, at, ended, gave, _▸▸_, onward, moveOf, skipOf, said, machine, start}
+use Rattle.machine.specs.Machine.{States, Steps, Deed, opens, closes, sets, says, tells, unit, refuses, parts, stops, passes, Act, at}
+use Rattle.machine.specs.Machine.{ended, gave, tellsRest, left, owedBehind, _▸▸_, onward, moveOf, said, stepOf, owesOf, machine, start}
 
 abbrev pub unplaced : {S : Type 0} → Act S → Act S
 unplaced (at p d) = at 0 d
@@ -31,16 +33,18 @@ bareRefusal r = record { why = r .why; place = 0 }
 abbrev pub bare : {E : Type 0} → Stream Refusal E → Stream Refusal E
 bare {E} s = each bareRefusal (λ (x : E). x) s
 
--- what only parts its neighbours is never refused, and needs no place
+-- what only parts its neighbours, or is passed over, is never refused, and needs no place
 abbrev pub ActAt : {S : Type 0} → (ℕ → Type 0) → Act S → Type 0
 ActAt P (at p parts) = Unit {0}
 ActAt P (at p opens) = P p
 ActAt P (at p closes) = P p
 ActAt P (at p (sets ss)) = P p
 ActAt P (at p (says bs)) = P p
+ActAt P (at p (tells bs)) = P p
 ActAt P (at p (unit num)) = P p
 ActAt P (at p (refuses why)) = P p
 ActAt P (at p (stops why)) = P p
+ActAt P (at p passes) = Unit {0}
 
 abbrev pub ActsAt : {S : Type 0} → (ℕ → Type 0) → List (Act S) → Type 0
 ActsAt P [] = Unit {0}
@@ -71,41 +75,67 @@ module _ {E : Type 0} (P : ℕ → Type 0) where
   onward-stops p (becomes st) s here more = more
   onward-stops p (fails why) s here more = told-at P why p here
 
-module _ {R S E : Type 0} (states : States R S E) where
-  pub machine-unplaced : (st : List R) (run : Run) (acts : List (Act S))
-      → machine states st run (unplacedAll acts) ≡ each bareRefusal (λ (x : E). x) (machine states st run acts)
-  unfolding machine each
-  machine-unplaced st run [] = front-bare (said states st (ended run) parts) end
-  machine-unplaced st run (at p d ∷ acts) =
-      let g : Gave = gave (skipOf states st) run d in
-      let x : Fate (List R) = moved (states .fresh) st (moveOf states d) in
-      let more : Stream Refusal E = machine states (stackOf x) (g .run) acts in
-      rw (machine-unplaced (stackOf x) (g .run) acts, onward-bare p x more) (front-bare (said states st g d) (onward p x more))
+-- what is left of an act stands where the act does
+rest-at : (S : Type 0) (P : ℕ → Type 0) (p : ℕ) (l : List ℕ) → P p → ActAt {S = S} P (at p (tellsRest l))
+rest-at S P p [] h = tt
+rest-at S P p (b ∷ l) h = h
 
-  pub start-unplaced : (acts : List (Act S)) → start states (unplacedAll acts) ≡ each bareRefusal (λ (x : E). x) (start states acts)
-  start-unplaced acts = machine-unplaced (states .fresh ∷ []) before acts
+left-at : {S : Type 0} (P : ℕ → Type 0) (n p : ℕ) (d : Deed S) → ActAt P (at p d) → ActAt P (at p (left n d))
+unfolding left
+left-at P zero p d h = h
+left-at P (suc n) p parts h = tt
+left-at P (suc n) p opens h = h
+left-at P (suc n) p closes h = h
+left-at P (suc n) p (tells bs) h = rest-at _ P p (drop (suc n) bs) h
+left-at P (suc n) p (sets ss) h = tt
+left-at P (suc n) p (says bs) h = tt
+left-at P (suc n) p (unit num) h = tt
+left-at P (suc n) p (refuses why) h = tt
+left-at P (suc n) p (stops why) h = tt
+left-at P (suc n) p passes h = tt
+
+module _ {R S E : Type 0} (states : States R S E) (steps : Steps R) where
+  pub machine-unplaced : (st : List R) (run : Run) (n : ℕ) (acts : List (Act S))
+      → machine states steps st run n (unplacedAll acts) ≡ each bareRefusal (λ (x : E). x) (machine states steps st run n acts)
+  unfolding machine each
+  machine-unplaced st run n [] = front-bare (said states st (ended run) parts) end
+  machine-unplaced st run n (at p d ∷ acts) =
+      let e : Deed S = left n d in
+      let g : Gave = gave (stepOf steps st) run e in
+      let x : Fate (List R) = moved (states .fresh) st (moveOf states e) in
+      let k : ℕ = owedBehind (owesOf steps st) n d in
+      let more : Stream Refusal E = machine states steps (stackOf x) (g .run) k acts in
+      rw (machine-unplaced (stackOf x) (g .run) k acts, onward-bare p x more) (front-bare (said states st g e) (onward p x more))
+
+  pub start-unplaced : (acts : List (Act S)) → start states steps (unplacedAll acts) ≡ each bareRefusal (λ (x : E). x) (start states steps acts)
+  start-unplaced acts = machine-unplaced (states .fresh ∷ []) before 0 acts
 
   module _ (P : ℕ → Type 0) where
     act-stops : (st : List R) (p : ℕ) (d : Deed S) (s : Stream Refusal E) → ActAt P (at p d) → StopsAt P s → StopsAt P (onward p (moved (states .fresh) st (moveOf states d)) s)
     unfolding moved
     act-stops [] p parts s h k = k
     act-stops (top ∷ rest) p parts s h k = k
+    act-stops [] p passes s h k = k
+    act-stops (top ∷ rest) p passes s h k = k
     act-stops st p opens s h k = onward-stops P p (moved (states .fresh) st (moveOf states opens)) s h k
     act-stops st p closes s h k = onward-stops P p (moved (states .fresh) st (moveOf states closes)) s h k
     act-stops st p (sets ss) s h k = onward-stops P p (moved (states .fresh) st (moveOf states (sets ss))) s h k
     act-stops st p (says bs) s h k = onward-stops P p (moved (states .fresh) st (moveOf states (says bs))) s h k
+    act-stops st p (tells bs) s h k = onward-stops P p (moved (states .fresh) st (moveOf states (tells bs))) s h k
     act-stops st p (unit num) s h k = onward-stops P p (moved (states .fresh) st (moveOf states (unit num))) s h k
     act-stops st p (refuses why) s h k = onward-stops P p (moved (states .fresh) st (moveOf states (refuses why))) s h k
     act-stops st p (stops why) s h k = onward-stops P p (moved (states .fresh) st (moveOf states (stops why))) s h k
 
-    pub machine-places : (st : List R) (run : Run) (acts : List (Act S)) → ActsAt P acts → StopsAt P (machine states st run acts)
+    pub machine-places : (st : List R) (run : Run) (n : ℕ) (acts : List (Act S)) → ActsAt P acts → StopsAt P (machine states steps st run n acts)
     unfolding machine
-    machine-places st run [] h = front-stops P (said states st (ended run) parts) end tt
-    machine-places st run (at p d ∷ acts) h =
-        let g : Gave = gave (skipOf states st) run d in
-        let x : Fate (List R) = moved (states .fresh) st (moveOf states d) in
-        let more : Stream Refusal E = machine states (stackOf x) (g .run) acts in
-        front-stops P (said states st g d) (onward p x more) (act-stops st p d more (h .0) (machine-places (stackOf x) (g .run) acts (h .1)))
+    machine-places st run n [] h = front-stops P (said states st (ended run) parts) end tt
+    machine-places st run n (at p d ∷ acts) h =
+        let e : Deed S = left n d in
+        let g : Gave = gave (stepOf steps st) run e in
+        let x : Fate (List R) = moved (states .fresh) st (moveOf states e) in
+        let k : ℕ = owedBehind (owesOf steps st) n d in
+        let more : Stream Refusal E = machine states steps (stackOf x) (g .run) k acts in
+        front-stops P (said states st g e) (onward p x more) (act-stops st p e more (left-at P n p d (h .0)) (machine-places (stackOf x) (g .run) k acts (h .1)))
 
-    pub start-places : (acts : List (Act S)) → ActsAt P acts → StopsAt P (start states acts)
-    start-places acts = machine-places (states .fresh ∷ []) before acts
+    pub start-places : (acts : List (Act S)) → ActsAt P acts → StopsAt P (start states steps acts)
+    start-places acts = machine-places (states .fresh ∷ []) before 0 acts

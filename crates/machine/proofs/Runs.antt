@@ -2,9 +2,9 @@
 --     textsOfRun        the texts said at each token of a run, and at what ends it
 --     texts-run         joined they are `runText`, if the numbers fit their words
 --     units, numbers    the acts of `u` tokens, by their places and numbers; the numbers
---     Elsewhere         what may follow a run: the end, or a token that is no `u` token
+--     Elsewhere         what may follow a run: the end, or a token that is read and is no `u` token
 --     front-append      items in front of a stream, in two parts
---     machine-units     the machine over a run that has come so far: those texts, in the top state, then what follows, no run under way
+--     machine-units     where a `u` token steps as 01 has it, the machine over a run that has come so far: those texts, in the top state, then what follows, no run under way
 --     machine-run       the machine over a whole run: texts, which joined are `runText`, in the top state, then what follows
 -- Assumes nothing.
 use mathlib.Core.Path.{_≡_, refl, sym, ap, _∙_}
@@ -21,8 +21,8 @@ use Rattle.units.specs.declared.Gave.{Gave}
 use Rattle.units.specs.Units.{before, step, values, flushed, utf8All, runText}
 use Rattle.units.proofs.Units.{Numbers32, Scalars, walk, utf8All-append, text-walk, values-scalars}
 use Rattle.machine.specs.Stack.{moved}
-use Rattle.machine.specs.Machine.{States, opens, closes, sets, says, unit, refuses, parts, stops, Act, at}
-use Rattle.machine.specs.Machine.{ended, gave, writtenAll, _▸▸_, spoken, said, machine}
+use Rattle.machine.specs.Machine.{States, Steps, opens, closes, sets, says, tells, unit, refuses, parts, stops, passes, Act, at}
+use Rattle.machine.specs.Machine.{ended, gave, left, owedBehind, writtenAll, _▸▸_, spoken, said, machine}
 
 -- ---- the texts of a run
 
@@ -82,9 +82,11 @@ Elsewhere (at p opens ∷ acts) = Unit {0}
 Elsewhere (at p closes ∷ acts) = Unit {0}
 Elsewhere (at p (sets ss) ∷ acts) = Unit {0}
 Elsewhere (at p (says bs) ∷ acts) = Unit {0}
+Elsewhere (at p (tells bs) ∷ acts) = Unit {0}
 Elsewhere (at p (refuses why) ∷ acts) = Unit {0}
 Elsewhere (at p parts ∷ acts) = Unit {0}
 Elsewhere (at p (stops why) ∷ acts) = Unit {0}
+Elsewhere (at p passes ∷ acts) = ⊥
 
 module _ {R S E : Type 0} (states : States R S E) where
   spoken-append : (top : R) (a b : List (List ℕ)) → spoken states top (a ++ b) ≡ spoken states top a ++ spoken states top b
@@ -97,33 +99,37 @@ module _ {R S E : Type 0} (states : States R S E) where
       → spoken states top (a ++ b) ▸▸ s ≡ spoken states top a ▸▸ (spoken states top b ▸▸ s)
   front-spoken top a b s = ap (λ (l : List E). l ▸▸ s) (spoken-append top a b) ∙ front-append (spoken states top a) (spoken states top b) s
 
-  module _ (top : R) (rest : List R) where
+  -- where a `u` token steps as 01 has it, and nothing is passed over behind it
+  module _ (steps : Steps R) (top : R) (rest : List R) (skip : ℕ) (same : (run : Run) (num : Property) → steps .step top run num ≡ step skip run num)
+      (none : steps .owes top ≡ 0) where
     -- what follows a run says first what the run still gives
     machine-ended : (run : Run) (more : List (Act S)) → Elsewhere more
-        → machine states (top ∷ rest) run more ≡ spoken states top (writtenAll (values (ended run))) ▸▸ machine states (top ∷ rest) before more
-    unfolding machine said gave values writtenAll
+        → machine states steps (top ∷ rest) run 0 more ≡ spoken states top (writtenAll (values (ended run))) ▸▸ machine states steps (top ∷ rest) before 0 more
+    unfolding machine said gave left owedBehind values writtenAll
     machine-ended run [] h = front-spoken top (writtenAll (values (ended run))) [] end
     machine-ended run (at p (unit n) ∷ acts) h = absurd h
+    machine-ended run (at p passes ∷ acts) h = absurd h
     machine-ended run (at p opens ∷ acts) h = front-spoken top (writtenAll (values (ended run))) [] _
     machine-ended run (at p closes ∷ acts) h = front-spoken top (writtenAll (values (ended run))) [] _
     machine-ended run (at p (sets ss) ∷ acts) h = front-spoken top (writtenAll (values (ended run))) [] _
     machine-ended run (at p (says bs) ∷ acts) h = front-spoken top (writtenAll (values (ended run))) (bs ∷ []) _
+    machine-ended run (at p (tells bs) ∷ acts) h = front-spoken top (writtenAll (values (ended run))) (bs ∷ []) _
     machine-ended run (at p (refuses why) ∷ acts) h = front-spoken top (writtenAll (values (ended run))) [] _
     machine-ended run (at p parts ∷ acts) h = front-spoken top (writtenAll (values (ended run))) [] _
     machine-ended run (at p (stops why) ∷ acts) h = front-spoken top (writtenAll (values (ended run))) [] _
 
     pub machine-units : (run : Run) (ns : List (ℕ × Property)) (more : List (Act S)) → Elsewhere more
-        → machine states (top ∷ rest) run (units ns ++ more)
-        ≡ spoken states top (textsOfRun (states .skip top) run (numbers ns)) ▸▸ machine states (top ∷ rest) before more
-    unfolding textsOfRun machine said gave moved
+        → machine states steps (top ∷ rest) run 0 (units ns ++ more)
+        ≡ spoken states top (textsOfRun skip run (numbers ns)) ▸▸ machine states steps (top ∷ rest) before 0 more
+    unfolding textsOfRun machine said gave left owedBehind moved
     machine-units run [] more h = machine-ended run more h
     machine-units run (n ∷ ns) more h =
-        let g : Gave = step (states .skip top) run (n .1) in
-        rw (append-nil, machine-units (g .run) ns more h)
-        (sym (front-spoken top (writtenAll (values g)) (textsOfRun (states .skip top) (g .run) (numbers ns)) (machine states (top ∷ rest) before more)))
+        let g : Gave = step skip run (n .1) in
+        rw (same run (n .1), none, append-nil, machine-units (g .run) ns more h)
+        (sym (front-spoken top (writtenAll (values g)) (textsOfRun skip (g .run) (numbers ns)) (machine states steps (top ∷ rest) before 0 more)))
 
     pub machine-run : (ns : List (ℕ × Property)) (more : List (Act S)) → Elsewhere more → Numbers32 (numbers ns)
-        → (texts : List (List ℕ)) × (flatten texts ≡ runText (states .skip top) (numbers ns))
-        × (machine states (top ∷ rest) before (units ns ++ more) ≡ spoken states top texts ▸▸ machine states (top ∷ rest) before more)
+        → (texts : List (List ℕ)) × (flatten texts ≡ runText skip (numbers ns))
+        × (machine states steps (top ∷ rest) before 0 (units ns ++ more) ≡ spoken states top texts ▸▸ machine states steps (top ∷ rest) before 0 more)
     machine-run ns more h small =
-        (textsOfRun (states .skip top) before (numbers ns), texts-run (states .skip top) (numbers ns) small, machine-units before ns more h)
+        (textsOfRun skip before (numbers ns), texts-run skip (numbers ns) small, machine-units before ns more h)

@@ -10,5 +10,6 @@
 //   proofs/Runs.antt      what a run of `u` tokens says is its text
 //   proofs/Parts.antt     tokens in two parts, and what comes behind a group
 //   proofs/Few.antt       how much is said
+//   proofs/Left.antt      what is left of a token where characters are passed over
 //   proofs/Places.antt    the places of tokens, and of refusals
 //   proofs/Cases.antt     small bodies, computed

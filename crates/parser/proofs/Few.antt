@@ -34,7 +34,8 @@ use Rattle.header.specs.Entering.{Tables}
 use Rattle.header.specs.Header.{tables}
 use Rattle.header.proofs.Tables.{tables-few-256}
 use Rattle.blocks.specs.Pages.{Piece, piece, blocksFrom, blocks, textOf, blockWords, textCapacity, Last, none, last, starts, roomy}
-use Rattle.runs.specs.Runs.{rows}
+use Rattle.runs.specs.Runs.{rows, stepsBy}
+use Rattle.runs.proofs.Saying.{steps-few}
 use Rattle.body.specs.Body.{acts, body}
 use Rattle.parser.specs.Parsing.{begun, Sizes, Letter, letterFrom, placed, bodied, headed, walked, FewIn}
 
@@ -52,7 +53,7 @@ acts-few rd (s ∷ ss) = ap suc (acts-few rd ss)
 body-few : (rd : Reading) (ss : List Step) → length (items (body rd ss)) ≤ length ss
 unfolding body
 body-few rd ss =
-    let h = machine-few rows (freshRow ∷ []) before (acts rd ss) in
+    let h = machine-few rows (stepsBy rd) (steps-few rd) (freshRow ∷ []) before 0 (acts rd ss) in
     let k = acts-few rd ss in
     omega arith
 
@@ -152,3 +153,4 @@ letter-few rd z (token p n Shown.ignorable ∷ ts) = tt
 letter-few rd z (token p n (Shown.text q bs) ∷ ts) = tt
 letter-few rd z (token p n (Shown.word w num) ∷ ts) = tt
 letter-few rd z (token p n (Shown.unknown q bs num) ∷ ts) = tt
+letter-few rd z (token p n (Shown.symbol b num) ∷ ts) = tt

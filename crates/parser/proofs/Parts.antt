@@ -21,7 +21,7 @@ use Rattle.rooms.proofs.Streams.{done-refused}
 use Rattle.tokens.specs.Tokens.{Shown, Token, token}
 use Rattle.tokens.specs.Tokens
 use Rattle.tokens.specs.declared.item.Item.{Item}
-use Rattle.tokens.specs.declared.item.Item.the-variants.{Text, Opening, Closing, LineBreak, Ignorable, Word, Unknown}
+use Rattle.tokens.specs.declared.item.Item.the-variants.{Text, Opening, Closing, LineBreak, Ignorable, Word, Unknown, Symbol}
 use Rattle.tokens.specs.Items.{itemAt, shownOf, sliceAt, tokensAll}
 use Rattle.tokens.proofs.Items.{tokens-none, tokens-some}
 use Rattle.readings.specs.declared.Reading.{Reading}
@@ -59,6 +59,7 @@ starts-other src p l Ignorable ts e = refl
 starts-other src p l (Text q n) ts e = refl
 starts-other src p l (Word w num) ts e = refl
 starts-other src p l (Unknown q n num) ts e = refl
+starts-other src p l (Symbol b num) ts e = refl
 
 starts-opening : (src : List ℕ) (p l : ℕ) (i : Item) (ts : List Token) → opens i ≡ true → Starts (begun (token p l (shownOf src i) ∷ ts)) (Done 0)
 starts-opening src p l Opening ts e = refl
@@ -68,6 +69,7 @@ starts-opening src p l Ignorable ts e = absurd (false≢true e)
 starts-opening src p l (Text q n) ts e = absurd (false≢true e)
 starts-opening src p l (Word w num) ts e = absurd (false≢true e)
 starts-opening src p l (Unknown q n num) ts e = absurd (false≢true e)
+starts-opening src p l (Symbol b num) ts e = absurd (false≢true e)
 
 module _ (src : List ℕ) (n : ℕ) (ws : List ℕ) (z : n ≡ 0 → ⊥) {b : Bool} (e : b ≡ opens (itemAt ws)) where
   pub start-other : not b ≡ true → {p : ℕ} {r : Refusal} → p ≡ sliceAt ws → r ≡ refusalAt FirstToken p → Starts (begun (tokensAll src n ws)) (Refused r)
@@ -146,6 +148,7 @@ begun-found (token p n Shown.ignorable ∷ ts) h f = absurd (done-refused (sym f
 begun-found (token p n (Shown.text q bs) ∷ ts) h f = absurd (done-refused (sym f ∙ h))
 begun-found (token p n (Shown.word w num) ∷ ts) h f = absurd (done-refused (sym f ∙ h))
 begun-found (token p n (Shown.unknown q bs num) ∷ ts) h f = absurd (done-refused (sym f ∙ h))
+begun-found (token p n (Shown.symbol b num) ∷ ts) h f = absurd (done-refused (sym f ∙ h))
 
 module _ (rd : Reading) (z : Sizes) (ts : List Token) (n : ℕ) {s : Outcome} (h : Starts (begun ts) s) where
   pub parse-refused : {k : Refusal} → s ≡ Refused k → (fs cs bs tx : List ℕ) → LetterInto (walked rd z (begun ts)) n (Refuses k) fs cs bs tx (z .fonts) (z .colours) (z .blocks) (z .text)

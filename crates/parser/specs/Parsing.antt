@@ -33,6 +33,7 @@ begun (token p n Shown.ignorable ∷ ts) = refused (refusalAt FirstToken p)
 begun (token p n (Shown.text q bs) ∷ ts) = refused (refusalAt FirstToken p)
 begun (token p n (Shown.word w num) ∷ ts) = refused (refusalAt FirstToken p)
 begun (token p n (Shown.unknown q bs num) ∷ ts) = refused (refusalAt FirstToken p)
+begun (token p n (Shown.symbol b num) ∷ ts) = refused (refusalAt FirstToken p)
 
 -- the sizes of the five rooms: words, and bytes of the text room
 pub record Sizes : Type 0 where

@@ -16,11 +16,11 @@ use Rattle.rooms.specs.Rooms.{capacity}
 use Rattle.readings.specs.declared.Reading.{Reading}
 use Rattle.settings.specs.Fields.{Setting}
 use Rattle.tokens.specs.Tokens.{Token, sliceOf, shownIn}
-use Rattle.machine.specs.Machine.{Deed, opens, closes, sets, says, unit, refuses, parts, stops, at}
+use Rattle.machine.specs.Machine.{Deed, opens, closes, sets, says, tells, unit, refuses, parts, stops, passes, at}
 use Rattle.machine.proofs.Places.{ActAt, ActsAt, StopsAt, start-places}
 use Rattle.walk.specs.Walk.{Step, kept, hidden, fontTable, colourTable, walk}
 use Rattle.blocks.specs.Pages.{Piece, blockWords, textCapacity, Last, none, last, starts, roomy}
-use Rattle.runs.specs.Runs.{rows}
+use Rattle.runs.specs.Runs.{rows, stepsBy}
 use Rattle.deeds.specs.Deeds.{tokenDeed}
 use Rattle.body.specs.Body.{actOf, acts, body}
 use Rattle.parser.specs.Parsing.{placed}
@@ -32,10 +32,12 @@ module _ (P : ℕ → Type 0) where
   deed-at p closes h = h
   deed-at p (sets ss) h = h
   deed-at p (says bs) h = h
+  deed-at p (tells bs) h = h
   deed-at p (unit num) h = h
   deed-at p (refuses why) h = h
   deed-at p parts h = tt
   deed-at p (stops why) h = h
+  deed-at p passes h = tt
 
   act-at : (rd : Reading) (s : Step) → StepAt P s → ActAt P (actOf rd s)
   act-at rd (kept t) h = deed-at (sliceOf t) (tokenDeed rd (shownIn t)) h
@@ -63,4 +65,4 @@ module _ (P : ℕ → Type 0) where
   pub placed-at : (rd : Reading) (b t : ℕ) (ts : List Token) → TokensAt P ts → StopsAt P (placed rd b t ts)
   unfolding placed body
   placed-at rd b t ts h =
-      roomy-at (body rd (walk ts)) (capacity blockWords b) (textCapacity t) none (start-places rows P (acts rd (walk ts)) (acts-at rd (walk ts) (walk-at P ts h)))
+      roomy-at (body rd (walk ts)) (capacity blockWords b) (textCapacity t) none (start-places rows (stepsBy rd) P (acts rd (walk ts)) (acts-at rd (walk ts) (walk-at P ts h)))

@@ -91,6 +91,7 @@ module _ (P : ℕ → Type 0) where
   begun-at rd z (token p n (Shown.text q bs) ∷ ts) k = told-at P FirstToken p (k .0)
   begun-at rd z (token p n (Shown.word w num) ∷ ts) k = told-at P FirstToken p (k .0)
   begun-at rd z (token p n (Shown.unknown q bs num) ∷ ts) k = told-at P FirstToken p (k .0)
+  begun-at rd z (token p n (Shown.symbol b num) ∷ ts) k = told-at P FirstToken p (k .0)
 
 -- the tokens of a source
 tokens-at : (rd : Reading) (src : List ℕ) (ts : List Token) → SlicesIn rd src ts → TokensAt (SliceAt rd src) ts

@@ -50,6 +50,7 @@ module _ (P : ℕ → Type 0) where
   word-at late (token p l Shown.opening ∷ ts) h n = h .0
   word-at late (token p l Shown.closing ∷ ts) h n = h .0
   word-at late (token p l (Shown.unknown q bs num) ∷ ts) h n = h .0
+  word-at late (token p l (Shown.symbol b num) ∷ ts) h n = h .0
 
   group-at : (ts : List Token) → TokensAt ts → (aim (shownBy ts) ≡ Nothing → ⊥) → P (tableWord (group ts))
   group-at ts h n = rw (group-word ts) (word-at false ts h n)
@@ -76,6 +77,7 @@ module _ (P : ℕ → Type 0) where
   step-at (Shown.text q bs) t ts p h = p
   step-at (Shown.word w num) t ts p h = p
   step-at (Shown.unknown q bs num) t ts p h = p
+  step-at (Shown.symbol b num) t ts p h = p
 
   walk-from-at : (w : ℕ) (ts : List Token) → TokensAt ts → StepsAt (walkFrom w ts)
   unfolding walkFrom

@@ -20,7 +20,7 @@ use Rattle.readings.specs.declared.Reading.the-variants.{Plain}
 use Rattle.units.specs.Units.{values}
 use Rattle.settings.specs.Fields.{flagsOf, styleOf}
 use Rattle.machine.specs.Stack.{moved}
-use Rattle.machine.specs.Machine.{gave, writtenAll, _▸▸_, spoken, said, machine}
+use Rattle.machine.specs.Machine.{gave, left, owedBehind, writtenAll, _▸▸_, spoken, said, machine}
 use Rattle.blocks.specs.Pages.{blocksFrom, blocks, textOf, blockWords, blockRecord, records, roomy}
 use Rattle.body.specs.Body.{acts, body as bodyOf}
 use Rattle.parser.specs.declared.Counts.{Counts}
@@ -62,7 +62,7 @@ reading : (readAnswer Plain (bytesOf "{a}") rooms ≡ Read counts)
     × (blocksRead Plain (bytesOf "{a}") rooms counts ≡ block)
     × (textRead Plain (bytesOf "{a}") rooms counts ≡ text)
     × (readAnswer Plain (123 ∷ 300 ∷ 125 ∷ []) rooms ≡ Refuses (refusal NotAscii))
-unfolding rooms counts block text readAnswer blockRoom textRoom letterOf shownBy bodied placed roomy bodyOf acts machine said spoken writtenAll gave values moved _▸▸_ blocks blocksFrom textOf blockRecord records walkFrom aimFrom tablesFrom tableLimit styleOf flagsOf cutAnswer tokenStream trimmed allSlices last located settled ended items each andThen split slices lead body any tokens plain mark
+unfolding rooms counts block text readAnswer blockRoom textRoom letterOf shownBy bodied placed roomy bodyOf acts machine left owedBehind said spoken writtenAll gave values moved _▸▸_ blocks blocksFrom textOf blockRecord records walkFrom aimFrom tablesFrom tableLimit styleOf flagsOf cutAnswer tokenStream trimmed allSlices last located settled ended items each andThen split slices lead body any tokens plain mark
 reading = (refl, refl, refl, refl)
 
 -- 25 in a room of a byte less

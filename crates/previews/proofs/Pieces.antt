@@ -1,6 +1,7 @@
 -- What the body says: pieces that a stored block can be made of.
 --     walk-fine           the walk keeps tokens as they are
 --     acts-fine           what they do: texts are whole, and settings keep the ranges of a row
+--     left-fine           so does what is left of it where characters are passed over
 --     moved-sound         so all rows of the stack keep them
 --     machine-storable    and all that is said is such a piece, what a run of units gives too, since any number is written as a character
 --     body-storable       the pieces of the body
@@ -10,7 +11,7 @@ use mathlib.Core.List.{List, [], _∷_, _++_, append-nil}
 use mathlib.Core.Bool.{Bool, true, false, cond}
 use Prim.Native.Nat.{ℕ, zero, suc, _<_}
 use native.Mathlib.Omega.{arith}
-use lib.ListN.{length}
+use lib.ListN.{length, drop}
 use lib.Dec.{eqb}
 use Rattle.answers.specs.declared.Refusal.{Refusal}
 use Rattle.answers.specs.declared.Why.the-variants.{TooDeep}
@@ -42,14 +43,15 @@ use Rattle.settings.specs.Fields.{Setting, freshRow}
 use Rattle.settings.specs.Effects.{Effect, effect}
 use Rattle.settings.specs.Effects as does
 use Rattle.machine.specs.Stack.{stackLimit, moved, stackOf}
-use Rattle.machine.specs.Machine.{Deed, Act, at, opens, closes, sets, says, unit, refuses, parts, stops, ended, gave, textsOf, writtenAll}
-use Rattle.machine.specs.Machine.{_▸▸_, onward, settle, moveOf, skipOf, spoken, said, machine}
-use Rattle.runs.specs.Runs.{rows}
-use Rattle.deeds.specs.Deeds.{doing, tokenDeed}
+use Rattle.machine.specs.Machine.{Deed, Act, at, opens, closes, sets, says, tells, unit, refuses, parts, stops, passes}
+use Rattle.machine.specs.Machine.{ended, gave, textsOf, tellsRest, left, owedBehind, writtenAll}
+use Rattle.machine.specs.Machine.{_▸▸_, onward, settle, moveOf, spoken, said, stepOf, owesOf, machine}
+use Rattle.runs.specs.Runs.{rows, stepsBy}
+use Rattle.deeds.specs.Deeds.{doing, symbolEffect, tokenDeed}
 use Rattle.body.specs.Body.{actOf, acts, body}
 use Rattle.roundtrips.specs.Trips.{Words}
-use Rattle.previews.proofs.Tokens.{All, Fine, FineIn}
-use Rattle.previews.proofs.States.{Sound, SoundEffect, fresh-sound, all-sound, effect-sound, sound-range, sound-words, sound-flush}
+use Rattle.previews.proofs.Tokens.{All, low-drop, Fine, FineIn}
+use Rattle.previews.proofs.States.{Sound, SoundEffect, fresh-sound, all-sound, either, effect-sound, sound-range, sound-words, sound-flush}
 
 -- ---- the walk
 
@@ -74,6 +76,7 @@ module _ (t : Token) (ts : List Token) (h : FineIn t) where
   step-fine (Shown.text p bs) = h
   step-fine (Shown.word w num) = h
   step-fine (Shown.unknown p bs num) = h
+  step-fine (Shown.symbol b num) = h
 
 walk-fine : (ts : List Token) (w : ℕ) → All FineIn ts → All FineStep (walkFrom w ts)
 unfolding walkFrom
@@ -118,16 +121,18 @@ both-whole (x ∷ a) b h k = (h .0, both-whole a b (h .1) k)
 module _ (rd : Reading) where
   -- ---- what a token does
 
-  -- settings that keep the ranges of a row, text that is whole
+  -- settings that keep the ranges of a row, text that is whole; a text of the source has no byte above 127, so that what is left of it is whole too
   abbrev FineDeed : Deed Setting → Type 0
   FineDeed (sets ss) = (r : List ℕ) → Sound rd r → Sound rd (settle rows ss r)
   FineDeed (says bs) = Whole bs
+  FineDeed (tells bs) = (0 < length bs) × (any isHigh bs ≡ false)
   FineDeed opens = Unit {0}
   FineDeed closes = Unit {0}
   FineDeed (unit num) = Unit {0}
   FineDeed (refuses why) = Unit {0}
   FineDeed parts = Unit {0}
   FineDeed (stops why) = Unit {0}
+  FineDeed passes = Unit {0}
 
   -- at whatever place
   abbrev FineAct : Act Setting → Type 0
@@ -149,14 +154,21 @@ module _ (rd : Reading) where
       go true = tt
       go false = doing-fine (effect rd w num) (effect-sound rd w num h)
 
+  symbol-fine : (b : ℕ) (num : Property) → FineDeed (tokenDeed rd (Shown.symbol b num))
+  unfolding symbolEffect
+  symbol-fine b num =
+      doing-fine (symbolEffect b num)
+      (either rd (eqb b 39) _ _ tt (either rd (eqb b 126) _ _ tt (either rd (eqb b 95) _ _ tt (either rd (eqb b 45) _ _ tt (all-sound rd [] tt)))))
+
   token-fine : (t : Shown) → Fine t → FineDeed (tokenDeed rd t)
   token-fine Shown.opening h = tt
   token-fine Shown.closing h = tt
   token-fine Shown.lineBreak h = record { some = omega arith; utf8 = utf8-ascii (10 ∷ []) line-low }
   token-fine Shown.ignorable h = tt
-  token-fine (Shown.text p bs) h = record { some = h .0; utf8 = utf8-ascii bs (h .1) }
+  token-fine (Shown.text p bs) h = h
   token-fine (Shown.word w num) h = word-fine w num h
   token-fine (Shown.unknown p bs num) h = all-sound rd [] tt
+  token-fine (Shown.symbol b num) h = symbol-fine b num
 
   act-fine : (s : Step) → FineStep s → FineAct (actOf rd s)
   act-fine (kept t) h = token-fine (shownIn t) h
@@ -168,6 +180,25 @@ module _ (rd : Reading) where
   unfolding acts
   acts-fine [] h = tt
   acts-fine (s ∷ ss) h = (act-fine s (h .0), acts-fine ss (h .1))
+
+  -- what is left of it: of a text its end, if there is one
+  rest-fine : (l : List ℕ) → any isHigh l ≡ false → FineDeed (tellsRest l)
+  rest-fine [] h = tt
+  rest-fine (b ∷ l) h = (omega arith, h)
+
+  left-fine : (n : ℕ) (d : Deed Setting) → FineDeed d → FineDeed (left n d)
+  unfolding left
+  left-fine zero d h = h
+  left-fine (suc n) (tells bs) h = rest-fine (drop (suc n) bs) (low-drop (suc n) bs (h .1))
+  left-fine (suc n) opens h = tt
+  left-fine (suc n) closes h = tt
+  left-fine (suc n) parts h = tt
+  left-fine (suc n) passes h = tt
+  left-fine (suc n) (sets ss) h = tt
+  left-fine (suc n) (says bs) h = tt
+  left-fine (suc n) (unit num) h = tt
+  left-fine (suc n) (refuses why) h = tt
+  left-fine (suc n) (stops why) h = tt
 
   -- ---- the stack
 
@@ -186,18 +217,22 @@ module _ (rd : Reading) where
   moved-sound [] closes h g = tt
   moved-sound [] (sets ss) h g = tt
   moved-sound [] (says bs) h g = tt
+  moved-sound [] (tells bs) h g = tt
   moved-sound [] (unit num) h g = tt
   moved-sound [] (refuses why) h g = tt
   moved-sound [] parts h g = tt
   moved-sound [] (stops why) h g = tt
+  moved-sound [] passes h g = tt
   moved-sound (top ∷ rest) opens h g = opened-sound top rest (h .0) (h .1)
   moved-sound (top ∷ rest) closes h g = h .1
   moved-sound (top ∷ rest) (sets ss) h g = (g top (h .0), h .1)
   moved-sound (top ∷ rest) (says bs) h g = h
+  moved-sound (top ∷ rest) (tells bs) h g = h
   moved-sound (top ∷ rest) (unit num) h g = h
   moved-sound (top ∷ rest) (refuses why) h g = tt
   moved-sound (top ∷ rest) parts h g = h
   moved-sound (top ∷ rest) (stops why) h g = tt
+  moved-sound (top ∷ rest) passes h g = h
 
   -- ---- what is said
 
@@ -216,6 +251,7 @@ module _ (rd : Reading) where
 
   own-whole : (d : Deed Setting) → FineDeed d → All Whole (textsOf d)
   own-whole (says bs) h = (h, tt)
+  own-whole (tells bs) h = (record { some = h .0; utf8 = utf8-ascii bs (h .1) }, tt)
   own-whole opens h = tt
   own-whole closes h = tt
   own-whole (sets ss) h = tt
@@ -223,6 +259,7 @@ module _ (rd : Reading) where
   own-whole (refuses why) h = tt
   own-whole parts h = tt
   own-whole (stops why) h = tt
+  own-whole passes h = tt
 
   said-storable : (st : List (List ℕ)) (g : Gave) (d : Deed Setting) → All (Sound rd) st → FineDeed d → All Storable (said rows st g d)
   unfolding said
@@ -240,18 +277,21 @@ module _ (rd : Reading) where
   onward-storable p (becomes st) more h = h
   onward-storable p (fails why) more h = tt
 
-  machine-storable : (st : List (List ℕ)) (run : Run) (ds : List (Act Setting)) → All (Sound rd) st → All FineAct ds
-      → Each Storable (machine rows st run ds)
+  machine-storable : (st : List (List ℕ)) (run : Run) (n : ℕ) (ds : List (Act Setting)) → All (Sound rd) st → All FineAct ds
+      → Each Storable (machine rows (stepsBy rd) st run n ds)
   unfolding machine
-  machine-storable st run [] h k = front-storable (said rows st (ended run) parts) end (said-storable st (ended run) parts h tt) tt
-  machine-storable st run (at p d ∷ ds) h k =
-      let g : Gave = gave (skipOf rows st) run d in
-      let m : Fate (List (List ℕ)) = moved freshRow st (moveOf rows d) in
-      let more : Stream Refusal Piece = machine rows (stackOf m) (g .run) ds in
-      front-storable (said rows st g d) (onward p m more) (said-storable st g d h (k .0))
-      (onward-storable p m more (machine-storable (stackOf m) (g .run) ds (moved-sound st d h (k .0)) (k .1)))
+  machine-storable st run n [] h k = front-storable (said rows st (ended run) parts) end (said-storable st (ended run) parts h tt) tt
+  machine-storable st run n (at p d ∷ ds) h k =
+      let e : Deed Setting = left n d in
+      let f : FineDeed e = left-fine n d (k .0) in
+      let g : Gave = gave (stepOf (stepsBy rd) st) run e in
+      let m : Fate (List (List ℕ)) = moved freshRow st (moveOf rows e) in
+      let behind : ℕ = owedBehind (owesOf (stepsBy rd) st) n d in
+      let more : Stream Refusal Piece = machine rows (stepsBy rd) (stackOf m) (g .run) behind ds in
+      front-storable (said rows st g e) (onward p m more) (said-storable st g e h f)
+      (onward-storable p m more (machine-storable (stackOf m) (g .run) behind ds (moved-sound st e h f) (k .1)))
 
   pub body-storable : (ts : List Token) → All FineIn ts → Each Storable (body rd (walk ts))
   unfolding body
   body-storable ts h =
-      machine-storable (freshRow ∷ []) before (acts rd (walk ts)) (fresh-sound rd, tt) (acts-fine (walk ts) (walk-fine ts 0 h))
+      machine-storable (freshRow ∷ []) before 0 (acts rd (walk ts)) (fresh-sound rd, tt) (acts-fine (walk ts) (walk-fine ts 0 h))

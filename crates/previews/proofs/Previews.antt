@@ -84,6 +84,7 @@ module _ (rd : Reading) (z : Sizes) where
   begun-laid (token p n (Shown.text q bs) ∷ ts) = tt
   begun-laid (token p n (Shown.word w num) ∷ ts) = tt
   begun-laid (token p n (Shown.unknown q bs num) ∷ ts) = tt
+  begun-laid (token p n (Shown.symbol b num) ∷ ts) = tt
 
   cut-laid : (ts : List Token) (o : Outcome) → Laid rd (z .blocks) (z .text) ts (cut rd z ts o)
   cut-laid ts (Done n) = begun-laid ts

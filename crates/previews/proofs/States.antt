@@ -22,11 +22,11 @@ use Rattle.tokens.specs.declared.Property.the-variants.{None, Value}
 use Rattle.tokens.specs.Tokens.{valueOf}
 use Rattle.tokens.specs.WordNumbers as words
 use Rattle.readings.specs.declared.Reading.{Reading}
-use Rattle.readings.specs.declared.Reading.the-variants.{Plain, Paragraphs}
+use Rattle.readings.specs.declared.Reading.the-variants.{Plain, Paragraphs, Standard}
 use Rattle.styles.specs.Styles.{styleWords, flush}
 use Rattle.settings.specs.Fields.{Setting, _≔_, freshRow, resets, bit, flagsOf, styleOf}
 use Rattle.settings.specs.Fields as field
-use Rattle.settings.specs.Effects.{Effect, sets, says, refuses, setting, fitted, flagOf, lined, spacing, ending, indenting}
+use Rattle.settings.specs.Effects.{Effect, sets, says, refuses, setting, fitted, flagBy, flagOf, lined, spacing, ending, indenting}
 use Rattle.settings.specs.Effects.{painterWord, paragraphWord, characterWord, endingWord, indentWord, effect}
 use Rattle.machine.specs.Machine.{settle}
 use Rattle.runs.specs.Runs.{rows}
@@ -42,10 +42,12 @@ Word n = n ≤ 4294967295
 abbrev indentLimit : Reading → ℕ
 indentLimit Plain = 0
 indentLimit Paragraphs = 4294967295
+indentLimit Standard = 4294967295
 
 indent-word : (rd : Reading) → Word (indentLimit rd)
 indent-word Plain = omega arith
 indent-word Paragraphs = omega arith
+indent-word Standard = omega arith
 
 module _ (rd : Reading) where
   -- the most that each field holds: "first three to 65,535", "alignment to 3, kind to 1, line value to 2,147,483,647"; of the indents, what the
@@ -142,7 +144,7 @@ module _ (rd : Reading) where
   SoundEffect (refuses why) = Unit {0}
 
   -- either way of a choice
-  either : (t : Bool) (a b : Effect) → SoundEffect a → SoundEffect b → SoundEffect (cond t a b)
+  pub either : (t : Bool) (a b : Effect) → SoundEffect a → SoundEffect b → SoundEffect (cond t a b)
   either true a b h k = h
   either false a b h k = k
 
@@ -157,13 +159,19 @@ module _ (rd : Reading) where
       go true l = one-sound f v (omega (arith, e, leb-true v 65535 l), p, q)
       go false l = tt
 
-  flag-word : (num : Property) → Word (flagOf num)
+  -- a flag is 0 or 1, in whatever reading
+  either-word : (t : Bool) (a b : ℕ) → Word a → Word b → Word (cond t a b)
+  either-word true a b h k = h
+  either-word false a b h k = k
+
+  flag-by-word : (d : Reading) (v : ℕ) → Word (flagBy d v)
+  flag-by-word Plain v = either-word (eqb v 1) 1 0 (omega arith) (omega arith)
+  flag-by-word Paragraphs v = either-word (eqb v 1) 1 0 (omega arith) (omega arith)
+  flag-by-word Standard v = either-word (eqb v 0) 0 1 (omega arith) (omega arith)
+
+  flag-word : (num : Property) → Word (flagOf rd num)
   flag-word None = omega arith
-  flag-word (Value v) = go (eqb v 1)
-    where
-      go : (t : Bool) → Word (cond t 1 0)
-      go true = omega arith
-      go false = omega arith
+  flag-word (Value v) = flag-by-word rd v
 
   spacing-sound : (v : ℕ) → SoundEffect (spacing v)
   unfolding spacing
@@ -180,6 +188,7 @@ module _ (rd : Reading) where
   ending-sound : (d : Reading) → SoundEffect (ending d)
   ending-sound Plain = all-sound [] tt
   ending-sound Paragraphs = tt
+  ending-sound Standard = tt
 
   -- an indent's field, set or not
   indent-sound : (f v : ℕ) → getD limits f 0 ≡ indentLimit rd → eqb field.kind f ≡ false → eqb field.line f ≡ false → Word v → SoundEffect (indenting rd f v)
@@ -188,6 +197,7 @@ module _ (rd : Reading) where
       go : (d : Reading) → getD limits f 0 ≡ indentLimit d → SoundEffect (indenting d f v)
       go Plain k = all-sound [] tt
       go Paragraphs k = one-sound f v (omega (arith, k, n), p, q)
+      go Standard k = one-sound f v (omega (arith, k, n), p, q)
 
   -- fields before the line's, each to its fresh value
   resets-fit : (f n : ℕ) → f + n ≤ field.kind → All Fits (resets f n)
@@ -216,20 +226,20 @@ module _ (rd : Reading) where
       (all-sound front (resets-fit field.alignment 3 (omega arith)) r h))
 
   module _ (w : ℕ) (num : Property) where
-    painter-sound : (next : Effect) → SoundEffect next → SoundEffect (painterWord w num next)
+    painter-sound : (next : Effect) → SoundEffect next → SoundEffect (painterWord rd w num next)
     unfolding painterWord
     painter-sound next k =
         let flag = flag-word num in
         either (eqb w words.colourNumber) _ _ (fitted-sound field.colour (valueOf num) refl refl refl)
         (either (eqb w words.fontNumber) _ _ (fitted-sound field.font (valueOf num) refl refl refl)
         (either (eqb w words.fontSize) _ _ (fitted-sound field.size (valueOf num) refl refl refl)
-        (either (eqb w words.bold) _ _ (one-sound field.bold (flagOf num) (flag, refl, refl))
-        (either (eqb w words.italic) _ _ (one-sound field.italic (flagOf num) (flag, refl, refl))
-        (either (eqb w words.underline) _ _ (one-sound field.underline (flagOf num) (flag, refl, refl))
-        (either (eqb w words.superscript) _ _ (one-sound field.superscript (flagOf num) (flag, refl, refl))
-        (either (eqb w words.subscript) _ _ (one-sound field.subscript (flagOf num) (flag, refl, refl))
-        (either (eqb w words.smallcaps) _ _ (one-sound field.smallcaps (flagOf num) (flag, refl, refl))
-        (either (eqb w words.strikethrough) _ _ (one-sound field.strike (flagOf num) (flag, refl, refl))
+        (either (eqb w words.bold) _ _ (one-sound field.bold (flagOf rd num) (flag, refl, refl))
+        (either (eqb w words.italic) _ _ (one-sound field.italic (flagOf rd num) (flag, refl, refl))
+        (either (eqb w words.underline) _ _ (one-sound field.underline (flagOf rd num) (flag, refl, refl))
+        (either (eqb w words.superscript) _ _ (one-sound field.superscript (flagOf rd num) (flag, refl, refl))
+        (either (eqb w words.subscript) _ _ (one-sound field.subscript (flagOf rd num) (flag, refl, refl))
+        (either (eqb w words.smallcaps) _ _ (one-sound field.smallcaps (flagOf rd num) (flag, refl, refl))
+        (either (eqb w words.strikethrough) _ _ (one-sound field.strike (flagOf rd num) (flag, refl, refl))
         (either (eqb w words.underlineNone) _ _ (one-sound field.underline 0 (omega arith, refl, refl))
         (either (eqb w words.plain) _ _ painter-resets k)))))))))))
 

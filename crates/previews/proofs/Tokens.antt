@@ -1,6 +1,6 @@
 -- What the tokens of a letter show: text that is not empty and has no byte above 127, and numbers of 32 bits.
 --     tokens-some, stream-some    no text of a slice's tokens is empty, nor of a source's
---     low-part                    bytes that stand in a source without a byte above 127 have none either
+--     low-drop, low-part          bytes that stand in a source without a byte above 127 have none either
 --     tokens-fine                 what the tokens of a source show
 -- Assumes nothing.
 use mathlib.Core.Path.{_≡_, refl, sym, ap, _∙_}
@@ -11,7 +11,7 @@ use native.Mathlib.Omega.{arith}
 use lib.ListN.{length, take, drop, take-append-drop}
 use lib.Dec.{eqb, ltb}
 use Rattle.answers.specs.declared.Why.{Why}
-use Rattle.answers.specs.declared.Why.the-variants.{SourceTooLong, NotAscii}
+use Rattle.answers.specs.declared.Why.the-variants.{SourceTooLong, NotAscii, LastSlice}
 use Rattle.answers.specs.Answers.{refusal, refusalAt}
 use Rattle.bytes.specs.declared.Class.the-variants.{White, WordEnd, InWord, Space, Numeral}
 use Rattle.bytes.specs.Bytes.{isLetter, isHigh, inClass, lead, body, any}
@@ -25,14 +25,17 @@ use Rattle.rooms.proofs.Streams.{Each, Each-then, Each-each, Each-either}
 use Rattle.slices.specs.Slices.{slicesBy}
 use Rattle.tokens.specs.declared.Property.{Property}
 use Rattle.tokens.specs.declared.Property.the-variants.{None, Value}
-use Rattle.tokens.specs.Tokens.{Shown, Token, token, shownIn, valueOf}
+use Rattle.tokens.specs.Tokens.{Shown, Token, token, sliceOf, shownIn, valueOf}
 use Rattle.tokens.specs.Tokens
 use Rattle.readings.specs.declared.Reading.{Reading}
-use Rattle.readings.specs.declared.Reading.the-variants.{Plain, Paragraphs}
-use Rattle.tokenize.specs.Tokenize.{behindFeed, otherBy, isMark, isEscape, mark, plain, hexValue, hexEscape, lineBreakAnd, shownWord, numbered}
+use Rattle.readings.specs.declared.Reading.the-variants.{Plain, Paragraphs, Standard}
+use Rattle.controls.specs.Controls.{shownWord, numbered}
+use Rattle.tokenize.specs.Tokenize.{behindFeed, returned, otherBy, isMark, isEscape, mark, plain, hexValue, hexEscape, lineBreakAnd}
 use Rattle.tokenize.specs.Tokenize.{named, bareLength, wordTail, word, other, escaped, tokens}
-use Rattle.tokenize.proofs.Places.{At, Stands}
-use Rattle.cutter.specs.Cutting.{located, last, allSlices, trimStart, trimmed, tokenStream}
+use Rattle.controls.proofs.Places.{At, Stands}
+use Rattle.standard.specs.Closing.{isClosing, isBracket}
+use Rattle.standard.proofs.Shows.{Kinds, tokens-each}
+use Rattle.cutter.specs.Cutting.{tokensBy, located, last, lastBy, allSlices, every, closedBehind, closing, cutBy, trimStart, trimmed, tokenStream}
 use Rattle.cutter.proofs.Places.{Placed, stream-places}
 use Rattle.answers.specs.declared.Refusal.{Refusal}
 
@@ -51,6 +54,7 @@ Some Shown.lineBreak = Unit {0}
 Some Shown.ignorable = Unit {0}
 Some (Shown.word w num) = Unit {0}
 Some (Shown.unknown p bs num) = Unit {0}
+Some (Shown.symbol b num) = Unit {0}
 
 mark-some : (b : ℕ) → Each Some (mark b)
 unfolding mark
@@ -111,11 +115,15 @@ feed-some : (p : ℕ) (s : List ℕ) → Each Some (behindFeed p s)
 feed-some p [] = plain-some p []
 feed-some p (b ∷ s) = Each-either Some (eqb b 10) _ _ (plain-some (p + 1) s) (plain-some p (b ∷ s))
 
+returned-some : (p : ℕ) (s : List ℕ) → Each Some (returned p s)
+returned-some p [] = other-some p []
+returned-some p (b ∷ s) = Each-either Some (eqb b 13) _ _ (tt, feed-some (p + 2) s) (other-some p (b ∷ s))
+
 otherBy-some : (rd : Reading) (p : ℕ) (s : List ℕ) → Each Some (otherBy rd p s)
 unfolding otherBy
 otherBy-some Plain p s = other-some p s
-otherBy-some Paragraphs p [] = other-some p []
-otherBy-some Paragraphs p (b ∷ s) = Each-either Some (eqb b 13) _ _ (tt, feed-some (p + 2) s) (other-some p (b ∷ s))
+otherBy-some Paragraphs p s = returned-some p s
+otherBy-some Standard p s = returned-some p s
 
 escaped-some : (rd : Reading) (p : ℕ) (s : List ℕ) → Each Some (escaped rd p s)
 unfolding escaped lineBreakAnd
@@ -134,13 +142,31 @@ tokens-some rd p (b ∷ s) =
     Each-either Some (isMark b) _ _ (Each-then Some (mark b) (tokens rd (p + 1) s) (mark-some b) (tokens-some rd (p + 1) s))
     (Each-either Some (eqb b 92) _ _ (escaped-some rd p s) (plain-some p (b ∷ s)))
 
+-- by the specification's rules, of which none gives an empty text
+kinds-some : Kinds Some
+kinds-some = record {
+  text = λ p b s. omega arith;
+  opening = tt;
+  closing = tt;
+  lineBreak = tt;
+  ignorable = tt;
+  known = λ w num. tt;
+  unknown = λ p name num. tt;
+  symbol = λ b num. tt;
+}
+
+by-some : (rd : Reading) (p : ℕ) (s : List ℕ) → Each Some (tokensBy rd p s)
+by-some Plain p s = tokens-some Plain p s
+by-some Paragraphs p s = tokens-some Paragraphs p s
+by-some Standard p s = tokens-each Some kinds-some p s
+
 -- the same of located tokens
 abbrev SomeIn : Token → Type 0
 SomeIn t = Some (shownIn t)
 
 located-some : (rd : Reading) (p : ℕ) (s : List ℕ) → Each SomeIn (located rd p s)
 unfolding located
-located-some rd p s = Each-each SomeIn (λ (w : Why). refusalAt w p) (token p (length s)) (tokens rd p s) (tokens-some rd p s)
+located-some rd p s = Each-each SomeIn (λ (w : Why). refusalAt w p) (token p (length s)) (tokensBy rd p s) (by-some rd p s)
 
 last-some : (p : ℕ) (s : List ℕ) → Each SomeIn (last p s)
 unfolding last
@@ -148,18 +174,46 @@ last-some p [] = tt
 last-some p (b ∷ []) = Each-either SomeIn (eqb b 125) _ _ (tt, tt) tt
 last-some p (b ∷ c ∷ s) = tt
 
+last-by-some : (rd : Reading) (p : ℕ) (s : List ℕ) → Each SomeIn (lastBy rd p s)
+last-by-some Plain p s = last-some p s
+last-by-some Paragraphs p s = last-some p s
+last-by-some Standard p s = Each-then SomeIn (located Standard p s) _ (located-some Standard p s) (Each-either SomeIn (isBracket s) _ _ tt tt)
+
 all-some : (rd : Reading) (p : ℕ) (ss : List (List ℕ)) → Each SomeIn (allSlices rd p ss)
 unfolding allSlices
 all-some rd p [] = tt
-all-some rd p (s ∷ []) = last-some p s
+all-some rd p (s ∷ []) = last-by-some rd p s
 all-some rd p (s ∷ t ∷ ss) =
     Each-then SomeIn (located rd p s) (allSlices rd (p + length s) (t ∷ ss)) (located-some rd p s) (all-some rd (p + length s) (t ∷ ss))
+
+every-some : (p : ℕ) (ss : List (List ℕ)) → Each SomeIn (every p ss)
+unfolding every
+every-some p [] = tt
+every-some p (s ∷ ss) = Each-then SomeIn (located Standard p s) (every (p + length s) ss) (located-some Standard p s) (every-some (p + length s) ss)
+
+-- what is closed has the same tokens
+behind-some : (t : Token) (s : Stream Refusal Token) → Each SomeIn s → Each SomeIn (closedBehind t s)
+unfolding closedBehind
+behind-some t end h = Each-either SomeIn (isClosing (shownIn t)) end (stop (refusalAt LastSlice (sliceOf t))) tt tt
+behind-some t (stop r) h = tt
+behind-some t (u ▸ s) h = (h .0, behind-some u s (h .1))
+
+closing-some : (s : Stream Refusal Token) → Each SomeIn s → Each SomeIn (closing s)
+unfolding closing
+closing-some end h = tt
+closing-some (stop r) h = tt
+closing-some (t ▸ s) h = (h .0, behind-some t s (h .1))
+
+cut-some : (rd : Reading) (p : ℕ) (ss : List (List ℕ)) → Each SomeIn (cutBy rd p ss)
+cut-some Plain p ss = all-some Plain p ss
+cut-some Paragraphs p ss = all-some Paragraphs p ss
+cut-some Standard p ss = closing-some (every p ss) (every-some p ss)
 
 stream-some : (rd : Reading) (src : List ℕ) → Each SomeIn (tokenStream rd src)
 unfolding tokenStream
 stream-some rd src =
     Each-either SomeIn (ltb 65536 (length src)) _ _ tt
-    (Each-either SomeIn (any isHigh src) _ _ tt (all-some rd (trimStart src) (slicesBy rd (trimmed src))))
+    (Each-either SomeIn (any isHigh src) _ _ tt (cut-some rd (trimStart src) (slicesBy rd (trimmed src))))
 
 -- ---- no byte above 127
 
@@ -169,7 +223,7 @@ low-parts n s h = sym (any-append isHigh (take n s) (drop n s)) ∙ ap (any isHi
 low-take : (n : ℕ) (s : List ℕ) → any isHigh s ≡ false → any isHigh (take n s) ≡ false
 low-take n s h = or-left (any isHigh (take n s)) (any isHigh (drop n s)) (low-parts n s h)
 
-low-drop : (n : ℕ) (s : List ℕ) → any isHigh s ≡ false → any isHigh (drop n s) ≡ false
+pub low-drop : (n : ℕ) (s : List ℕ) → any isHigh s ≡ false → any isHigh (drop n s) ≡ false
 low-drop n s h = or-right (any isHigh (take n s)) (any isHigh (drop n s)) (low-parts n s h)
 
 low-part : {src : List ℕ} {p q : ℕ} {bs : List ℕ} → any isHigh src ≡ false → At src p q bs → any isHigh bs ≡ false
@@ -187,6 +241,7 @@ Fine Shown.lineBreak = Unit {0}
 Fine Shown.ignorable = Unit {0}
 Fine (Shown.word w num) = valueOf num < 4294967296
 Fine (Shown.unknown p bs num) = Unit {0}
+Fine (Shown.symbol b num) = Unit {0}
 
 abbrev pub FineIn : Token → Type 0
 FineIn t = Fine (shownIn t)
@@ -199,6 +254,7 @@ fine-one src h Shown.lineBreak a s = tt
 fine-one src h Shown.ignorable a s = tt
 fine-one src h (Shown.word w num) a s = a .1
 fine-one src h (Shown.unknown p bs num) a s = tt
+fine-one src h (Shown.symbol b num) a s = tt
 
 fine-all : (src : List ℕ) → any isHigh src ≡ false → (s : Stream Refusal Token) → Each (Placed src) s → Each SomeIn s
     → All FineIn (items s)

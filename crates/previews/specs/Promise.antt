@@ -52,7 +52,7 @@ ReadBack c ws tx s =
 abbrev pub Kept : Counts → List ℕ → List ℕ → Type 0
 Kept c ws tx = (s : List ℕ) × StoredAs ws tx s × ReadBack c ws tx s × (outcomeNumber (checked s) ≡ 0)
 
--- whether a block of a letter that was read has an indent: one of its last three style words is not 0. By paragraphs `{\li1 a}` has
+-- whether a block of a letter that was read has an indent: one of its last three style words is not 0. `{\li1 a}` has, but in plain reading
 abbrev pub hasIndent : Reading → List ℕ → Sizes → Counts → Bool
 hasIndent rd src z c = indented (c .blocks) (blocksRead rd src z c)
 
@@ -60,7 +60,7 @@ hasIndent rd src z c = indented (c .blocks) (blocksRead rd src z c)
 pub record Promise : Type 0 where
   -- in plain reading no block has an indent
   pub plain : (src : List ℕ) (z : Sizes) (c : Counts) → readAnswer Plain src z ≡ Read c → hasIndent Plain src z c ≡ false
-  -- in either reading, where no block has one, blocks and text are kept. Nothing more is asked. Not that the source is bytes: one with an item above
+  -- in any reading, where no block has one, blocks and text are kept. Nothing more is asked. Not that the source is bytes: one with an item above
   -- 127 is refused. Not that the blocks' words have 32 bits, as stored numbers have: they come from the numbers of tokens, and from places in a
   -- text of at most 2,147,483,647 bytes, and so have them
   pub kept : (rd : Reading) (src : List ℕ) (z : Sizes) (c : Counts) → readAnswer rd src z ≡ Read c → hasIndent rd src z c ≡ false

@@ -4,33 +4,40 @@
 --     value-.., values-..               what a `u` word gave
 --     lost-..                           a surrogate that waits where the run ends
 --     run-..                            the words of a run
+--     unit-.., step-.., owed-..         a `u` word by the reading
+--     steps-few                         and that it says no more than it may
 -- Assumes nothing.
 use mathlib.Core.Path.{_≡_, refl, sym, ap, _∙_}
 use mathlib.Core.List.{List, [], _∷_, _++_, append-nil}
-use mathlib.Core.Bool.{Bool, true, false, cond}
+use mathlib.Core.Bool.{Bool, true, false, cond, _&&_}
 use Prim.Native.Nat.{ℕ, _-_, _<_, _≤_}
 use native.Mathlib.Omega.{arith}
 use borrow.Author.Tests.{lt-ltb}
 use lib.ListN.{length, getD, set, take, length-take}
-use lib.Dec.{eqb}
+use lib.Dec.{eqb, ltb}
 use Rattle.answers.specs.declared.Refusal.{Refusal}
+use Rattle.readings.specs.declared.Reading.{Reading}
+use Rattle.readings.specs.Readings.{isStandard}
+use Rattle.readings.specs.declared.Reading.the-variants.{Plain, Paragraphs, Standard}
 use Rattle.rooms.specs.Streams.{Stream}
 use Rattle.utf8.specs.declared.Encoded.{Encoded}
 use Rattle.utf8.specs.Utf8.{written, encodedOf}
 use Rattle.utf8.proofs.Utf8.{encoded-length, encoded-bytes}
 use Rattle.tokens.specs.declared.Property.{Property}
 use Rattle.settings.specs.Fields.{Setting, styleOf}
+use Rattle.settings.specs.Fields as field
 use Rattle.units.specs.declared.Run.{Run}
 use Rattle.units.specs.declared.Gave.{Gave}
-use Rattle.units.specs.Units.{before, values, step}
+use Rattle.units.specs.Units.{before, values, step, standardStep}
 use Rattle.machine.specs.Stack.{held}
 use Rattle.machine.specs.Machine.{Deed, parts, ended, textsOf, writtenAll, _▸▸_, spoken, said}
 use Rattle.machine.proofs.Stack.{held-top}
+use Rattle.machine.proofs.Few.{Few, step-few, standard-few}
 use Rattle.blocks.specs.declared.Page.{Page}
 use Rattle.blocks.specs.Pages.{Piece}
 use Rattle.blocks.specs.Laying.{Laying, on, off, addOf, laidOn, layAll}
 use Rattle.blocks.proofs.Laying.{lay-more, Placeless, laid-on-placeless}
-use Rattle.runs.specs.Runs.{rows, runWords, runOf, valueIf, laidAll}
+use Rattle.runs.specs.Runs.{rows, stepBy, owedBy, stepsBy, runWords, runOf, valueIf, laidAll}
 
 pub ne-pos : {d : ℕ} → (d ≡ 0 → ⊥) → 0 < d
 ne-pos h = omega arith
@@ -94,6 +101,10 @@ module _ (states : List (List ℕ)) (depth : ℕ) (z : 0 < depth) (p : Page) (b 
   pub said-text : (bytes : List ℕ) → laidAll (on p b t) (said rows (held [] states depth) (ended before) (Deed.says bytes)) ≡ addOf p (styleOf (getD states (depth - 1) [])) bytes b t
   unfolding said values writtenAll spoken laidAll
   said-text bytes = rw (held-top [] states depth z) refl
+
+  pub told-text : (bytes : List ℕ) → laidAll (on p b t) (said rows (held [] states depth) (ended before) (Deed.tells bytes)) ≡ addOf p (styleOf (getD states (depth - 1) [])) bytes b t
+  unfolding said values writtenAll spoken laidAll
+  told-text bytes = rw (held-top [] states depth z) refl
 
   pub said-values : (g : Gave) (d : Deed Setting) → textsOf d ≡ [] → said rows (held [] states depth) g d ≡ spoken rows (getD states (depth - 1) []) (writtenAll (values g))
   unfolding said
@@ -189,9 +200,42 @@ run-put (x ∷ y ∷ z ∷ []) e r q = (refl, rw (q, bit-is (r .begun)) refl)
 run-put (x ∷ y ∷ z ∷ u ∷ l) e r q = absurd (omega arith)
 
 -- a `u` word's step of the run, and what it gives
-module _ (skip : ℕ) (run₀ : Run) (num : Property) {run : Run} (e : run ≡ run₀) {g : Gave} (q : g ≡ step skip run num) where
-  pub unit-laid : (r : List ℕ) (p : Page) (b t : List ℕ) {l : Laying} → l ≡ laidAll (on p b t) (spoken rows r (writtenAll (values g))) → l ≡ laidAll (on p b t) (spoken rows r (writtenAll (values (step skip run₀ num))))
-  unit-laid r p b t h = h ∙ ap (λ (x : Gave). laidAll (on p b t) (spoken rows r (writtenAll (values x)))) (q ∙ ap (λ (x : Run). step skip x num) e)
+module _ (rd : Reading) (skip : ℕ) (run₀ : Run) (num : Property) {run : Run} (e : run ≡ run₀) {g : Gave} (q : g ≡ stepBy rd skip run num) where
+  pub unit-laid : (r : List ℕ) (p : Page) (b t : List ℕ) {l : Laying} → l ≡ laidAll (on p b t) (spoken rows r (writtenAll (values g)))
+      → l ≡ laidAll (on p b t) (spoken rows r (writtenAll (values (stepBy rd skip run₀ num))))
+  unit-laid r p b t h = h ∙ ap (λ (x : Gave). laidAll (on p b t) (spoken rows r (writtenAll (values x)))) (q ∙ ap (λ (x : Run). stepBy rd skip x num) e)
 
-  pub unit-run : {run′ : Run} → run′ ≡ g .run → run′ ≡ step skip run₀ num .run
-  unit-run h = h ∙ ap (λ (x : Gave). x .run) (q ∙ ap (λ (x : Run). step skip x num) e)
+  pub unit-run : {run′ : Run} → run′ ≡ g .run → run′ ≡ stepBy rd skip run₀ num .run
+  unit-run h = h ∙ ap (λ (x : Gave). x .run) (q ∙ ap (λ (x : Run). stepBy rd skip x num) e)
+
+-- by whether the reading is the specification's, as the code asks it
+module _ (rd : Reading) (skip : ℕ) {s : Bool} (q : s ≡ isStandard rd) where
+  pub step-standard : s ≡ true → (run : Run) (num : Property) {g : Gave} → g ≡ standardStep run num → g ≡ stepBy rd skip run num
+  unfolding stepBy
+  step-standard e run num h = h ∙ rw (← q, e) refl
+
+  pub step-other : s ≡ false → (run : Run) (num : Property) {g : Gave} → g ≡ step skip run num → g ≡ stepBy rd skip run num
+  unfolding stepBy
+  step-other e run num h = h ∙ rw (← q, e) refl
+
+  owed-is : (r : Bool) → s && ltb skip 2147483648 ≡ r → cond r skip 0 ≡ owedBy rd skip
+  unfolding owedBy
+  owed-is r e = rw (← q) (go s (ltb skip 2147483648) e)
+    where
+      go : (x y : Bool) → x && y ≡ r → cond r skip 0 ≡ cond x (cond y skip 0) 0
+      go true true e = rw (← e) refl
+      go true false e = rw (← e) refl
+      go false y e = rw (← e) refl
+
+  pub owed-some : s && ltb skip 2147483648 ≡ true → skip ≡ owedBy rd skip
+  owed-some e = owed-is true e
+
+  pub owed-none : s && ltb skip 2147483648 ≡ false → 0 ≡ owedBy rd skip
+  owed-none e = owed-is false e
+
+-- a `u` word says no more than it may
+pub steps-few : (rd : Reading) (r : List ℕ) (run : Run) (num : Property) → Few run (stepsBy rd .step r run num)
+unfolding stepBy
+steps-few Plain r run num = step-few (getD r field.skip 0) run num
+steps-few Paragraphs r run num = step-few (getD r field.skip 0) run num
+steps-few Standard r run num = standard-few run num

@@ -3,30 +3,33 @@
 //
 //   say       text in a state, laid onto the page
 //   unit      a `u` word
+//   owes      how many characters are passed over behind one
 //   end_run   any other token ends the run
 pub mod say;
 
 use crate::say::character;
 use blocks::PAGE_WORDS;
 use blocks::Room;
+use readings::Reading;
 use settings::SKIP;
 use settings::WIDTH;
 use settings::rows::STATES;
 use tokens::Property;
 use units::Gave;
 use units::Run;
+use units::standard_step;
 use units::step;
 ghost use mathlib.Core.Path.{_≡_};
 ghost use mathlib.Core.Bool.{cond};
 ghost use mathlib.Core.List.{[]};
 ghost use Prim.Native.Nat.{_≤_, _<_};
 ghost use lib.ListN.{length, getD};
-ghost use Rattle.units.specs.Units.{before, values, step as stepOf};
+ghost use Rattle.units.specs.Units.{before, values};
 ghost use Rattle.machine.specs.Stack.{stackLimit, held};
 ghost use Rattle.machine.specs.Machine.{ended, parts, writtenAll, spoken, said};
 ghost use Rattle.settings.specs.Fields as field;
 ghost use Rattle.blocks.specs.Laying.{on, roomed, pageOf, Held};
-ghost use Rattle.runs.specs.Runs.{rows, runWords, runOf, valueIf, laidAll};
+ghost use Rattle.runs.specs.Runs.{rows, stepBy, owedBy, runWords, runOf, valueIf, laidAll};
 
 pub const RUN_WORDS: usize = 3;
 
@@ -106,8 +109,38 @@ fn lay_values(
     }
 }
 
+// A step of the run, by the reading.
+fn step_by(reading: Reading, skip: u32, run: Run, number: Property) -> Gave
+    ensures { λ r. ⌜ r ≡ stepBy reading skip run number ⌝ }
+{
+    if reading.is_standard() {
+        return standard_step(run, number);
+    }
+    step(skip, run, number)
+}
+
+// How many characters are passed over behind a `u` word, where the skip count is `skip`.
+fn owed_by(reading: Reading, skip: u32) -> usize
+    ensures { λ r. ⌜ r ≡ owedBy reading skip ⌝ }
+{
+    // a skip count below zero skips nothing
+    if reading.is_standard() & (skip < 2147483648) {
+        return skip as usize;
+    }
+    0
+}
+
+// The same, in the state at place d.
+pub fn owes(reading: Reading, states: &[[u32; WIDTH]; STATES], d: usize) -> usize
+    requires { ⌜ (d < stackLimit) × (length (now states) ≡ stackLimit) ⌝ }
+    ensures { λ r. ⌜ r ≡ owedBy reading (getD (getD (now (states .entry)) d []) field.skip 0) ⌝ }
+{
+    owed_by(reading, states[d][SKIP])
+}
+
 // A `u` word in the state at place d.
 pub fn unit(
+    reading: Reading,
     states: &[[u32; WIDTH]; STATES],
     d: usize,
     number: Property,
@@ -117,12 +150,12 @@ pub fn unit(
     text: &mut [u8],
 ) -> Room
     requires { ⌜ (d < stackLimit) × (length (now states) ≡ stackLimit) × (length (now run) ≡ runWords) × Held (now page) (length (now blocks)) (length (now text)) ⌝ }
-    ensures { λ r. ⌜ roomed r (pageOf (now (page .exit))) (now (blocks .exit)) (now (text .exit)) ≡ laidAll (on (pageOf (now (page .entry))) (now (blocks .entry)) (now (text .entry))) (spoken rows (getD (now (states .entry)) d []) (writtenAll (values (stepOf (getD (getD (now (states .entry)) d []) field.skip 0) (runOf (now (run .entry))) number)))) ⌝ }
-    ensures { λ r. ⌜ runOf (now (run .exit)) ≡ stepOf (getD (getD (now (states .entry)) d []) field.skip 0) (runOf (now (run .entry))) number .run ⌝ }
+    ensures { λ r. ⌜ roomed r (pageOf (now (page .exit))) (now (blocks .exit)) (now (text .exit)) ≡ laidAll (on (pageOf (now (page .entry))) (now (blocks .entry)) (now (text .entry))) (spoken rows (getD (now (states .entry)) d []) (writtenAll (values (stepBy reading (getD (getD (now (states .entry)) d []) field.skip 0) (runOf (now (run .entry))) number)))) ⌝ }
+    ensures { λ r. ⌜ runOf (now (run .exit)) ≡ stepBy reading (getD (getD (now (states .entry)) d []) field.skip 0) (runOf (now (run .entry))) number .run ⌝ }
     ensures { λ r. ⌜ (length (now (run .exit)) ≡ runWords) × Held (now (page .exit)) (length (now (blocks .entry))) (length (now (text .entry))) ⌝ }
 {
     let skip = states[d][SKIP];
-    let g = step(skip, run_in(run), number);
+    let g = step_by(reading, skip, run_in(run), number);
     put_run(run, g.run);
     lay_values(states, d, g, page, blocks, text)
 }

@@ -1,3 +1,4 @@
--- Letters: the letters of specs/Letters, computed. Fonts: the token lists of specs/Fonts, computed.
+-- Letters: the letters of specs/Letters, computed. Standard: those of specs/Standard. Fonts: the token lists of specs/Fonts, computed.
 mod Letters
+mod Standard
 mod Fonts

@@ -2,8 +2,11 @@
 --     by-word      that of a word by its number
 --     no-..        a word that is none of a kind
 --     other-word   and none of any
+--     flag-on      a flag that is on for any number but 0, as the code tests it
 -- Assumes nothing.
-use mathlib.Core.Path.{_≡_, sym, ap, _∙_}
+use mathlib.Core.Path.{_≡_, refl, sym, ap, _∙_}
+use mathlib.Core.Bool.{Bool, true, false, cond, not}
+use lib.Dec.{eqb}
 use mathlib.Core.List.{[]}
 use Prim.Native.Nat.{ℕ}
 use borrow.Author.Tests.{ne-eqb}
@@ -19,10 +22,10 @@ abbrev pub Not : ℕ → ℕ → Type 0
 Not w k = w ≡ k → ⊥
 
 module _ (w : ℕ) where
-  pub no-painter : (num : Property) (x : Effect) → Not w 11 → Not w 9 → Not w 10 → Not w 13 → Not w 12 → Not w 14 → Not w 16 → Not w 17 → Not w 18 → Not w 19
-      → Not w 15 → Not w 23 → painterWord w num x ≡ x
+  pub no-painter : (rd : Reading) (num : Property) (x : Effect) → Not w 11 → Not w 9 → Not w 10 → Not w 13 → Not w 12 → Not w 14 → Not w 16 → Not w 17 → Not w 18 → Not w 19
+      → Not w 15 → Not w 23 → painterWord rd w num x ≡ x
   unfolding painterWord
-  no-painter num x a b c d e f g h i j k l =
+  no-painter rd num x a b c d e f g h i j k l =
       rw (
         ne-eqb w 11 a,
         ne-eqb w 9 b,
@@ -79,9 +82,16 @@ module _ (w : ℕ) where
   unfolding indentWord
   no-indent rd num x a b c = rw (ne-eqb w 32 a, ne-eqb w 31 b, ne-eqb w 30 c)
 
-pub other-word : (rd : Reading) (w : ℕ) (num : Property) → painterWord w num (sets []) ≡ sets [] → paragraphWord w num (sets []) ≡ sets []
+pub other-word : (rd : Reading) (w : ℕ) (num : Property) → painterWord rd w num (sets []) ≡ sets [] → paragraphWord w num (sets []) ≡ sets []
     → characterWord w (sets []) ≡ sets [] → endingWord rd w (sets []) ≡ sets [] → indentWord rd w num (sets []) ≡ sets [] → sets [] ≡ effect rd w num
 unfolding effect
-other-word rd w num p q r s t = sym (ap (λ (x : Effect). painterWord w num (paragraphWord w num (characterWord w (endingWord rd w x)))) t
-    ∙ ap (λ (x : Effect). painterWord w num (paragraphWord w num (characterWord w x))) s
-    ∙ ap (λ (x : Effect). painterWord w num (paragraphWord w num x)) r ∙ ap (painterWord w num) q ∙ p)
+other-word rd w num p q r s t = sym (ap (λ (x : Effect). painterWord rd w num (paragraphWord w num (characterWord w (endingWord rd w x)))) t
+    ∙ ap (λ (x : Effect). painterWord rd w num (paragraphWord w num (characterWord w x))) s
+    ∙ ap (λ (x : Effect). painterWord rd w num (paragraphWord w num x)) r ∙ ap (painterWord rd w num) q ∙ p)
+
+pub flag-on : (v : ℕ) → cond {A = ℕ} (not (eqb v 0)) 1 0 ≡ cond (eqb v 0) 0 1
+flag-on v = go (eqb v 0)
+  where
+    go : (t : Bool) → cond {A = ℕ} (not t) 1 0 ≡ cond t 0 1
+    go true = refl
+    go false = refl

@@ -1,4 +1,4 @@
--- 01, Body: what a word does, but `u`: it sets fields of the state, writes a character, or is refused. Assumes nothing: these are
+-- 01, Body, and 02, A1 and A5: what a word does, but `u`: it sets fields of the state, writes a character, or is refused. Assumes nothing: these are
 -- definitions.
 use Prim.Native.Nat.{ℕ, _-_, _<_}
 use mathlib.Core.List.{List, [], _∷_}
@@ -7,7 +7,7 @@ use lib.Dec.{leb, ltb, eqb}
 use Rattle.answers.specs.declared.Why.{Why}
 use Rattle.answers.specs.declared.Why.the-variants.{NumberField, LineSpacing}
 use Rattle.readings.specs.declared.Reading.{Reading}
-use Rattle.readings.specs.declared.Reading.the-variants.{Plain, Paragraphs}
+use Rattle.readings.specs.declared.Reading.the-variants.{Plain, Paragraphs, Standard}
 use Rattle.tokens.specs.declared.Property.{Property}
 use Rattle.tokens.specs.declared.Property.the-variants.{None, Value}
 use Rattle.tokens.specs.Tokens.{valueOf}
@@ -30,10 +30,15 @@ setting f v = sets (f ≔ v ∷ [])
 unfoldable pub fitted : ℕ → ℕ → Effect
 fitted f v = cond (leb v 65535) (setting f v) (refuses NumberField)
 
--- "Flags: no number is on, else on only for 1"
-abbrev pub flagOf : Property → ℕ
-flagOf None = 1
-flagOf (Value v) = cond (eqb v 1) 1 0
+-- "Flags: no number is on, else on only for 1"; 02, A1: "Any number but 0 turns a flag on; no number too"
+abbrev pub flagBy : Reading → ℕ → ℕ
+flagBy Plain v = cond (eqb v 1) 1 0
+flagBy Paragraphs v = cond (eqb v 1) 1 0
+flagBy Standard v = cond (eqb v 0) 0 1
+
+abbrev pub flagOf : Reading → Property → ℕ
+flagOf rd None = 1
+flagOf rd (Value v) = flagBy rd v
 
 -- "line kind (0 automatic, 1 value), line value"
 abbrev pub lined : ℕ → ℕ → Effect
@@ -48,24 +53,25 @@ spacing v =
     (cond (ltb v 2147483648) (lined 1 v)
     (lined 1 (4294967296 - v))))
 
--- `par`, by the reading
+-- `par`, by the reading; 02, A1: "`\par` adds U+000A"
 abbrev pub ending : Reading → Effect
 ending Plain = sets []
 ending Paragraphs = says 10
+ending Standard = says 10
 
 -- word by word; what is none of these words is left to what comes next. The style: "`ulnone` is off"; "`plain` resets the style"
-unfoldable pub painterWord : ℕ → Property → Effect → Effect
-painterWord w num next =
+unfoldable pub painterWord : Reading → ℕ → Property → Effect → Effect
+painterWord rd w num next =
     cond (eqb w words.colourNumber) (fitted field.colour (valueOf num))
     (cond (eqb w words.fontNumber) (fitted field.font (valueOf num))
     (cond (eqb w words.fontSize) (fitted field.size (valueOf num))
-    (cond (eqb w words.bold) (setting field.bold (flagOf num))
-    (cond (eqb w words.italic) (setting field.italic (flagOf num))
-    (cond (eqb w words.underline) (setting field.underline (flagOf num))
-    (cond (eqb w words.superscript) (setting field.superscript (flagOf num))
-    (cond (eqb w words.subscript) (setting field.subscript (flagOf num))
-    (cond (eqb w words.smallcaps) (setting field.smallcaps (flagOf num))
-    (cond (eqb w words.strikethrough) (setting field.strike (flagOf num))
+    (cond (eqb w words.bold) (setting field.bold (flagOf rd num))
+    (cond (eqb w words.italic) (setting field.italic (flagOf rd num))
+    (cond (eqb w words.underline) (setting field.underline (flagOf rd num))
+    (cond (eqb w words.superscript) (setting field.superscript (flagOf rd num))
+    (cond (eqb w words.subscript) (setting field.subscript (flagOf rd num))
+    (cond (eqb w words.smallcaps) (setting field.smallcaps (flagOf rd num))
+    (cond (eqb w words.strikethrough) (setting field.strike (flagOf rd num))
     (cond (eqb w words.underlineNone) (setting field.underline 0)
     (cond (eqb w words.plain) (sets (resets field.colour painterWidth))
     next)))))))))))
@@ -105,10 +111,11 @@ characterWord w next =
 unfoldable pub endingWord : Reading → ℕ → Effect → Effect
 endingWord rd w next = cond (eqb w words.par) (ending rd) next
 
--- 02, A5: "`li`, `ri` and `fi` set them (no number is 0) in paragraph .. reading ..; in plain reading they stay 0"
+-- 02, A5: "`li`, `ri` and `fi` set them (no number is 0) in paragraph and standard reading ..; in plain reading they stay 0"
 abbrev pub indenting : Reading → ℕ → ℕ → Effect
 indenting Plain f v = sets []
 indenting Paragraphs f v = setting f v
+indenting Standard f v = setting f v
 
 unfoldable pub indentWord : Reading → ℕ → Property → Effect → Effect
 indentWord rd w num next =
@@ -119,7 +126,7 @@ indentWord rd w num next =
 
 -- "Other words do nothing."
 unfoldable pub effect : Reading → ℕ → Property → Effect
-effect rd w num = painterWord w num (paragraphWord w num (characterWord w (endingWord rd w (indentWord rd w num (sets [])))))
+effect rd w num = painterWord rd w num (paragraphWord w num (characterWord w (endingWord rd w (indentWord rd w num (sets [])))))
 
 -- what the code's answer says
 unfoldable pub meaning : Act → Effect

@@ -14,9 +14,10 @@ use readings::Reading;
 use tokens::Property;
 use tokens::words;
 ghost use mathlib.Core.Path.{_≡_};
+ghost use mathlib.Core.Bool.{cond};
 ghost use Prim.Native.Nat.{_<_};
 ghost use Rattle.settings.specs.Fields.{width, freshPainter, freshParagraph, freshState, rowOf};
-ghost use Rattle.settings.specs.Effects.{flagOf, fitted, spacing, ending as endingOf, indenting, effect, meaning, Within};
+ghost use Rattle.settings.specs.Effects.{flagBy, flagOf, fitted, spacing, ending as endingOf, indenting, effect, meaning, Within};
 
 pub const COLOUR: usize = 0;
 
@@ -205,18 +206,33 @@ impl State {
     }
 }
 
-// No number is on, else on only for 1.
-fn flag(number: Property) -> u32
-    ensures { λ r. ⌜ r ≡ flagOf number ⌝ }
+// A flag's number: on only for 1; by the specification, for any but 0.
+fn flag_by(reading: Reading, v: u32) -> u32
+    ensures { λ r. ⌜ r ≡ flagBy reading v ⌝ }
+{
+    match reading {
+        Reading::Plain => bit(v == 1),
+        Reading::Paragraphs => bit(v == 1),
+        Reading::Standard => bit(v != 0),
+    }
+}
+
+fn bit(b: bool) -> u32
+    ensures { λ r. ⌜ r ≡ cond b 1 0 ⌝ }
+{
+    if b {
+        return 1;
+    }
+    0
+}
+
+// No number is on.
+fn flag(reading: Reading, number: Property) -> u32
+    ensures { λ r. ⌜ r ≡ flagOf reading number ⌝ }
 {
     match number {
         Property::None => 1,
-        Property::Value(v) => {
-            if v == 1 {
-                return 1;
-            }
-            0
-        }
+        Property::Value(v) => flag_by(reading, v),
     }
 }
 
@@ -254,6 +270,7 @@ fn ending(reading: Reading) -> Act
     match reading {
         Reading::Plain => Act::Nothing,
         Reading::Paragraphs => Act::Says(10),
+        Reading::Standard => Act::Says(10),
     }
 }
 
@@ -265,6 +282,7 @@ fn indent(reading: Reading, f: usize, v: u32) -> Act
     match reading {
         Reading::Plain => Act::Nothing,
         Reading::Paragraphs => Act::Sets(f, v),
+        Reading::Standard => Act::Sets(f, v),
     }
 }
 
@@ -277,13 +295,13 @@ pub fn act_of(reading: Reading, w: u32, number: Property) -> Act
         words::COLOUR_NUMBER => fit(COLOUR, v),
         words::FONT_NUMBER => fit(FONT, v),
         words::FONT_SIZE => fit(SIZE, v),
-        words::BOLD => Act::Sets(BOLD, flag(number)),
-        words::ITALIC => Act::Sets(ITALIC, flag(number)),
-        words::UNDERLINE => Act::Sets(UNDERLINE, flag(number)),
-        words::SUPERSCRIPT => Act::Sets(SUPERSCRIPT, flag(number)),
-        words::SUBSCRIPT => Act::Sets(SUBSCRIPT, flag(number)),
-        words::SMALLCAPS => Act::Sets(SMALLCAPS, flag(number)),
-        words::STRIKETHROUGH => Act::Sets(STRIKE, flag(number)),
+        words::BOLD => Act::Sets(BOLD, flag(reading, number)),
+        words::ITALIC => Act::Sets(ITALIC, flag(reading, number)),
+        words::UNDERLINE => Act::Sets(UNDERLINE, flag(reading, number)),
+        words::SUPERSCRIPT => Act::Sets(SUPERSCRIPT, flag(reading, number)),
+        words::SUBSCRIPT => Act::Sets(SUBSCRIPT, flag(reading, number)),
+        words::SMALLCAPS => Act::Sets(SMALLCAPS, flag(reading, number)),
+        words::STRIKETHROUGH => Act::Sets(STRIKE, flag(reading, number)),
         words::UNDERLINE_NONE => Act::Sets(UNDERLINE, 0),
         words::PLAIN => Act::Plain,
         words::PARD => Act::Pard,

@@ -1,7 +1,8 @@
 -- What is done to a number of eight bytes at once is done to each byte.
 --     each          a test that holds of all bytes, by one computation
 --     word-right    steps that stay within a byte, done to the number
---     marks-right   the code's steps make the marks
+--     steps-right   steps that mark one byte rightly, done to the number
+--     marks-right, starts-right   the code's steps make the marks
 -- Assumes nothing.
 use mathlib.Core.Path.{_≡_, refl, ap, ap₂, _∙_}
 use mathlib.Core.List.{List, [], _∷_, map}
@@ -15,6 +16,8 @@ use lib.Dec.{eqb, ltb}
 use lib.ListN.{length}
 use borrow.Author.Tests.{ltb-true, eqb-true}
 use Rattle.bytes.proofs.Runs.{and-left, and-right}
+use Rattle.bytes.specs.Bytes.{isSpecial}
+use Rattle.slices.specs.Slices.{isStart}
 use Rattle.slices.specs.Eights.{packed, marked, markOf}
 use Rattle.slices.proofs.Packed.{Bytes, at-eight, packed-both, packed-sum}
 
@@ -118,15 +121,30 @@ others = plus (bits xor (plus (bits xor low (all 35)) (all 1)) (all 85)) (all 1)
 abbrev pub marks : Steps
 marks = bits and (bits and (bits or braces others) (bits xor own (all 255))) (all 128)
 
-mark-right : (b : ℕ) → b < 256 → done 1 marks b ≡ markOf b
-unfolding below done
-mark-right b h = eqb-true (done 1 marks b) (markOf b) (each (λ (c : ℕ). eqb (done 1 marks c) (markOf c)) 256 refl b h)
+-- the same, and a carriage return
+abbrev returns : Steps
+returns = plus (bits xor low (all 114)) (all 1)
 
-marked-all : (s : List ℕ) → Bytes s → packed (map (done 1 marks) s) ≡ packed (marked s)
-unfolding packed marked
-marked-all [] y = refl
-marked-all (b ∷ s) y = ap₂ (λ (m n : ℕ). m * 256 + n) (marked-all s (λ i. y (suc i))) (mark-right b (y zero))
+abbrev pub starts : Steps
+starts = bits or marks (bits and (bits and returns (bits xor own (all 255))) (all 128))
 
-pub marks-right : (s : List ℕ) → length s ≡ 8 → Bytes s → done ones marks (packed s) ≡ packed (marked s)
+-- steps that mark a byte rightly, by one computation
+module _ (f : ℕ → Bool) (t : Steps) (e : below (λ (c : ℕ). eqb (done 1 t c) (markOf f c)) 256 ≡ true) where
+  mark-right : (b : ℕ) → b < 256 → done 1 t b ≡ markOf f b
+  mark-right b h = eqb-true (done 1 t b) (markOf f b) (each (λ (c : ℕ). eqb (done 1 t c) (markOf f c)) 256 e b h)
+
+  marked-all : (s : List ℕ) → Bytes s → packed (map (done 1 t) s) ≡ packed (marked f s)
+  unfolding packed marked
+  marked-all [] y = refl
+  marked-all (b ∷ s) y = ap₂ (λ (m n : ℕ). m * 256 + n) (marked-all s (λ i. y (suc i))) (mark-right b (y zero))
+
+  steps-right : fits t ≡ true → (s : List ℕ) → length s ≡ 8 → Bytes s → done ones t (packed s) ≡ packed (marked f s)
+  steps-right g s n y = word-right t g s n y ∙ marked-all s y
+
+pub marks-right : (s : List ℕ) → length s ≡ 8 → Bytes s → done ones marks (packed s) ≡ packed (marked isSpecial s)
 unfolding below done fits
-marks-right s n y = word-right marks refl s n y ∙ marked-all s y
+marks-right = steps-right isSpecial marks refl refl
+
+pub starts-right : (s : List ℕ) → length s ≡ 8 → Bytes s → done ones starts (packed s) ≡ packed (marked isStart s)
+unfolding below done fits
+starts-right = steps-right isStart starts refl refl

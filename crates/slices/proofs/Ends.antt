@@ -12,8 +12,8 @@ use Rattle.slices.specs.Slices.{startsSlice, upTo, sliceLength}
 use Rattle.bytes.specs.Bytes.{isSpecial, any, lead}
 use Rattle.bytes.proofs.Runs.{or-left, or-right}
 use borrow.Author.Tests.{ne-eqb}
-use Rattle.slices.specs.Eights.{packed, marked, isPlain}
-use Rattle.slices.proofs.Marking.{unmarked, some-marked, lead-plain, lead-special}
+use Rattle.slices.specs.Eights.{packed, marked, outside}
+use Rattle.slices.proofs.Marking.{unmarked, some-marked, lead-outside, lead-marked}
 use Rattle.slices.proofs.Slices.{lastByte, lastByte-at}
 
 -- fewer than two bytes are one slice, or none
@@ -32,20 +32,6 @@ upTo-plain (suc k) before (b ∷ s) e h =
     let x : isSpecial b ≡ false = or-left (isSpecial b) (any isSpecial (take k s)) e in
     let y : any isSpecial (take k s) ≡ false = or-right (isSpecial b) (any isSpecial (take k s)) e in
     rw x (omega (arith, upTo-plain k b s y (le-of-suc-le-suc h)))
-
-upTo-within : (before : ℕ) (s : List ℕ) → upTo before s ≤ length s
-unfolding upTo
-upTo-within before [] = omega arith
-upTo-within before (b ∷ s) = go (startsSlice before b) (upTo-within b s)
-  where
-    go : (t : Bool) → upTo b s ≤ length s → cond t zero (suc (upTo b s)) ≤ suc (length s)
-    go true h = omega arith
-    go false h = omega arith
-
-pub slice-within : (s : List ℕ) → sliceLength s ≤ length s
-unfolding sliceLength
-slice-within [] = omega arith
-slice-within (b ∷ s) = omega (arith, upTo-within b s)
 
 -- what is counted from i on, behind the byte `before`, where `total` is what is counted in all
 module _ (s : List ℕ) (total : ℕ) where
@@ -114,23 +100,23 @@ module _ (s : List ℕ) (total : ℕ) where
     eight = simp (length-take, length-drop) (omega arith)
 
     -- eight bytes without a mark
-    pub passed : (m : ℕ) → m ≡ packed (marked (take (i + 8 - i) (drop i s))) → m ≡ 0 → At (i + 8)
-    passed m q z = at-pass a (omega arith) l (unmarked (take (i + 8 - i) (drop i s)) (sym q ∙ z))
+    pub passed : (m : ℕ) → m ≡ packed (marked isSpecial (take (i + 8 - i) (drop i s))) → m ≡ 0 → At (i + 8)
+    passed m q z = at-pass a (omega arith) l (unmarked isSpecial (take (i + 8 - i) (drop i s)) (sym q ∙ z))
 
     -- eight bytes with a mark
-    module _ (m k : ℕ) (q : m ≡ packed (marked (take (i + 8 - i) (drop i s)))) (n : m ≡ 0 → ⊥) (f : (t : List ℕ) → length t ≡ 8 → m ≡ packed (marked t) → k ≡ lead isPlain t) where
-      first : k ≡ lead isPlain (take (i + 8 - i) (drop i s))
-      first = f (take (i + 8 - i) (drop i s)) eight q
+    module _ (m k : ℕ) (q : m ≡ packed (marked isSpecial (take (i + 8 - i) (drop i s)))) (n : m ≡ 0 → ⊥) (f : (p : ℕ → Bool) (t : List ℕ) → length t ≡ 8 → m ≡ packed (marked p t) → k ≡ lead (outside p) t) where
+      first : k ≡ lead (outside isSpecial) (take (i + 8 - i) (drop i s))
+      first = f isSpecial (take (i + 8 - i) (drop i s)) eight q
 
       few : k < 8
-      few = let h = some-marked (take (i + 8 - i) (drop i s)) (λ z. n (q ∙ z)) in omega (arith, h, eight, first)
+      few = let h = some-marked isSpecial (take (i + 8 - i) (drop i s)) (λ z. n (q ∙ z)) in omega (arith, h, eight, first)
 
       pub found : Found (i + k)
       found =
           let z : i + k - i ≡ k = omega arith in
           let t : take k (take (i + 8 - i) (drop i s)) ≡ take k (drop i s) = take-take k (i + 8 - i) (drop i s) (omega (arith, few)) in
-          let p : any isSpecial (take k (take (i + 8 - i) (drop i s))) ≡ false = rw (← first) at (lead-plain (take (i + 8 - i) (drop i s))) in
-          let u : isSpecial (getD (take (i + 8 - i) (drop i s)) k 0) ≡ true = rw (← first) at (lead-special (take (i + 8 - i) (drop i s)) (omega (arith, first, few, eight))) in
+          let p : any isSpecial (take k (take (i + 8 - i) (drop i s))) ≡ false = rw (← first) at (lead-outside isSpecial (take (i + 8 - i) (drop i s))) in
+          let u : isSpecial (getD (take (i + 8 - i) (drop i s)) k 0) ≡ true = rw (← first) at (lead-marked isSpecial (take (i + 8 - i) (drop i s)) (omega (arith, first, few, eight))) in
           let g : getD (take (i + 8 - i) (drop i s)) k 0 ≡ getD s (i + k) 0 = getD-take (i + 8 - i) (drop i s) k 0 (omega (arith, few)) ∙ getD-drop i s k 0 in
           record { at = at-pass a (omega arith) (omega (arith, few)) (rw (z, ← t) p); within = omega (arith, few); special = rw (← g) u }
 

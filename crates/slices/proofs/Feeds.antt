@@ -1,15 +1,18 @@
--- Slices by the reading (02, A2).
---     feed-end, feed-three                whether a slice takes in a line feed, as the code tests it
---     from-plain, from-alone, from-feed, from-some   where the code begins to search for its end, and that this is in it
---     length-from                         its length, as the code finds it
---     slicesBy-first                      the first slice, and the slices of the rest
---     slicesBy-append                     two sources one after the other, where the second starts a slice with no line feed
---     joined-slicesBy                     the slices one after the other are the source
+-- Slices by the reading (02, A1 and A2).
+--     feed-end, feed-three           whether a slice takes in a line feed, as the code tests it
+--     from-alone, from-feed, from-some, from-plain, from-paragraphs   where the code begins to search for its end, and that this is in it
+--     length-from, length-standard   its length, as the code finds it
+--     slicesBy-first                 the first slice, and the slices of the rest
+--     joined-slicesBy                the slices one after the other are the source
+--     startsBy                       whether a byte starts a slice behind others, by the reading
+--     startsBy-before                in each reading one does that is special, no line feed, and not behind a backslash
+--     slicesBy-starts                two sources one after the other, where the second starts a slice with no line feed
+--     slicesBy-append                the same, by the byte before
 -- Assumes nothing.
 use mathlib.Core.Path.{_≡_, refl, sym, ap, _∙_}
 use mathlib.Core.List.{List, [], _∷_, _++_, append-assoc}
-use mathlib.Core.Bool.{Bool, true, false, cond, _&&_, and-false}
-use Prim.Native.Nat.{ℕ, zero, suc, _+_, _-_, _≤_, _<_}
+use mathlib.Core.Bool.{Bool, true, false, cond, not, _&&_, and-false}
+use Prim.Native.Nat.{ℕ, _+_, _-_, _≤_, _<_}
 use native.Mathlib.Nat.{not-suc-le-zero}
 use native.Mathlib.Omega.{arith}
 use borrow.Author.Tests.{eqb-true, ne-eqb}
@@ -17,10 +20,11 @@ use lib.ListN.{length, getD, take, drop, length-take, length-drop}
 use lib.Seq.{take-add, drop-drop, take-all}
 use lib.Dec.{eqb}
 use Rattle.readings.specs.declared.Reading.{Reading}
-use Rattle.readings.specs.declared.Reading.the-variants.{Plain, Paragraphs}
-use Rattle.slices.specs.Slices.{isReturn, startsWithFeed, takeFeed, withFeeds, slices, slicesBy, upTo, sliceLength, feedLength, lengthBy, startsSlice}
-use Rattle.slices.proofs.Ends.{slice-within}
-use Rattle.slices.proofs.Slices.{slices-first, slices-append, joined, joined-slices, lastByte}
+use Rattle.readings.specs.declared.Reading.the-variants.{Plain, Paragraphs, Standard}
+use Rattle.bytes.specs.Bytes.{isSpecial}
+use Rattle.slices.specs.Slices.{isReturn, startsWithFeed, takeFeed, withFeeds, slices, slicesBy, upTo, sliceLength, feedLength, lengthBy, startsSlice, anything, startsStandard, standardLength}
+use Rattle.slices.proofs.Slices.{slices-first, slices-append, slice-within, joined, joined-slices, lastByte}
+use Rattle.slices.proofs.Standard.{behindAll, starts-behind, standard-first, standard-append, joined-standard}
 
 -- ---- as the code tests it
 
@@ -126,6 +130,7 @@ pub slicesBy-first : (rd : Reading) (s : List ℕ) → 0 < length s → slicesBy
 unfolding lengthBy
 slicesBy-first Plain s h = slices-first s h
 slicesBy-first Paragraphs s h = feeds-first s h (sliceLength s) refl (drop (sliceLength s) s) refl
+slicesBy-first Standard s h = standard-first s h
 
 -- ---- the length of the first slice, as the code finds it
 
@@ -148,31 +153,44 @@ from-some (a ∷ b ∷ []) f x =
     omega arith
 from-some (a ∷ b ∷ c ∷ s) f x = omega arith
 
-module _ (s : List ℕ) {rd : Reading} where
-  pub from-plain : rd ≡ Plain → 0 + sliceLength (drop 0 s) ≡ lengthBy rd s
+module _ (s : List ℕ) {t : Bool} (f : t ≡ isReturn (take 2 s) && startsWithFeed (drop 2 s)) where
+  pub from-feed : t ≡ true → 2 + sliceLength (drop 2 s) ≡ lengthBy Paragraphs s
   unfolding lengthBy
-  from-plain e = rw e (omega arith)
+  from-feed x = rw (return-alone s (sym f ∙ x), ← f, x)
 
-  module _ (e : rd ≡ Paragraphs) {t : Bool} (f : t ≡ isReturn (take 2 s) && startsWithFeed (drop 2 s)) where
-    pub from-feed : t ≡ true → 2 + sliceLength (drop 2 s) ≡ lengthBy rd s
-    unfolding lengthBy
-    from-feed x = rw (e, return-alone s (sym f ∙ x), ← f, x)
+  pub from-alone : t ≡ false → 0 + sliceLength (drop 0 s) ≡ lengthBy Paragraphs s
+  unfolding lengthBy
+  from-alone x =
+      let g : false ≡ isReturn (take (sliceLength s) s) && startsWithFeed (drop (sliceLength s) s) = pick (eqb (sliceLength s) 2) refl in
+      rw (← g) (omega arith)
+    where
+      pick : (u : Bool) → eqb (sliceLength s) 2 ≡ u → false ≡ isReturn (take (sliceLength s) s) && startsWithFeed (drop (sliceLength s) s)
+      pick true u = rw (eqb-true (sliceLength s) 2 u) (sym x ∙ f)
+      pick false u = feed-none s (sliceLength s) (slice-within s) (λ (q : sliceLength s ≡ 2). let t : eqb (sliceLength s) 2 ≡ true = rw q in let z : _≡_ {A = ℕ} 0 1 = cc in omega arith)
 
-    pub from-alone : t ≡ false → 0 + sliceLength (drop 0 s) ≡ lengthBy rd s
-    unfolding lengthBy
-    from-alone x =
-        let g : false ≡ isReturn (take (sliceLength s) s) && startsWithFeed (drop (sliceLength s) s) = pick (eqb (sliceLength s) 2) refl in
-        rw (e, ← g) (omega arith)
-      where
-        pick : (u : Bool) → eqb (sliceLength s) 2 ≡ u → false ≡ isReturn (take (sliceLength s) s) && startsWithFeed (drop (sliceLength s) s)
-        pick true u = rw (eqb-true (sliceLength s) 2 u) (sym x ∙ f)
-        pick false u = feed-none s (sliceLength s) (slice-within s) (λ (q : sliceLength s ≡ 2). let t : eqb (sliceLength s) 2 ≡ true = rw q in let z : _≡_ {A = ℕ} 0 1 = cc in omega arith)
+-- the search begins at n
+pub record From (rd : Reading) (s : List ℕ) (n : ℕ) : Type 0 where
+  pub ends : n + sliceLength (drop n s) ≡ lengthBy rd s
+  pub within : n ≤ length s
+  pub some : 0 < length s → n < length s
 
--- the slice behind that place, as the code lends it
-pub length-from : (s : List ℕ) (rd : Reading) (n k : ℕ) → n + sliceLength (drop n s) ≡ lengthBy rd s → k ≡ sliceLength (take (length s - n) (drop n s)) → n + k ≡ lengthBy rd s
-length-from s rd n k e z =
-    let d : take (length s - n) (drop n s) ≡ drop n s = take-all (length s - n) (drop n s) (simp length-drop (omega arith)) in
-    rw (z, d) e
+module _ {rd : Reading} {s : List ℕ} {n : ℕ} where
+  pub from-plain : rd ≡ Plain → n ≡ 0 → From rd s n
+  unfolding lengthBy
+  from-plain e q = rw (e, q) (record { ends = omega arith; within = omega arith; some = λ h. h })
+
+  pub from-paragraphs : (k : ℕ) → rd ≡ Paragraphs → n ≡ k → k + sliceLength (drop k s) ≡ lengthBy Paragraphs s → k ≤ length s → (0 < length s → k < length s) → From rd s n
+  from-paragraphs k e q a b c = rw (e, q) (record { ends = a; within = b; some = c })
+
+  -- the slice behind that place, as the code lends it
+  pub length-from : From rd s n → (k : ℕ) → k ≡ sliceLength (take (length s - n) (drop n s)) → n + k ≡ lengthBy rd s
+  length-from f k z =
+      let d : take (length s - n) (drop n s) ≡ drop n s = take-all (length s - n) (drop n s) (simp length-drop (omega arith)) in
+      rw (z, d) (f .ends)
+
+pub length-standard : {rd : Reading} (s : List ℕ) {k : ℕ} → rd ≡ Standard → k ≡ standardLength s → k ≡ lengthBy rd s
+unfolding lengthBy
+length-standard s e q = rw (e, q)
 
 -- ---- all slices
 
@@ -193,6 +211,7 @@ joined-feeds (s ∷ ss) = joined-take s (withFeeds ss) ∙ ap (λ (l : List ℕ)
 pub joined-slicesBy : (rd : Reading) (s : List ℕ) → joined (slicesBy rd s) ≡ s
 joined-slicesBy Plain s = joined-slices s
 joined-slicesBy Paragraphs s = joined-feeds (slices s) ∙ joined-slices s
+joined-slicesBy Standard s = joined-standard s
 
 -- two lists of slices one after the other, of which the second starts with a byte that is no line feed
 take-append : (s : List ℕ) (ts us : List (List ℕ)) → 0 < length ts → takeFeed s (ts ++ us) ≡ takeFeed s ts ++ us
@@ -227,15 +246,35 @@ module _ (c : ℕ) (t : List ℕ) (ts : List (List ℕ)) (n : c ≡ 10 → ⊥) 
       ap (takeFeed x) (feeds-append (y ∷ xs))
       ∙ take-append x (withFeeds (y ∷ xs)) (withFeeds ((c ∷ t) ∷ ts)) (feeds-some y xs)
 
+-- whether a slice starts at c, behind x; by paragraphs, unless c is a line feed that is taken in
+abbrev pub startsBy : Reading → List ℕ → ℕ → Bool
+startsBy Plain x c = startsSlice (lastByte 32 x) c
+startsBy Paragraphs x c = startsSlice (lastByte 32 x) c
+startsBy Standard x c = startsStandard (behindAll anything x) c
+
+pub startsBy-before : (rd : Reading) (x : List ℕ) (c : ℕ) → (c ≡ 10 → ⊥) → startsSlice (lastByte 32 x) c ≡ true → startsBy rd x c ≡ true
+startsBy-before Plain x c n h = h
+startsBy-before Paragraphs x c n h = h
+startsBy-before Standard x c n h =
+    let u : not (eqb (lastByte 32 x) 92) ≡ true = and-second (isSpecial c) (not (eqb (lastByte 32 x) 92)) h in
+    starts-behind c (and-first (isSpecial c) (not (eqb (lastByte 32 x) 92)) h) n x
+    (λ (q : lastByte 32 x ≡ 92). let t : eqb (lastByte 32 x) 92 ≡ true = rw q in let v : false ≡ true = rw t at u in let z : _≡_ {A = ℕ} 0 1 = cc in omega arith)
+
 -- "a new slice" starts at c, behind x; c is no line feed that could be taken in
-pub slicesBy-append : (rd : Reading) (c : ℕ) (y x : List ℕ) → (c ≡ 10 → ⊥) → startsSlice (lastByte 32 x) c ≡ true
+pub slicesBy-starts : (rd : Reading) (c : ℕ) (y x : List ℕ) → (c ≡ 10 → ⊥) → startsBy rd x c ≡ true
     → slicesBy rd (x ++ (c ∷ y)) ≡ slicesBy rd x ++ slicesBy rd (c ∷ y)
 unfolding sliceLength
-slicesBy-append Plain c y x n h = slices-append c y x h
-slicesBy-append Paragraphs c y x n h =
+slicesBy-starts Plain c y x n h = slices-append c y x h
+slicesBy-starts Paragraphs c y x n h =
     let m : ℕ = sliceLength (c ∷ y) in
     let f : slices (c ∷ y) ≡ take m (c ∷ y) ∷ slices (drop m (c ∷ y)) = slices-first (c ∷ y) (omega arith) in
     ap withFeeds (slices-append c y x h)
     ∙ ap (λ (l : List (List ℕ)). withFeeds (slices x ++ l)) f
     ∙ feeds-append c (drop 1 (take m (c ∷ y))) (slices (drop m (c ∷ y))) n (slices x)
     ∙ ap (λ (l : List (List ℕ)). withFeeds (slices x) ++ withFeeds l) (sym f)
+slicesBy-starts Standard c y x n h = standard-append c y x h
+
+-- the same by the byte before c alone, which is enough in each reading
+pub slicesBy-append : (rd : Reading) (c : ℕ) (y x : List ℕ) → (c ≡ 10 → ⊥) → startsSlice (lastByte 32 x) c ≡ true
+    → slicesBy rd (x ++ (c ∷ y)) ≡ slicesBy rd x ++ slicesBy rd (c ∷ y)
+slicesBy-append rd c y x n h = slicesBy-starts rd c y x n (startsBy-before rd x c n h)

@@ -1,7 +1,9 @@
--- Marks of special bytes, for the search: where the first one stands, and what it means that there is none.
+-- Marks of the bytes that pass a test, for the search: where the first one stands, and what it means that there is none.
 --     first-right   the zeros below the lowest mark
---     unmarked      no mark, no special byte
---     lead-plain, lead-special   what stands before the first special byte, and what it is
+--     unmarked      no mark, no such byte
+--     some-marked   a mark, and such a byte
+--     lead-outside, lead-marked   what stands before the first such byte, and that it passes
+--     lead-all      none passes: all bytes
 -- Assumes nothing.
 use mathlib.Core.Path.{_≡_, refl, ap, _∙_}
 use mathlib.Core.List.{List, [], _∷_}
@@ -12,8 +14,8 @@ use native.Mathlib.Omega.{arith}
 use lib.Bits.{shifted-half, shifted-even}
 use lib.Count.{trailingZeros, under}
 use lib.ListN.{length, getD, take}
-use Rattle.bytes.specs.Bytes.{isSpecial, lead, any}
-use Rattle.slices.specs.Eights.{packed, marked, isPlain}
+use Rattle.bytes.specs.Bytes.{lead, any}
+use Rattle.slices.specs.Eights.{packed, marked, outside}
 use Rattle.slices.proofs.Packed.{at-eight}
 
 -- i more, one by one
@@ -40,61 +42,71 @@ abbrev places : List ℕ → ℕ
 places [] = zero
 places (b ∷ s) = up 8 (places s)
 
-tz-marked : (s : List ℕ) → trailingZeros (places s) (packed (marked s)) / 8 ≡ lead isPlain s
-unfolding packed marked lead trailingZeros
-tz-marked [] = refl
-tz-marked (b ∷ s) = go (isSpecial b) (tz-marked s)
-  where
-    go : (t : Bool) → trailingZeros (places s) (packed (marked s)) / 8 ≡ lead isPlain s
-        → trailingZeros (up 8 (places s)) (packed (marked s) * 256 + cond t 128 zero) / 8 ≡ cond (not t) (suc (lead isPlain s)) zero
-    go true ih =
-        let z : packed (marked s) * 256 + 128 ≡ (packed (marked s) * 2 + 1) * 2 ^ 7 = omega arith in
-        let l : trailingZeros (up 8 (places s)) (packed (marked s) * 256 + 128) ≡ 7 = ap (trailingZeros (up 8 (places s))) z ∙ tz-shift 7 (suc (places s)) (packed (marked s) * 2 + 1) ∙ ap (up 7) (tz-odd (places s) (packed (marked s))) in
-        ap (λ (m : ℕ). m / 8) l
-    go false ih =
-        let z : packed (marked s) * 256 + 0 ≡ packed (marked s) * 2 ^ 8 = omega arith in
-        let l : trailingZeros (up 8 (places s)) (packed (marked s) * 256 + 0) ≡ up 8 (trailingZeros (places s) (packed (marked s))) = ap (trailingZeros (up 8 (places s))) z ∙ tz-shift 8 (places s) (packed (marked s)) in
-        omega (arith, l, ih)
+module _ (f : ℕ → Bool) where
+  tz-marked : (s : List ℕ) → trailingZeros (places s) (packed (marked f s)) / 8 ≡ lead (outside f) s
+  unfolding packed marked lead trailingZeros
+  tz-marked [] = refl
+  tz-marked (b ∷ s) = go (f b) (tz-marked s)
+    where
+      go : (t : Bool) → trailingZeros (places s) (packed (marked f s)) / 8 ≡ lead (outside f) s
+          → trailingZeros (up 8 (places s)) (packed (marked f s) * 256 + cond t 128 zero) / 8 ≡ cond (not t) (suc (lead (outside f) s)) zero
+      go true ih =
+          let z : packed (marked f s) * 256 + 128 ≡ (packed (marked f s) * 2 + 1) * 2 ^ 7 = omega arith in
+          let l : trailingZeros (up 8 (places s)) (packed (marked f s) * 256 + 128) ≡ 7 = ap (trailingZeros (up 8 (places s))) z ∙ tz-shift 7 (suc (places s)) (packed (marked f s) * 2 + 1) ∙ ap (up 7) (tz-odd (places s) (packed (marked f s))) in
+          ap (λ (m : ℕ). m / 8) l
+      go false ih =
+          let z : packed (marked f s) * 256 + 0 ≡ packed (marked f s) * 2 ^ 8 = omega arith in
+          let l : trailingZeros (up 8 (places s)) (packed (marked f s) * 256 + 0) ≡ up 8 (trailingZeros (places s) (packed (marked f s))) = ap (trailingZeros (up 8 (places s))) z ∙ tz-shift 8 (places s) (packed (marked f s)) in
+          omega (arith, l, ih)
 
-pub first-right : (s : List ℕ) → length s ≡ 8 → (m : ℕ) → m ≡ packed (marked s) → trailingZeros 64 m / 8 ≡ lead isPlain s
-first-right s n m q =
-    ap (λ (k : ℕ). trailingZeros 64 k / 8) q
-    ∙ ap (λ (d : ℕ). trailingZeros d (packed (marked s)) / 8) (at-eight (λ (l : List ℕ). 64 ≡ places l) (λ a b c d e f g h. refl) s n)
-    ∙ tz-marked s
+  pub first-right : (s : List ℕ) → length s ≡ 8 → (m : ℕ) → m ≡ packed (marked f s) → trailingZeros 64 m / 8 ≡ lead (outside f) s
+  first-right s n m q =
+      ap (λ (k : ℕ). trailingZeros 64 k / 8) q
+      ∙ ap (λ (d : ℕ). trailingZeros d (packed (marked f s)) / 8) (at-eight (λ (l : List ℕ). 64 ≡ places l) (λ a b c d e g h i. refl) s n)
+      ∙ tz-marked s
 
-pub unmarked : (s : List ℕ) → packed (marked s) ≡ 0 → any isSpecial s ≡ false
-unfolding packed marked any
-unmarked [] q = refl
-unmarked (b ∷ s) q = go (isSpecial b) q (unmarked s)
-  where
-    go : (t : Bool) → packed (marked s) * 256 + cond t 128 zero ≡ 0 → (packed (marked s) ≡ 0 → any isSpecial s ≡ false) → t || any isSpecial s ≡ false
-    go true e ih = absurd (omega arith)
-    go false e ih = ih (omega arith)
+  pub unmarked : (s : List ℕ) → packed (marked f s) ≡ 0 → any f s ≡ false
+  unfolding packed marked any
+  unmarked [] q = refl
+  unmarked (b ∷ s) q = go (f b) q (unmarked s)
+    where
+      go : (t : Bool) → packed (marked f s) * 256 + cond t 128 zero ≡ 0 → (packed (marked f s) ≡ 0 → any f s ≡ false) → t || any f s ≡ false
+      go true e ih = absurd (omega arith)
+      go false e ih = ih (omega arith)
 
-pub some-marked : (s : List ℕ) → (packed (marked s) ≡ 0 → ⊥) → lead isPlain s < length s
-unfolding packed marked lead
-some-marked [] q = absurd (q refl)
-some-marked (b ∷ s) q = go (isSpecial b) q (some-marked s)
-  where
-    go : (t : Bool) → (packed (marked s) * 256 + cond t 128 zero ≡ 0 → ⊥) → ((packed (marked s) ≡ 0 → ⊥) → lead isPlain s < length s) → cond (not t) (suc (lead isPlain s)) zero < suc (length s)
-    go true e ih = omega arith
-    go false e ih = let l = ih (λ z. e (omega (arith, z))) in omega (arith, l)
+  pub some-marked : (s : List ℕ) → (packed (marked f s) ≡ 0 → ⊥) → lead (outside f) s < length s
+  unfolding packed marked lead
+  some-marked [] q = absurd (q refl)
+  some-marked (b ∷ s) q = go (f b) q (some-marked s)
+    where
+      go : (t : Bool) → (packed (marked f s) * 256 + cond t 128 zero ≡ 0 → ⊥) → ((packed (marked f s) ≡ 0 → ⊥) → lead (outside f) s < length s) → cond (not t) (suc (lead (outside f) s)) zero < suc (length s)
+      go true e ih = omega arith
+      go false e ih = let l = ih (λ z. e (omega (arith, z))) in omega (arith, l)
 
-pub lead-plain : (s : List ℕ) → any isSpecial (take (lead isPlain s) s) ≡ false
-unfolding any lead
-lead-plain [] = refl
-lead-plain (b ∷ s) = go (isSpecial b) refl (lead-plain s)
-  where
-    go : (t : Bool) → isSpecial b ≡ t → any isSpecial (take (lead isPlain s) s) ≡ false → any isSpecial (take (cond (not t) (suc (lead isPlain s)) zero) (b ∷ s)) ≡ false
-    go true q ih = refl
-    go false q ih = rw q ih
+  pub lead-outside : (s : List ℕ) → any f (take (lead (outside f) s) s) ≡ false
+  unfolding any lead
+  lead-outside [] = refl
+  lead-outside (b ∷ s) = go (f b) refl (lead-outside s)
+    where
+      go : (t : Bool) → f b ≡ t → any f (take (lead (outside f) s) s) ≡ false → any f (take (cond (not t) (suc (lead (outside f) s)) zero) (b ∷ s)) ≡ false
+      go true q ih = refl
+      go false q ih = rw q ih
 
-pub lead-special : (s : List ℕ) → lead isPlain s < length s → isSpecial (getD s (lead isPlain s) 0) ≡ true
-unfolding lead
-lead-special [] h = absurd (not-suc-le-zero h)
-lead-special (b ∷ s) h = go (isSpecial b) refl h (lead-special s)
-  where
-    go : (t : Bool) → isSpecial b ≡ t → cond (not t) (suc (lead isPlain s)) zero < suc (length s) → (lead isPlain s < length s → isSpecial (getD s (lead isPlain s) 0) ≡ true)
-        → isSpecial (getD (b ∷ s) (cond (not t) (suc (lead isPlain s)) zero) 0) ≡ true
-    go true q l ih = q
-    go false q l ih = ih (le-of-suc-le-suc l)
+  pub lead-marked : (s : List ℕ) → lead (outside f) s < length s → f (getD s (lead (outside f) s) 0) ≡ true
+  unfolding lead
+  lead-marked [] h = absurd (not-suc-le-zero h)
+  lead-marked (b ∷ s) h = go (f b) refl h (lead-marked s)
+    where
+      go : (t : Bool) → f b ≡ t → cond (not t) (suc (lead (outside f) s)) zero < suc (length s) → (lead (outside f) s < length s → f (getD s (lead (outside f) s) 0) ≡ true)
+          → f (getD (b ∷ s) (cond (not t) (suc (lead (outside f) s)) zero) 0) ≡ true
+      go true q l ih = q
+      go false q l ih = ih (le-of-suc-le-suc l)
+
+  pub lead-all : (s : List ℕ) → any f s ≡ false → lead (outside f) s ≡ length s
+  unfolding any lead
+  lead-all [] e = refl
+  lead-all (b ∷ s) e = go (f b) e (lead-all s)
+    where
+      go : (t : Bool) → t || any f s ≡ false → (any f s ≡ false → lead (outside f) s ≡ length s) → cond (not t) (suc (lead (outside f) s)) zero ≡ suc (length s)
+      go true q ih = cc
+      go false q ih = ap suc (ih q)

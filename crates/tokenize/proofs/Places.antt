@@ -1,16 +1,14 @@
 -- What a slice shows stands in it, so that a token's place and length can be read back from the source.
---     at-after, at-before           bytes that stand in a list stand in it behind a front, and in front of a rest
---     stands-after, stands-before   the same of what a token shows
---     tokens-stand                  what the tokens of a slice show stands in the slice; numbers fit their words
+--     tokens-stand   what the tokens of a slice show stands in the slice; numbers fit their words
+-- Passes on the notions of it, which both rule sets share.
 -- Assumes nothing.
 use mathlib.Core.Path.{_≡_, refl}
 use mathlib.Core.List.{List, [], _∷_, _++_, append-assoc}
 use mathlib.Core.Bool.{Bool, true, false, cond}
-use Prim.Native.Nat.{ℕ, _+_, _≤_, _<_}
+use Prim.Native.Nat.{ℕ, _+_, _<_}
 use native.Mathlib.Omega.{arith}
-use borrow.Author.Tests.{eqb-true, ltb-true}
-use lib.ListN.{length, take, drop, length-append, length-take, length-drop, take-append-drop}
-use lib.Seq.{take-length, take-append-seam, drop-append-seam, take-append-le, drop-append-le, drop-append-add}
+use borrow.Author.Tests.{eqb-true}
+use lib.ListN.{length, take, drop, length-take, length-drop, take-append-drop}
 use lib.Dec.{eqb, ltb}
 use Rattle.bytes.specs.declared.Class.the-variants.{White, WordEnd, InWord, Space, Numeral}
 use Rattle.bytes.specs.Bytes.{isLetter, inClass, lead, body}
@@ -18,77 +16,14 @@ use Rattle.numbers.specs.declared.Number.{Number}
 use Rattle.numbers.specs.declared.Number.the-variants.{Is, Bad}
 use Rattle.numbers.specs.Numbers.{hexPair, decimal}
 use Rattle.numbers.proofs.Numbers.{hex-pair-small, decimal-small}
-use Rattle.names.specs.Names.{wordNumber}
 use Rattle.rooms.specs.Streams.{andThen}
 use Rattle.rooms.proofs.Streams.{Each, Each-then, Each-weaken, Each-either}
-use Rattle.tokens.specs.declared.Property.{Property}
-use Rattle.tokens.specs.declared.Property.the-variants.{None, Value}
-use Rattle.tokens.specs.Tokens.{Shown, valueOf}
-use Rattle.tokens.specs.Tokens
+use Rattle.tokens.specs.declared.Property.the-variants.{None}
 use Rattle.readings.specs.declared.Reading.{Reading}
-use Rattle.readings.specs.declared.Reading.the-variants.{Plain, Paragraphs}
-use Rattle.tokenize.specs.Tokenize.{isMark, isEscape, mark, plain, hexValue, hexEscape, lineBreakAnd, shownWord, numbered, named, bareLength, wordTail, word, other, behindFeed, otherBy, escaped, tokens}
-
--- the bytes bs stand at source place q, where s stands at p
-pub record At (s : List ℕ) (p q : ℕ) (bs : List ℕ) : Type 0 where
-  pub from : ℕ
-  pub place : q ≡ p + from
-  pub fits : from + length bs ≤ length s
-  pub same : take (length bs) (drop from s) ≡ bs
-
-pub at-after : (x : List ℕ) {s : List ℕ} {p q : ℕ} {bs : List ℕ} → At s (p + length x) q bs → At (x ++ s) p q bs
-at-after x {s} {p} {q} {bs} a = record {
-  from = length x + a .from;
-  place = omega arith;
-  fits = rw length-append (omega arith);
-  same = rw drop-append-add (a .same);
-}
-
-pub at-before : (y : List ℕ) {s : List ℕ} {p q : ℕ} {bs : List ℕ} → At s p q bs → At (s ++ y) p q bs
-at-before y {s} {p} {q} {bs} a = record {
-  from = a .from;
-  place = a .place;
-  fits = rw length-append (omega arith);
-  same =
-      rw (drop-append-le (a .from) s y (omega arith), take-append-le (length bs) (drop (a .from) s) y (rw length-drop (omega arith))) (a .same);
-}
-
--- all from a place on, and all up to a place
-at-back : (x s : List ℕ) (p q : ℕ) → q ≡ p + length x → At (x ++ s) p q s
-at-back x s p q e = record { from = length x; place = e; fits = rw length-append (omega arith); same = rw drop-append-seam (take-length s) }
-
-at-front : (x y : List ℕ) (p : ℕ) → At (x ++ y) p p x
-at-front x y p = record { from = 0; place = omega arith; fits = rw length-append (omega arith); same = take-append-seam x y }
-
--- "that number modulo 2^32"
-abbrev pub Small : Property → Type 0
-Small num = valueOf num < 4294967296
-
--- what a token shows stands in s, which stands at p: the bytes of a text, of an unknown word; numbers fit their words
-abbrev pub Stands : List ℕ → ℕ → Shown → Type 0
-Stands s p (Shown.text q bs) = At s p q bs
-Stands s p Shown.opening = Unit {0}
-Stands s p Shown.closing = Unit {0}
-Stands s p Shown.lineBreak = Unit {0}
-Stands s p Shown.ignorable = Unit {0}
-Stands s p (Shown.word w num) = (w < 49) × Small num
-Stands s p (Shown.unknown q bs num) = At s p q bs × Small num
-
--- where bytes are moved, what shows them is
-stands-moved : {s s′ : List ℕ} {p p′ : ℕ} → ((q : ℕ) (bs : List ℕ) → At s p q bs → At s′ p′ q bs) → (t : Shown) → Stands s p t → Stands s′ p′ t
-stands-moved f (Shown.text q bs) h = f q bs h
-stands-moved f Shown.opening h = tt
-stands-moved f Shown.closing h = tt
-stands-moved f Shown.lineBreak h = tt
-stands-moved f Shown.ignorable h = tt
-stands-moved f (Shown.word w num) h = h
-stands-moved f (Shown.unknown q bs num) h = (f q bs (h .0), h .1)
-
-pub stands-after : (x s : List ℕ) (p : ℕ) (t : Shown) → Stands s (p + length x) t → Stands (x ++ s) p t
-stands-after x s p = stands-moved (λ q bs. at-after x)
-
-pub stands-before : (y s : List ℕ) (p : ℕ) (t : Shown) → Stands s p t → Stands (s ++ y) p t
-stands-before y s p = stands-moved (λ q bs. at-before y)
+use Rattle.readings.specs.declared.Reading.the-variants.{Plain, Paragraphs, Standard}
+pub use Rattle.controls.proofs.Places.{At, at-after, at-before, Small, Stands, stands-after, stands-before}
+use Rattle.controls.proofs.Places.{at-back, shown-stands, numbered-stands}
+use Rattle.tokenize.specs.Tokenize.{isMark, isEscape, mark, plain, hexValue, hexEscape, lineBreakAnd, named, bareLength, wordTail, word, other, behindFeed, returned, otherBy, escaped, tokens}
 
 mark-stands : (b : ℕ) (s : List ℕ) (p : ℕ) → Each (Stands s p) (mark b)
 unfolding mark
@@ -110,27 +45,13 @@ module _ (p : ℕ) where
       go (Is v) e = ((omega arith, omega (arith, hex-pair-small c d v e)), plain-stands (92 ∷ b ∷ c ∷ d ∷ []) s (p + 4) (omega arith))
       go Bad e = tt
 
-  -- a word's name is the front of what stands behind the backslash
-  shown-stands : (x y : List ℕ) (num : Property) → Small num → Stands (92 ∷ (x ++ y)) p (shownWord p x num)
-  unfolding shownWord
-  shown-stands x y num h = go (ltb (wordNumber x) 49) refl
-    where
-      go : (t : Bool) → ltb (wordNumber x) 49 ≡ t → Stands (92 ∷ (x ++ y)) p (cond t (Shown.word (wordNumber x) num) (Shown.unknown p (92 ∷ x) num))
-      go true e = (ltb-true (wordNumber x) 49 e, h)
-      go false e = (at-front (92 ∷ x) y p, h)
-
-  numbered-stands : (x y : List ℕ) (n : Number) → ((v : ℕ) → n ≡ Is v → v < 4294967296) → Each (Stands (92 ∷ (x ++ y)) p) (numbered p x n)
-  unfolding numbered
-  numbered-stands x y (Is v) h = (shown-stands x y (Value v) (h v refl), tt)
-  numbered-stands x y Bad h = tt
-
   named-stands : (w y : List ℕ) → Each (Stands (92 ∷ (w ++ y)) p) (named p w)
   unfolding named
   named-stands w y =
       let k = body (inClass Numeral) w in
       let e : take k w ++ (drop k w ++ y) ≡ w ++ y = rw (← append-assoc, take-append-drop) in
-      Each-either (Stands (92 ∷ (w ++ y)) p) (eqb k (length w)) _ _ (shown-stands w y None (omega arith), tt)
-      (rw e at (numbered-stands (take k w) (drop k w ++ y) (decimal (drop k w)) (decimal-small (drop k w))))
+      Each-either (Stands (92 ∷ (w ++ y)) p) (eqb k (length w)) _ _ (shown-stands p w y None (omega arith), tt)
+      (rw e at (numbered-stands p (take k w) (drop k w ++ y) (decimal (drop k w)) (decimal-small (drop k w))))
 
   tail-stands : (x s : List ℕ) (q : ℕ) → (0 < length s → q ≡ p + length x) → Each (Stands (x ++ s) p) (wordTail q s)
   unfolding wordTail
@@ -158,11 +79,15 @@ module _ (p : ℕ) where
       Each-either (Stands (92 ∷ b ∷ c ∷ s) p) (eqb c 10) _ _ (plain-stands (92 ∷ b ∷ c ∷ []) s (p + 2 + 1) (omega arith))
       (plain-stands (92 ∷ b ∷ []) (c ∷ s) (p + 2) (omega arith))
 
+  returned-stands : (s : List ℕ) → Each (Stands (92 ∷ s) p) (returned p s)
+  returned-stands [] = other-stands []
+  returned-stands (b ∷ s) = Each-either (Stands (92 ∷ b ∷ s) p) (eqb b 13) _ _ (tt, feed-stands b s) (other-stands (b ∷ s))
+
   otherBy-stands : (rd : Reading) (s : List ℕ) → Each (Stands (92 ∷ s) p) (otherBy rd p s)
   unfolding otherBy
   otherBy-stands Plain s = other-stands s
-  otherBy-stands Paragraphs [] = other-stands []
-  otherBy-stands Paragraphs (b ∷ s) = Each-either (Stands (92 ∷ b ∷ s) p) (eqb b 13) _ _ (tt, feed-stands b s) (other-stands (b ∷ s))
+  otherBy-stands Paragraphs s = returned-stands s
+  otherBy-stands Standard s = returned-stands s
 
   escaped-stands : (rd : Reading) (s : List ℕ) → Each (Stands (92 ∷ s) p) (escaped rd p s)
   unfolding escaped lineBreakAnd

@@ -3,28 +3,26 @@
 use mathlib.Core.Path.{_≡_, refl, sym, ap, _∙_}
 use mathlib.Core.List.{List, [], _∷_}
 use mathlib.Core.Bool.{Bool, true, false, cond}
-use Prim.Native.Nat.{ℕ, suc, _+_, _-_, _≤_, _<_}
+use Prim.Native.Nat.{ℕ, _+_, _-_, _≤_, _<_}
 use native.Mathlib.Omega.{arith}
 use borrow.Author.Tests.{eq-eqb, ne-eqb, lt-ltb, le-ltb}
 use lib.ListN.{length, getD, take, drop, length-take, length-drop}
 use lib.Seq.{take-all}
 use lib.Dec.{eqb}
-use Rattle.answers.specs.declared.Why.the-variants.{HexShort, HexBad, NumberBad}
+use Rattle.answers.specs.declared.Why.the-variants.{HexShort, HexBad}
 use Rattle.bytes.specs.declared.Class.the-variants.{White, WordEnd, InWord, Space, Numeral}
 use Rattle.bytes.specs.Bytes.{isLetter, inClass, lead, body}
 use Rattle.numbers.specs.declared.Number.{Number}
 use Rattle.numbers.specs.declared.Number.the-variants.{Is, Bad}
 use Rattle.numbers.specs.Numbers.{hexPair, decimal}
-use Rattle.names.specs.Names.{wordNumber}
 use Rattle.readings.specs.declared.Reading.{Reading}
-use Rattle.readings.specs.declared.Reading.the-variants.{Plain, Paragraphs}
+use Rattle.readings.specs.declared.Reading.the-variants.{Plain, Paragraphs, Standard}
 use Rattle.rooms.specs.Streams.{Stream, end, stop, _▸_, andThen}
-use Rattle.tokens.specs.declared.Property.{Property}
 use Rattle.tokens.specs.declared.Property.the-variants.{None, Value}
-use Rattle.tokens.specs.declared.Record.{Record}
-use Rattle.tokens.specs.Tokens.{Shown, wordRecord, unknownRecord, recordOf}
+use Rattle.tokens.specs.Tokens.{Shown}
 use Rattle.tokens.specs.Tokens
-use Rattle.tokenize.specs.Tokenize.{isMark, isEscape, mark, plain, hexValue, hexEscape, lineBreakAnd, shownWord, numbered, named, bareLength, wordTail, word, other, behindFeed, otherBy, escaped, tokens}
+use Rattle.controls.specs.Controls.{shownWord, numbered}
+use Rattle.tokenize.specs.Tokenize.{isMark, isEscape, mark, plain, hexValue, hexEscape, lineBreakAnd, named, bareLength, wordTail, word, other, behindFeed, returned, otherBy, escaped, tokens}
 use Rattle.answers.specs.declared.Why.{Why}
 
 -- the bytes from a place on, as the code has them
@@ -85,35 +83,15 @@ module _ (w : List ℕ) where
   unfolding bareLength
   bare-other f = rw (ne-eqb (getD w (length w - 1) 0) 59 f)
 
--- a word's record
-module _ (p : ℕ) (name : List ℕ) (num : Property) (w : ℕ) (q : w ≡ wordNumber name) (r : Record) where
-  pub record-known : w < 49 → r ≡ wordRecord w num → r ≡ recordOf (shownWord p name num)
-  unfolding recordOf shownWord
-  record-known h e = rw (← q, lt-ltb w 49 h) e
-
-  pub record-unknown : 49 ≤ w → r ≡ unknownRecord p (1 + length name) num → r ≡ recordOf (shownWord p name num)
-  unfolding recordOf shownWord
-  record-unknown h e =
-      let one : 1 + length name ≡ suc (length name) = omega arith in
-      rw (← q, le-ltb w 49 h) (rw one at e)
-
+-- a word, without a number and with one
 module _ (p : ℕ) (w : List ℕ) (k : ℕ) (q : k ≡ body (inClass Numeral) w) where
   pub named-bare : k ≡ length w → named p w ≡ shownWord p w None ▸ end
   unfolding named
   named-bare e = rw (eq-eqb (body (inClass Numeral) w) (length w) (sym q ∙ e))
 
-  module _ (f : k ≡ length w → ⊥) (r : Number) (e : r ≡ decimal (part k w)) where
-    named-at : named p w ≡ numbered p (take k w) r
-    unfolding named
-    named-at = rw (← q, ne-eqb k (length w) f, e, part-drop k w)
-
-    pub named-bad : r ≡ Bad → named p w ≡ stop NumberBad
-    unfolding numbered
-    named-bad b = named-at ∙ ap (numbered p (take k w)) b
-
-    pub named-is : (v : ℕ) → r ≡ Is v → named p w ≡ shownWord p (take k w) (Value v) ▸ end
-    unfolding numbered
-    named-is v b = named-at ∙ ap (numbered p (take k w)) b
+  pub named-numbered : (k ≡ length w → ⊥) → named p w ≡ numbered p (take k w) (decimal (part k w))
+  unfolding named
+  named-numbered f = rw (← q, ne-eqb k (length w) f, part-drop k w)
 
 module _ (p : ℕ) (s : List ℕ) (k e : ℕ) (q : k ≡ lead (inClass InWord) s) (z : e ≡ bareLength (take k s)) where
   pub word-parts : word p s ≡ andThen (named p (take e s)) (wordTail (p + 1 + (k + 1)) (part (k + 1) s))
@@ -250,22 +228,24 @@ module _ {rd : Reading} (p : ℕ) (s : List ℕ) where
   unfolding otherBy
   other-plain e = rw e
 
-  pub other-by : rd ≡ Paragraphs → {x : Stream Why Shown} → otherBy Paragraphs p s ≡ x → otherBy rd p s ≡ x
-  other-by e f = rw e f
+  pub other-paragraphs : rd ≡ Paragraphs → otherBy rd p s ≡ returned p s
+  unfolding otherBy
+  other-paragraphs e = rw e
 
-pub return-none : (p : ℕ) (s : List ℕ) → length s ≡ 0 → otherBy Paragraphs p s ≡ other p s
-unfolding otherBy
+  pub other-standard : rd ≡ Standard → otherBy rd p s ≡ returned p s
+  unfolding otherBy
+  other-standard e = rw e
+
+pub return-none : (p : ℕ) (s : List ℕ) → length s ≡ 0 → returned p s ≡ other p s
 return-none p [] h = refl
 return-none p (b ∷ s) h = absurd (omega arith)
 
-pub return-other : (p : ℕ) (s : List ℕ) → (length s ≡ 0 → ⊥) → (getD s 0 0 ≡ 13 → ⊥) → otherBy Paragraphs p s ≡ other p s
-unfolding otherBy
+pub return-other : (p : ℕ) (s : List ℕ) → (length s ≡ 0 → ⊥) → (getD s 0 0 ≡ 13 → ⊥) → returned p s ≡ other p s
 return-other p [] h f = refl
 return-other p (b ∷ s) h f = rw (ne-eqb b 13 f)
 
 -- a carriage return, and what is behind it
-pub return-break : (p : ℕ) (s : List ℕ) → (length s ≡ 0 → ⊥) → getD s 0 0 ≡ 13 → otherBy Paragraphs p s ≡ Shown.lineBreak ▸ behindFeed (p + 2) (part 1 s)
-unfolding otherBy
+pub return-break : (p : ℕ) (s : List ℕ) → (length s ≡ 0 → ⊥) → getD s 0 0 ≡ 13 → returned p s ≡ Shown.lineBreak ▸ behindFeed (p + 2) (part 1 s)
 return-break p [] h e = absurd (h refl)
 return-break p (b ∷ s) h e = rw (eq-eqb b 13 e, part-drop 1 (b ∷ s))
 

@@ -18,8 +18,9 @@ use Rattle.rooms.specs.Rooms.{Wrote}
 use Rattle.rooms.proofs.Streams.{count-then, ended-count, name-apart}
 use Rattle.tokens.specs.Tokens.{Shown, shownLayout}
 use Rattle.readings.specs.declared.Reading.{Reading}
-use Rattle.readings.specs.declared.Reading.the-variants.{Plain, Paragraphs}
-use Rattle.tokenize.specs.Tokenize.{isMark, isEscape, mark, plain, hexValue, hexEscape, lineBreakAnd, numbered, named, bareLength, wordTail, word, other, behindFeed, otherBy, escaped, tokens}
+use Rattle.readings.specs.declared.Reading.the-variants.{Plain, Paragraphs, Standard}
+use Rattle.controls.proofs.Words.{count-numbered}
+use Rattle.tokenize.specs.Tokenize.{isMark, isEscape, mark, plain, hexValue, hexEscape, lineBreakAnd, named, bareLength, wordTail, word, other, behindFeed, returned, otherBy, escaped, tokens}
 use Rattle.answers.specs.declared.Why.{Why}
 
 -- a bound on both is a bound on a choice
@@ -50,11 +51,6 @@ count-break : (p : ℕ) (s : List ℕ) → count (lineBreakAnd p s) ≤ 2
 unfolding lineBreakAnd count
 count-break p s = omega (arith, count-plain (p + 2) s)
 
-count-numbered : (p : ℕ) (name : List ℕ) (v : Number) → count (numbered p name v) ≤ 1
-unfolding numbered count
-count-numbered p name (Is v) = omega arith
-count-numbered p name Bad = omega arith
-
 count-named : (p : ℕ) (w : List ℕ) → count (named p w) ≤ 1
 unfolding named count
 count-named p w =
@@ -82,11 +78,16 @@ count-feed : (p : ℕ) (s : List ℕ) → count (behindFeed p s) ≤ 1
 count-feed p [] = count-plain p []
 count-feed p (b ∷ s) = either (eqb b 10) _ _ 1 (count-plain (p + 1) s) (count-plain p (b ∷ s))
 
+count-returned : (p : ℕ) (s : List ℕ) → count (returned p s) ≤ length s + 1
+unfolding count
+count-returned p [] = omega (arith, count-other p [])
+count-returned p (b ∷ s) = either (eqb b 13) _ _ _ (omega (arith, count-feed (p + 2) s)) (omega (arith, count-other p (b ∷ s)))
+
 count-otherBy : (rd : Reading) (p : ℕ) (s : List ℕ) → count (otherBy rd p s) ≤ length s + 1
-unfolding otherBy count
+unfolding otherBy
 count-otherBy Plain p s = omega (arith, count-other p s)
-count-otherBy Paragraphs p [] = omega (arith, count-other p [])
-count-otherBy Paragraphs p (b ∷ s) = either (eqb b 13) _ _ _ (omega (arith, count-feed (p + 2) s)) (omega (arith, count-other p (b ∷ s)))
+count-otherBy Paragraphs p s = count-returned p s
+count-otherBy Standard p s = count-returned p s
 
 count-escaped : (rd : Reading) (p : ℕ) (s : List ℕ) → count (escaped rd p s) ≤ length s + 1
 unfolding escaped count

@@ -5,21 +5,20 @@ use mathlib.Core.List.{List, [], _∷_}
 use mathlib.Core.Bool.{Bool, cond, _||_}
 use lib.ListN.{length, getD, take, drop}
 use lib.Dec.{ltb, eqb}
-use Rattle.answers.specs.declared.Why.the-variants.{HexShort, HexBad, NumberBad}
+use Rattle.answers.specs.declared.Why.the-variants.{HexShort, HexBad}
 use Rattle.bytes.specs.declared.Class.the-variants.{White, WordEnd, InWord, Space, Numeral}
 use Rattle.bytes.specs.Bytes.{isLetter, inClass, lead, body}
 use Rattle.readings.specs.declared.Reading.{Reading}
-use Rattle.readings.specs.declared.Reading.the-variants.{Plain, Paragraphs}
+use Rattle.readings.specs.declared.Reading.the-variants.{Plain, Paragraphs, Standard}
 use Rattle.numbers.specs.declared.Number.{Number}
 use Rattle.numbers.specs.declared.Number.the-variants.{Is, Bad}
 use Rattle.numbers.specs.Numbers.{hexPair, decimal}
-use Rattle.names.specs.Names.{wordNumber}
 use Rattle.rooms.specs.Streams.{Stream, end, stop, _▸_, andThen}
-use Rattle.tokens.specs.declared.Property.{Property}
 use Rattle.tokens.specs.declared.Property.the-variants.{None, Value}
 use Rattle.tokens.specs.Tokens.{Shown}
 use Rattle.tokens.specs.Tokens
 use Rattle.tokens.specs.WordNumbers as words
+use Rattle.controls.specs.Controls.{shownWord, numbered}
 use Rattle.answers.specs.declared.Why.{Why}
 
 -- "`{`, `}` or a raw line feed"
@@ -52,15 +51,7 @@ hexEscape p (a ∷ b ∷ s) = hexValue (hexPair a b) (plain (p + 4) s)
 unfoldable pub lineBreakAnd : ℕ → List ℕ → Stream Why Shown
 lineBreakAnd p s = Shown.lineBreak ▸ plain (p + 2) s
 
--- a word by its name: "49 is unknown", and shows "its backslash, without its number"
-unfoldable pub shownWord : ℕ → List ℕ → Property → Shown
-shownWord p name num = cond (ltb (wordNumber name) words.unknown) (Shown.word (wordNumber name) num) (Shown.unknown p (92 ∷ name) num)
-
--- "Digits and minus signs at its end are the number."; 5 of the answer numbers
-unfoldable pub numbered : ℕ → List ℕ → Number → Stream Why Shown
-numbered p name (Is v) = shownWord p name (Value v) ▸ end
-numbered p name Bad = stop NumberBad
-
+-- "Digits and minus signs at its end are the number."
 unfoldable pub named : ℕ → List ℕ → Stream Why Shown
 named p w =
     let k = body (inClass Numeral) w in
@@ -87,16 +78,21 @@ word p s =
 unfoldable pub other : ℕ → List ℕ → Stream Why Shown
 other p s = cond (ltb (lead (inClass Space) s) (length s)) end (Shown.text p (92 ∷ s) ▸ end)
 
--- 02, A2: "In paragraph .. reading a backslash and carriage return become a line break token, a line feed directly after belongs to it, and the tail
--- is kept. Plain reading stays equal to the crate." s stands behind the carriage return
+-- 02, A2: "In paragraph and standard reading a backslash and carriage return become a line break token, a line feed directly after belongs to it, and
+-- the tail is kept. Plain reading stays equal to the crate." s stands behind the carriage return. (Slices of standard reading are cut by
+-- the crate `standard`: here its case makes the rule total.)
 abbrev pub behindFeed : ℕ → List ℕ → Stream Why Shown
 behindFeed p [] = plain p []
 behindFeed p (b ∷ s) = cond (eqb b 10) (plain (p + 1) s) (plain p (b ∷ s))
 
+abbrev pub returned : ℕ → List ℕ → Stream Why Shown
+returned p [] = other p []
+returned p (b ∷ s) = cond (eqb b 13) (Shown.lineBreak ▸ behindFeed (p + 2) s) (other p (b ∷ s))
+
 unfoldable pub otherBy : Reading → ℕ → List ℕ → Stream Why Shown
 otherBy Plain p s = other p s
-otherBy Paragraphs p [] = other p []
-otherBy Paragraphs p (b ∷ s) = cond (eqb b 13) (Shown.lineBreak ▸ behindFeed (p + 2) s) (other p (b ∷ s))
+otherBy Paragraphs p s = returned p s
+otherBy Standard p s = returned p s
 
 -- a slice that begins with a backslash, by the byte behind that: a word, "one text token, the slice without its first
 -- byte", `\'`, `\` line feed, "`\*`: an ignorable mark; its tail is lost.", and the rest, by the reading

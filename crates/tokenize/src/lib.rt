@@ -17,9 +17,10 @@ use bytes::Class;
 use bytes::body_of;
 use bytes::is_letter;
 use bytes::lead_of;
+use controls::numbered_word;
+use controls::word_record;
 use names::Table;
 use numbers::Number;
-use numbers::decimal_of;
 use numbers::hex_pair;
 use readings::Reading;
 use tokens::Property;
@@ -31,8 +32,8 @@ ghost use Prim.Native.Nat.{_+_, _≤_, _<_};
 ghost use lib.ListN.{length};
 ghost use Rattle.names.specs.Names.{rows};
 ghost use Rattle.rooms.specs.Rooms.{Wrote};
-ghost use Rattle.tokens.specs.Tokens.{shownLayout, textRecord, recordOf};
-ghost use Rattle.tokenize.specs.Tokenize.{isMark, isEscape, plain as plainOf, wordTail, bareLength, shownWord, named as namedOf, word as wordOf, hexEscape, lineBreakAnd, other as otherOf, behindFeed, otherBy, escaped as escapedOf, mark as markOf, tokens as tokensOf};
+ghost use Rattle.tokens.specs.Tokens.{shownLayout, textRecord};
+ghost use Rattle.tokenize.specs.Tokenize.{isMark, isEscape, plain as plainOf, wordTail, bareLength, named as namedOf, word as wordOf, hexEscape, lineBreakAnd, other as otherOf, behindFeed, returned as returnedOf, otherBy, escaped as escapedOf, mark as markOf, tokens as tokensOf};
 ghost use Rattle.rooms.specs.Streams.{byName};
 
 // `{`, `}` or a line feed.
@@ -102,19 +103,6 @@ fn bare_length(w: &[u8]) -> usize
     k
 }
 
-// The record of a word whose backslash stands at `place`.
-fn word_record(name: &[u8], property: Property, place: usize, names: &Table) -> Record
-    requires { ⌜ (place + (1 + length (now name)) ≤ 65536) × (now names ≡ rows) ⌝ }
-    ensures { λ r. ⌜ r ≡ recordOf (shownWord place (now (name .entry)) property) ⌝ }
-{
-    let w = names::number_of(names, name);
-    if w < words::UNKNOWN {
-        return Record::word(w, property);
-    }
-    let length = 1 + name.len();
-    Record::unknown(place as u32, length as u32, property)
-}
-
 // A word behind its backslash at `place`: its name, and the number that ends it.
 fn named(w: &[u8], place: usize, names: &Table, room: &mut [u32], n: usize) -> Written
     requires { ⌜ (place + (1 + length (now w)) ≤ 65536) × (n ≤ place) × (now names ≡ rows) ⌝ }
@@ -125,18 +113,7 @@ fn named(w: &[u8], place: usize, names: &Table, room: &mut [u32], n: usize) -> W
         put(room, n, word_record(w, Property::None, place, names));
         return Written::Done(n + 1);
     }
-    let number = decimal_of(&w[k..]);
-    match number {
-        Number::Bad => Written::Refused(Why::NumberBad),
-        Number::Is(v) => {
-            put(
-                room,
-                n,
-                word_record(&w[..k], Property::Value(v), place, names),
-            );
-            Written::Done(n + 1)
-        }
-    }
+    numbered_word(&w[..k], &w[k..], place, names, room, n)
 }
 
 // A word and the text behind it; s follows the backslash at `place`.
@@ -213,10 +190,10 @@ fn behind_feed(s: &[u8], place: usize, room: &mut [u32], n: usize) -> Written
     plain(s, place, room, n)
 }
 
-// A backslash and a carriage return are a line break by paragraphs (02, A2). Else as `other`.
+// A backslash and a carriage return are a line break (02, A2). Else as `other`.
 fn returned(s: &[u8], place: usize, room: &mut [u32], n: usize) -> Written
     requires { ⌜ (place + (1 + length (now s)) ≤ 65536) × (n ≤ place) ⌝ }
-    ensures { λ r. ⌜ Wrote shownLayout byName n (now (room .entry)) (otherBy Reading.Paragraphs place (now (s .entry))) r (now (room .exit)) ⌝ }
+    ensures { λ r. ⌜ Wrote shownLayout byName n (now (room .entry)) (returnedOf place (now (s .entry))) r (now (room .exit)) ⌝ }
 {
     if s.len() == 0 {
         return other(s, place, room, n);
@@ -236,6 +213,7 @@ fn other_by(reading: Reading, s: &[u8], place: usize, room: &mut [u32], n: usize
     match reading {
         Reading::Plain => other(s, place, room, n),
         Reading::Paragraphs => returned(s, place, room, n),
+        Reading::Standard => returned(s, place, room, n),
     }
 }
 

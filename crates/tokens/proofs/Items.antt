@@ -17,7 +17,7 @@ use lib.Seq.{drop-drop, take-all, getD-take}
 use Rattle.tokens.specs.declared.Property.{Property}
 use Rattle.tokens.specs.Tokens.{Shown, Token, shownWords, tokenWords, shownBy}
 use Rattle.tokens.specs.declared.item.Item.{Item}
-use Rattle.tokens.specs.declared.item.Item.the-variants.{Text, Opening, Closing, LineBreak, Ignorable}
+use Rattle.tokens.specs.declared.item.Item.the-variants.{Text, Opening, Closing, LineBreak, Ignorable, Symbol}
 use Rattle.tokens.specs.Items.{propertyOf, wordItem, itemOf, itemAt, part, shownOf, shownAll, tokenAt, tokensAll}
 
 module _ (ws : List ℕ) where
@@ -42,10 +42,14 @@ module _ (ws : List ℕ) where
   unfolding itemAt itemOf
   item-word e n q = q ∙ rw (e, n)
 
-  pub item-text : (getD ws 0 0 ≡ 1 → ⊥) → (getD ws 0 0 ≡ 2 → ⊥) → (getD ws 0 0 ≡ 3 → ⊥) → (getD ws 0 0 ≡ 4 → ⊥) → (getD ws 0 0 ≡ 5 → ⊥)
+  pub item-symbol : {b : ℕ} {num : Property} → getD ws 0 0 ≡ 6 → b ≡ getD ws 1 0 → num ≡ propertyOf (getD ws 2 0) (getD ws 3 0) → Symbol b num ≡ itemAt ws
+  unfolding itemAt itemOf
+  item-symbol e w n = rw (e, w, n)
+
+  pub item-text : (getD ws 0 0 ≡ 1 → ⊥) → (getD ws 0 0 ≡ 2 → ⊥) → (getD ws 0 0 ≡ 3 → ⊥) → (getD ws 0 0 ≡ 4 → ⊥) → (getD ws 0 0 ≡ 5 → ⊥) → (getD ws 0 0 ≡ 6 → ⊥)
       → Text (getD ws 4 0) (getD ws 5 0) ≡ itemAt ws
   unfolding itemAt itemOf
-  item-text a b d e f = rw (ne-eqb _ 1 a, ne-eqb _ 2 b, ne-eqb _ 3 d, ne-eqb _ 4 e, ne-eqb _ 5 f)
+  item-text a b d e f g = rw (ne-eqb _ 1 a, ne-eqb _ 2 b, ne-eqb _ 3 d, ne-eqb _ 4 e, ne-eqb _ 5 f, ne-eqb _ 6 g)
 
 -- all from a place on, as the code lends it
 abbrev pub rest : List ℕ → ℕ → List ℕ

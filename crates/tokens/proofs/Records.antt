@@ -18,7 +18,7 @@ use Rattle.answers.specs.declared.Written.{Written}
 use Rattle.answers.specs.declared.Written.the-variants.{Done}
 use Rattle.tokens.specs.declared.Property.{Property}
 use Rattle.tokens.specs.declared.Record.{Record}
-use Rattle.tokens.specs.Tokens.{Shown, Token, tokenWords, recordWords, bareRecord, textRecord, wordRecord, recordOf, shownLayout, tokenLayout}
+use Rattle.tokens.specs.Tokens.{Shown, Token, tokenWords, recordWords, bareRecord, textRecord, wordRecord, symbolRecord, recordOf, shownLayout, tokenLayout}
 use Rattle.tokens.specs.Tokens
 use Rattle.answers.specs.declared.Why.{Why}
 
@@ -43,6 +43,10 @@ module _ {r : Record} where
   pub word-record : (w : ℕ) (num : Property) → r ≡ wordRecord w num → r ≡ recordOf (Shown.word w num)
   unfolding recordOf
   word-record w num e = e
+
+  pub symbol-record : (b : ℕ) (num : Property) → r ≡ symbolRecord b num → r ≡ recordOf (Shown.symbol b num)
+  unfolding recordOf
+  symbol-record b num e = e
 
   pub opening-record : r ≡ bareRecord 1 → r ≡ recordOf Shown.opening
   unfolding recordOf

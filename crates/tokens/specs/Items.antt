@@ -10,7 +10,7 @@ use Rattle.tokens.specs.declared.Property.the-variants.{None, Value}
 use Rattle.tokens.specs.Tokens.{Shown, Token, token, shownWords, tokenWords}
 use Rattle.tokens.specs.Tokens
 use Rattle.tokens.specs.declared.item.Item.{Item}
-use Rattle.tokens.specs.declared.item.Item.the-variants.{Text, Opening, Closing, LineBreak, Ignorable, Word, Unknown}
+use Rattle.tokens.specs.declared.item.Item.the-variants.{Text, Opening, Closing, LineBreak, Ignorable, Word, Unknown, Symbol}
 use Rattle.tokens.specs.WordNumbers as words
 
 -- "1 if a number is present, that number"
@@ -24,11 +24,11 @@ numberAt ws = propertyOf (getD ws 2 0) (getD ws 3 0)
 abbrev pub wordItem : ℕ → Property → ℕ → ℕ → Item
 wordItem w num p n = cond (eqb w words.unknown) (Unknown p n num) (Word w num)
 
--- "kind (0 text, 1 open, 2 close, 3 line break, 4 ignorable, 5 word)"
+-- "kind (0 text, 1 open, 2 close, 3 line break, 4 ignorable, 5 word)", and 6, a symbol
 unfoldable pub itemOf : ℕ → ℕ → ℕ → ℕ → ℕ → ℕ → Item
 itemOf kind w has number p n =
     cond (eqb kind 1) Opening (cond (eqb kind 2) Closing (cond (eqb kind 3) LineBreak (cond (eqb kind 4) Ignorable
-    (cond (eqb kind 5) (wordItem w (propertyOf has number) p n) (Text p n)))))
+    (cond (eqb kind 5) (wordItem w (propertyOf has number) p n) (cond (eqb kind 6) (Symbol w (propertyOf has number)) (Text p n))))))
 
 -- the token that words start with
 unfoldable pub itemAt : List ℕ → Item
@@ -47,6 +47,7 @@ shownOf src LineBreak = Shown.lineBreak
 shownOf src Ignorable = Shown.ignorable
 shownOf src (Word w num) = Shown.word w num
 shownOf src (Unknown p n num) = Shown.unknown p (part src p n) num
+shownOf src (Symbol b num) = Shown.symbol b num
 
 -- what the first n tokens of a room show
 unfoldable pub shownAll : List ℕ → ℕ → List ℕ → List Shown

@@ -1,4 +1,4 @@
--- 01, Cutting, and 02, A4: what a token is, and its eight words. Assumes nothing: these are definitions.
+-- 01, Cutting, and 02, A1 and A4: what a token is, and its eight words. Assumes nothing: these are definitions.
 use Prim.Native.Nat.{ℕ, zero, suc, _+_, _*_}
 use mathlib.Core.List.{List, [], _∷_, _++_}
 use mathlib.Core.Bool.{cond}
@@ -13,7 +13,7 @@ use Rattle.tokens.specs.WordNumbers as words
 
 -- "kind (0 text, 1 open, 2 close, 3 line break, 4 ignorable, 5 word)": what a token shows. A text has its source place and
 -- its bytes; a word its number and property; an unknown word its source place and bytes, "from its backslash, without its
--- number", and its property
+-- number", and its property. 02, A1: a symbol has the byte behind its backslash; `\'` has the byte that its digits say
 pub data Shown : Type 0 where
   text : ℕ → List ℕ → Shown
   opening : Shown
@@ -22,6 +22,7 @@ pub data Shown : Type 0 where
   ignorable : Shown
   word : ℕ → Property → Shown
   unknown : ℕ → List ℕ → Property → Shown
+  symbol : ℕ → Property → Shown
 
 -- a token: "the place of their slice in two further words, place and length", and what it shows
 pub data Token : Type 0 where
@@ -65,6 +66,10 @@ wordRecord w num = record { kind = 5; word = w; has = hasOf num; number = valueO
 abbrev pub unknownRecord : ℕ → ℕ → Property → Record
 unknownRecord p n num = record { kind = 5; word = words.unknown; has = hasOf num; number = valueOf num; place = p; length = n }
 
+-- 02, A1: kind 6, "the byte in the word field"
+abbrev pub symbolRecord : ℕ → Property → Record
+symbolRecord b num = record { kind = 6; word = b; has = hasOf num; number = valueOf num; place = 0; length = 0 }
+
 -- the record of what a token shows
 unfoldable pub recordOf : Shown → Record
 recordOf (text p bs) = textRecord p (length bs)
@@ -74,6 +79,7 @@ recordOf lineBreak = bareRecord 3
 recordOf ignorable = bareRecord 4
 recordOf (word w num) = wordRecord w num
 recordOf (unknown p bs num) = unknownRecord p (length bs) num
+recordOf (symbol b num) = symbolRecord b num
 
 -- "A token is six u32"; "two further words, place and length"
 abbrev pub shownWords : ℕ

@@ -23,6 +23,7 @@ pub enum Item {
     Ignorable,
     Word(u32, Property),
     Unknown(u32, u32, Property),
+    Symbol(u32, Property),
 }
 
 fn property(has: u32, number: u32) -> Property
@@ -84,6 +85,10 @@ pub fn item_at(t: &[u32]) -> Item
     if kind == 5 {
         let number = property(t[2], t[3]);
         return word_item(t[1], number, place, count);
+    }
+    if kind == 6 {
+        let byte = t[1];
+        return Item::Symbol(byte, property(t[2], t[3]));
     }
     Item::Text(place, count)
 }

@@ -13,7 +13,7 @@ pub mod words;
 ghost use mathlib.Core.Path.{_≡_};
 ghost use Prim.Native.Nat.{_-_, _≤_};
 ghost use Rattle.rooms.specs.Rooms.{put as putWords};
-ghost use Rattle.tokens.specs.Tokens.{tokenWords, recordWords, hasOf, valueOf, bareRecord, textRecord, wordRecord, unknownRecord, sealed, sealedAll};
+ghost use Rattle.tokens.specs.Tokens.{tokenWords, recordWords, hasOf, valueOf, bareRecord, textRecord, wordRecord, unknownRecord, symbolRecord, sealed, sealedAll};
 
 // How many words a token has, and where those of its slice stand.
 pub const TOKEN_WORDS: usize = 8;
@@ -115,6 +115,22 @@ impl Record {
             number: number,
             place: place,
             length: length,
+        }
+    }
+
+    // A symbol, by the byte behind its backslash; `\'` with the byte that its digits say.
+    pub fn symbol(byte: u32, property: Property) -> Record
+        ensures { λ r. ⌜ r ≡ symbolRecord byte property ⌝ }
+    {
+        let has = property.has();
+        let number = property.value();
+        Record {
+            kind: 6,
+            word: byte,
+            has: has,
+            number: number,
+            place: 0,
+            length: 0,
         }
     }
 }

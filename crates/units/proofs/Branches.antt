@@ -3,6 +3,7 @@
 --     taken-pair, taken-high, taken-value  of `taken`
 --     met-skipped, met-taken, skipped-fits of `met`
 --     step-absent, step-small, step-negative, step-outside    of `step`
+--     standard-absent, -small, -negative, -outside            of `standard_step`
 -- Assumes nothing.
 use mathlib.Core.Path.{_≡_}
 use mathlib.Core.Bool.{Bool, true, false, cond, _&&_}
@@ -15,7 +16,7 @@ use Rattle.tokens.specs.declared.Property.{Property}
 use Rattle.tokens.specs.declared.Property.the-variants.{None, Value}
 use Rattle.units.specs.declared.Run.{Run}
 use Rattle.units.specs.declared.Gave.{Gave}
-use Rattle.units.specs.Units.{isHigh, isLow, alone, pair, nothing, taken, met, metAny, unitOf, step, skipCount}
+use Rattle.units.specs.Units.{isHigh, isLow, alone, pair, nothing, cutShort, taken, takenAny, met, metAny, unitOf, step, standardStep, skipCount}
 
 pub alone-surrogate : (u : ℕ) → leb 55296 u && leb u 57343 ≡ true → 65533 ≡ alone u
 alone-surrogate u p = rw p
@@ -85,3 +86,21 @@ module _ (skip : ℕ) (run : Run) (n : Property) (g : Gave) where
     pub step-outside : 65536 ≤ v → v < 4294901760 → g ≡ nothing run → g ≡ step skip run n
     unfolding step metAny unitOf
     step-outside h k e = rw (p, le-ltb v 65536 h, lt-leb 4294901760 v k) e
+
+module _ (run : Run) (n : Property) (g : Gave) where
+  pub standard-absent : n ≡ None → g ≡ cutShort run → g ≡ standardStep run n
+  unfolding standardStep takenAny unitOf
+  standard-absent p e = rw p e
+
+  module _ (v : ℕ) (p : n ≡ Value v) where
+    pub standard-small : v < 65536 → g ≡ taken run v → g ≡ standardStep run n
+    unfolding standardStep takenAny unitOf
+    standard-small h e = rw (p, lt-ltb v 65536 h) e
+
+    pub standard-negative : 65536 ≤ v → 4294901760 ≤ v → g ≡ taken run (v - 4294901760) → g ≡ standardStep run n
+    unfolding standardStep takenAny unitOf
+    standard-negative h k e = rw (p, le-ltb v 65536 h, le-leb 4294901760 v k) e
+
+    pub standard-outside : 65536 ≤ v → v < 4294901760 → g ≡ cutShort run → g ≡ standardStep run n
+    unfolding standardStep takenAny unitOf
+    standard-outside h k e = rw (p, le-ltb v 65536 h, lt-leb 4294901760 v k) e

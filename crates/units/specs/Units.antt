@@ -1,4 +1,4 @@
--- 01, Body: the text of a run of adjacent `u` tokens, by RFC 2781 (UTF-16) and RFC 3629 (UTF-8). Assumes nothing: these are
+-- 01, Body, and 02, A1: the text of a run of adjacent `u` tokens, by RFC 2781 (UTF-16) and RFC 3629 (UTF-8). Assumes nothing: these are
 -- definitions.
 use Prim.Native.Nat.{ℕ, _+_, _-_, _*_, _%_}
 use mathlib.Core.List.{List, [], _∷_, _++_}
@@ -96,6 +96,19 @@ metAny skip run (u ∷ us) = met skip run u
 -- a token
 unfoldable pub step : ℕ → Run → Property → Gave
 step skip run n = metAny skip run (unitOf n)
+
+-- what ends a run: a surrogate that waits is lost
+abbrev pub cutShort : Run → Gave
+cutShort run = record { run = before; lost = ltb 0 (run .high); some = false; value = 0 }
+
+-- 02, A1: "01's rule on units of at most 255 does not hold here": each unit is kept; "anything that is read parts them, .. and so does a `\u`
+-- without a unit"
+unfoldable pub takenAny : Run → List ℕ → Gave
+takenAny run [] = cutShort run
+takenAny run (u ∷ us) = taken run u
+
+unfoldable pub standardStep : Run → Property → Gave
+standardStep run n = takenAny run (unitOf n)
 
 -- the scalar values that a token gave
 unfoldable pub values : Gave → List ℕ

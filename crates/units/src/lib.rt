@@ -1,14 +1,15 @@
 // Units: the numbers of adjacent `u` tokens become scalar values, token by token (01, Body; `ControlWord::Unicode` in the
 // crate's `Parser::parse`, and `String::from_utf16`).
 //
-//   Run    what has come of a run so far
-//   step   one token: it is skipped, waits for the other half of its pair, or gives a value
+//   Run             what has come of a run so far
+//   step            one token: it is skipped, waits for the other half of its pair, or gives a value
+//   standard_step   the same by the specification (02, A1): no unit is skipped, and a token without one ends the run
 //
 // Every public function is total. A surrogate that is no part of a pair gives U+FFFD.
 use tokens::Property;
 ghost use mathlib.Core.Path.{_≡_};
 ghost use lib.Dec.{ltb};
-ghost use Rattle.units.specs.Units.{isHigh, isLow, alone as aloneOf, pair as pairOf, before as beforeOf, nothing as nothingOf, taken as takenOf, met as metOf, step as stepOf};
+ghost use Rattle.units.specs.Units.{isHigh, isLow, alone as aloneOf, pair as pairOf, before as beforeOf, nothing as nothingOf, cutShort, taken as takenOf, met as metOf, step as stepOf, standardStep};
 
 // Whether a unit has come, how many were skipped since the last kept one, a high surrogate that waits (0 if none does).
 pub struct Run {
@@ -146,6 +147,41 @@ pub fn step(skip: u32, run: Run, number: Property) -> Gave
                 return met(skip, run, v - 4294901760);
             }
             nothing(run)
+        }
+    }
+}
+
+// What ends a run: a surrogate that waits is lost.
+fn cut_short(run: Run) -> Gave
+    ensures { λ r. ⌜ r ≡ cutShort run ⌝ }
+{
+    let ended = Run {
+        begun: false,
+        skipped: 0,
+        high: 0,
+    };
+    Gave {
+        run: ended,
+        lost: 0 < run.high,
+        some: false,
+        value: 0,
+    }
+}
+
+// A token's number by the specification.
+pub fn standard_step(run: Run, number: Property) -> Gave
+    ensures { λ r. ⌜ r ≡ standardStep run number ⌝ }
+{
+    match number {
+        Property::None => cut_short(run),
+        Property::Value(v) => {
+            if v < 65536 {
+                return taken(run, v);
+            }
+            if 4294901760 <= v {
+                return taken(run, v - 4294901760);
+            }
+            cut_short(run)
         }
     }
 }

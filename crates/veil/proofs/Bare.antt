@@ -25,6 +25,7 @@ bare Shown.lineBreak = Shown.lineBreak
 bare Shown.ignorable = Shown.ignorable
 bare (Shown.word w num) = Shown.word w num
 bare (Shown.unknown p bs num) = Shown.unknown 0 bs num
+bare (Shown.symbol b num) = Shown.symbol b num
 
 unfoldable pub bareAll : List Shown → List Shown
 bareAll [] = []
@@ -87,6 +88,7 @@ side Shown.ignorable = flat
 side (Shown.text p bs) = flat
 side (Shown.word w num) = flat
 side (Shown.unknown p bs num) = flat
+side (Shown.symbol b num) = flat
 
 -- no bracket among tokens
 pub data Flat : List Shown → Type 0 where
@@ -113,6 +115,7 @@ aim-bare-at late Shown.ignorable a = refl
 aim-bare-at late (Shown.text p bs) a = refl
 aim-bare-at late (Shown.word w num) a = refl
 aim-bare-at late (Shown.unknown p bs num) a = refl
+aim-bare-at late (Shown.symbol b num) a = refl
 
 aim-bare : (late : Bool) (ts : List Shown) → aimFrom late (bareAll ts) ≡ aimFrom late ts
 unfolding aimFrom bareAll
@@ -127,6 +130,7 @@ level-bare Shown.ignorable d = refl
 level-bare (Shown.text p bs) d = refl
 level-bare (Shown.word w num) d = refl
 level-bare (Shown.unknown p bs num) d = refl
+level-bare (Shown.symbol b num) d = refl
 
 extent-bare : (d : ℕ) (ts : List Shown) → extent d (bareAll ts) ≡ extent d ts
 unfolding extent bareAll
@@ -166,6 +170,7 @@ step-bare Shown.ignorable t ts = refl
 step-bare (Shown.text p bs) t ts = refl
 step-bare (Shown.word w num) t ts = refl
 step-bare (Shown.unknown p bs num) t ts = refl
+step-bare (Shown.symbol b num) t ts = refl
 
 entered-length-bare : (a : Aim) (ts : List Token) → enteredLength a (shownBy (bareTokens ts)) ≡ enteredLength a (shownBy ts)
 entered-length-bare Nothing ts = refl
@@ -183,6 +188,7 @@ passed-bare Shown.ignorable ts = refl
 passed-bare (Shown.text p bs) ts = refl
 passed-bare (Shown.word w num) ts = refl
 passed-bare (Shown.unknown p bs num) ts = refl
+passed-bare (Shown.symbol b num) ts = refl
 
 walk-from-bare : (w : ℕ) (ts : List Token) → bareSteps (walkFrom w ts) ≡ walkFrom w (bareTokens ts)
 unfolding walkFrom bareAll bareSteps shownBy seen

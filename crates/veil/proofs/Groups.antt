@@ -7,21 +7,19 @@ use mathlib.Core.List.{List, [], _∷_, _++_, append-nil}
 use mathlib.Core.Bool.{Bool, true, false, false≢true}
 use Prim.Native.Nat.{ℕ, zero, suc}
 use Rattle.readings.specs.declared.Reading.{Reading}
-use Rattle.rooms.specs.Streams.{andThen, items}
-use Rattle.tokenize.specs.Tokenize.{mark, tokens}
-use Rattle.cutter.specs.Cutting.{trimStart, trimmed}
+use Rattle.cutter.specs.Cutting.{trimmed}
 use Rattle.walk.specs.declared.Aim.{Aim}
 use Rattle.walk.specs.declared.Aim.the-variants.{Nothing, Hide}
 use Rattle.walk.specs.Walk.{aimFrom, aim}
 use Rattle.veil.specs.Veil.{pieces, join, shown, Side, up, down, flat, sideOf, Mode, going, passing, next, mute, cover}
 use Rattle.veil.specs.Veil.{mask, veil, behind, ownAt, own, grouped, Ignored, Alike, same, other}
-use Rattle.veil.proofs.Joins.{pieces-append}
+use Rattle.veil.proofs.Joins.{ends-open, ends-close, pieces-append}
 use Rattle.veil.proofs.Shows.{shown-append}
-use Rattle.veil.proofs.Walks.{aim-append}
+use Rattle.veil.proofs.Walks.{aim-append, aim-opens, aim-closes}
 use Rattle.veil.proofs.Trims.{fronted, backed, trimmed-grouped, ends-dropped}
 
 module _ (rd : Reading) where
-  -- a bracket ends the look behind another
+  -- what stands behind a bracket is not looked at
   aim-before : (ps qs : List (List ℕ)) → ((late : Bool) → aimFrom late (shown rd qs) ≡ Nothing)
       → aim (shown rd (ps ++ qs)) ≡ aim (shown rd ps)
   unfolding aimFrom
@@ -29,12 +27,10 @@ module _ (rd : Reading) where
       ap (aimFrom false) (shown-append rd ps qs) ∙ aim-append (shown rd ps) (shown rd qs) [] e ∙ ap (aimFrom false) (append-nil (shown rd ps))
 
   aim-open : (ps r : List (List ℕ)) → aim (shown rd (ps ++ ((123 ∷ []) ∷ r))) ≡ aim (shown rd ps)
-  unfolding shown tokens mark andThen items aimFrom
-  aim-open ps r = aim-before ps ((123 ∷ []) ∷ r) (λ late. refl)
+  aim-open ps r = aim-before ps ((123 ∷ []) ∷ r) (λ late. aim-opens rd late r)
 
   aim-close : (ps r : List (List ℕ)) → aim (shown rd (ps ++ ((125 ∷ []) ∷ r))) ≡ aim (shown rd ps)
-  unfolding shown tokens mark andThen items aimFrom
-  aim-close ps r = aim-before ps ((125 ∷ []) ∷ r) (λ late. refl)
+  aim-close ps r = aim-before ps ((125 ∷ []) ∷ r) (λ late. aim-closes rd late r)
 
   -- inside the group nothing is left
   mask-inside : (d : ℕ) (gs qs : List (List ℕ)) → own d gs ≡ true
@@ -70,22 +66,22 @@ module _ (rd : Reading) where
 
   -- a letter with an ignored group in it, trimmed, and its pieces
   module _ {x g : List ℕ} (y : List ℕ) (i : Ignored rd x g) where
-    letter-pieces : pieces (trimmed (grouped x g y)) ≡ pieces (fronted x) ++ ((123 ∷ []) ∷ (pieces g ++ ((125 ∷ []) ∷ pieces (backed y))))
+    letter-pieces : pieces rd (trimmed (grouped x g y)) ≡ pieces rd (fronted x) ++ ((123 ∷ []) ∷ (pieces rd g ++ ((125 ∷ []) ∷ pieces rd (backed y))))
     letter-pieces =
-        ap pieces (trimmed-grouped x g y)
-        ∙ pieces-append 0 (fronted x) 123 (g ++ (125 ∷ backed y)) refl (ends-dropped 0 (trimStart x) x (i .opened))
-        ∙ ap (λ (l : List (List ℕ)). pieces (fronted x) ++ ((123 ∷ []) ∷ l)) (pieces-append 123 g 125 (backed y) refl (i .closed))
+        ap (pieces rd) (trimmed-grouped x g y)
+        ∙ pieces-append rd (fronted x) 123 (g ++ (125 ∷ backed y)) refl (ends-open rd (fronted x) (ends-dropped rd x (i .opened)))
+        ∙ ap (λ (l : List (List ℕ)). pieces rd (fronted x) ++ ((123 ∷ []) ∷ l)) (pieces-append rd g 125 (backed y) refl (ends-close rd g (i .closed)))
 
-    group-masked : mask rd going ((123 ∷ []) ∷ (pieces g ++ ((125 ∷ []) ∷ pieces (backed y)))) ≡ (123 ∷ []) ∷ mute ∷ (125 ∷ []) ∷ mask rd going (pieces (backed y))
-    group-masked = mask-group (pieces g) (pieces (backed y)) (i .hidden) (i .balanced)
+    group-masked : mask rd going ((123 ∷ []) ∷ (pieces rd g ++ ((125 ∷ []) ∷ pieces rd (backed y)))) ≡ (123 ∷ []) ∷ mute ∷ (125 ∷ []) ∷ mask rd going (pieces rd (backed y))
+    group-masked = mask-group (pieces rd g) (pieces rd (backed y)) (i .hidden) (i .balanced)
 
   other-inside : (x g h y : List ℕ) → Ignored rd x g → Ignored rd x h → veil rd (grouped x g y) ≡ veil rd (grouped x h y)
   unfolding veil
   other-inside x g h y i j =
-      let r : List (List ℕ) = pieces g ++ ((125 ∷ []) ∷ pieces (backed y)) in
-      let s : List (List ℕ) = pieces h ++ ((125 ∷ []) ∷ pieces (backed y)) in
+      let r : List (List ℕ) = pieces rd g ++ ((125 ∷ []) ∷ pieces rd (backed y)) in
+      let s : List (List ℕ) = pieces rd h ++ ((125 ∷ []) ∷ pieces rd (backed y)) in
       rw (letter-pieces y i, letter-pieces y j)
-      (ap join (mask-before r s (group-masked y i ∙ sym (group-masked y j)) going (pieces (fronted x)) (i .reached)))
+      (ap join (mask-before r s (group-masked y i ∙ sym (group-masked y j)) going (pieces rd (fronted x)) (i .reached)))
 
   pub alike-veil : {a b : List ℕ} → Alike rd a b → veil rd a ≡ veil rd b
   alike-veil (same a) = refl

@@ -1,79 +1,78 @@
--- Cutting at a bracket or a raw line feed that no backslash precedes.
---     pieces-append   the pieces of the whole are those of the two sides, and between them that byte
+-- Cutting at a bracket that starts a slice, by the reading.
+--     ends-open, ends-close   where what stands before ends so, a bracket starts a slice
+--     pieces-append           the pieces of the whole are those of the two sides, and between them that bracket
 -- Assumes nothing.
 use mathlib.Core.Path.{_≡_, refl, sym, ap, _∙_}
-use mathlib.Core.List.{List, [], _∷_, _++_, append-nil, append-assoc}
-use mathlib.Core.Bool.{Bool, true, false, cond, not, _&&_, _||_}
-use Prim.Native.Nat.{ℕ, _+_}
+use mathlib.Core.List.{List, [], _∷_, _++_, append-assoc}
+use mathlib.Core.Bool.{true, not}
+use Prim.Native.Nat.{ℕ}
 use lib.Dec.{eqb}
-use Rattle.bytes.specs.Bytes.{isSpecial}
-use Rattle.slices.specs.Slices.{startsSlice}
+use Rattle.readings.specs.declared.Reading.{Reading}
+use Rattle.readings.specs.declared.Reading.the-variants.{Plain, Paragraphs, Standard}
+use Rattle.slices.specs.Slices.{Behind, anything, escape, return, startsStandard, behind}
+use Rattle.slices.proofs.Slices.{lastByte, slices-append}
+use Rattle.slices.proofs.Standard.{behindAll, standard-append}
+use Rattle.slices.proofs.Feeds.{startsBy}
 use Rattle.tokenize.specs.Tokenize.{isMark}
-use Rattle.veil.specs.Veil.{pieces, join, endsBare}
-use Rattle.veil.proofs.Pieces.{fits, Cut, Cut.none, Cut.mark, Cut.run, recut, cut-pieces, join-pieces}
+use Rattle.veil.specs.Veil.{parts, sliced, pieces, endsBare, endsFree, ends}
+use Rattle.veil.proofs.Cuttings.{crate, standard}
+use Rattle.veil.proofs.Pieces.{pieces-mark}
 
-mark-special : (c : ℕ) → isMark c ≡ true → isSpecial c ≡ true
-mark-special c = go (eqb c 92) (eqb c 123) (eqb c 125) (eqb c 10)
-  where
-    go : (w x y z : Bool) → (x || y) || z ≡ true → w || (x || (y || z)) ≡ true
-    go true x y z h = refl
-    go false true y z h = refl
-    go false false true z h = refl
-    go false false false z h = h
+-- ---- where a slice may start
 
--- a run that ends at the end ends as well before a mark
-fits-end : (b : ℕ) (t : List ℕ) (c : ℕ) (r : List ℕ) → isMark c ≡ true → fits b t [] ≡ true → endsBare b t ≡ true
-    → fits b t (c ∷ r) ≡ true
-unfolding fits endsBare
-fits-end b [] c r m f e = go (eqb b 92) e
-  where
-    go : (x : Bool) → not x ≡ true → isSpecial c && not x ≡ true
-    go x e = rw (mark-special c m) e
-fits-end b (d ∷ t) c r m f e = go (startsSlice b d) f (λ g. fits-end d t c r m g e)
-  where
-    go : (x : Bool) → cond x false (fits d t []) ≡ true → (fits d t [] ≡ true → fits d t (c ∷ r) ≡ true)
-        → cond x false (fits d t (c ∷ r)) ≡ true
-    go true f ih = f
-    go false f ih = ih f
+bare-last : (b : ℕ) (x : List ℕ) → endsBare b x ≡ not (eqb (lastByte b x) 92)
+unfolding endsBare lastByte
+bare-last b [] = refl
+bare-last b (c ∷ x) = bare-last c x
 
--- the end of a list is the end of its last part
-ends-append : (b : ℕ) (t : List ℕ) (c : ℕ) (r : List ℕ) → endsBare b (t ++ (c ∷ r)) ≡ endsBare c r
-unfolding endsBare
-ends-append b [] c r = refl
-ends-append b (d ∷ t) c r = ends-append d t c r
+bare-space : (x : List ℕ) → endsBare 0 x ≡ not (eqb (lastByte 32 x) 92)
+unfolding endsBare lastByte
+bare-space [] = refl
+bare-space (c ∷ x) = bare-last c x
 
-fits-head′ : (b : ℕ) (t : List ℕ) (c : ℕ) (r s : List ℕ) → fits b t (c ∷ r) ≡ true → fits b t (c ∷ s) ≡ true
-unfolding fits
-fits-head′ b [] c r s h = h
-fits-head′ b (d ∷ t) c r s h = go (startsSlice b d) h (fits-head′ d t c r s)
-  where
-    go : (x : Bool) → cond x false (fits d t (c ∷ r)) ≡ true → (fits d t (c ∷ r) ≡ true → fits d t (c ∷ s) ≡ true)
-        → cond x false (fits d t (c ∷ s)) ≡ true
-    go true h ih = h
-    go false h ih = ih h
+free-behind : (q : Behind) (x : List ℕ) → endsFree q x ≡ startsStandard (behindAll q x) 123
+unfolding endsFree behindAll
+free-behind q [] = refl
+free-behind q (c ∷ x) = free-behind (behind q c) x
 
-module _ (c : ℕ) (qs : List (List ℕ)) (m : isMark c ≡ true) (q : Cut qs) where
-  cut-append : {ps : List (List ℕ)} (b : ℕ) → Cut ps → endsBare b (join ps) ≡ true → Cut (ps ++ ((c ∷ []) ∷ qs))
-  unfolding join endsBare
-  cut-append b none e = mark m q
-  cut-append b (mark {b = d} {ps} k h) e = mark k (cut-append d h e)
-  cut-append b (run {b = d} {t} {ps} k f h) e = go h f e (λ b. cut-append b h)
-    where
-      go : {ps : List (List ℕ)} → Cut ps → fits d t (join ps) ≡ true → endsBare d (t ++ join ps) ≡ true
-          → ((b : ℕ) → endsBare b (join ps) ≡ true → Cut (ps ++ ((c ∷ []) ∷ qs))) → Cut ((d ∷ t) ∷ (ps ++ ((c ∷ []) ∷ qs)))
-      go none f e ih = run {b = d} {t = t} {ps = (c ∷ []) ∷ qs} k (fits-end d t c (join qs) m f (rw append-nil at e)) (mark m q)
-      go (mark {b = x} {ps} l h) f e ih = run {b = d} {t = t} {ps = (x ∷ []) ∷ (ps ++ ((c ∷ []) ∷ qs))} k (fits-head′ d t x (join ps) (join (ps ++ ((c ∷ []) ∷ qs))) f) (ih d (rw (ends-append d t x (join ps)) at e))
-      go (run {b = x} {t = u} {ps} l g h) f e ih = run {b = d} {t = t} {ps = (x ∷ u) ∷ (ps ++ ((c ∷ []) ∷ qs))} k (fits-head′ d t x (u ++ join ps) (u ++ join (ps ++ ((c ∷ []) ∷ qs))) f) (ih d (rw (ends-append d t x (u ++ join ps)) at e))
+brackets : (q : Behind) → startsStandard q 123 ≡ startsStandard q 125
+brackets anything = refl
+brackets escape = refl
+brackets return = refl
 
-join-append : (a b : List (List ℕ)) → join (a ++ b) ≡ join a ++ join b
-unfolding join
-join-append [] b = refl
-join-append (p ∷ a) b = rw (join-append a b, append-assoc)
+pub ends-open : (rd : Reading) (x : List ℕ) → ends rd x ≡ true → startsBy rd x 123 ≡ true
+ends-open Plain x e = sym (bare-space x) ∙ e
+ends-open Paragraphs x e = sym (bare-space x) ∙ e
+ends-open Standard x e = sym (free-behind anything x) ∙ e
+
+pub ends-close : (rd : Reading) (x : List ℕ) → ends rd x ≡ true → startsBy rd x 125 ≡ true
+ends-close Plain x e = sym (bare-space x) ∙ e
+ends-close Paragraphs x e = sym (bare-space x) ∙ e
+ends-close Standard x e = sym (brackets (behindAll anything x)) ∙ sym (free-behind anything x) ∙ e
+
+-- ---- pieces
+
+sliced-append : (rd : Reading) (c : ℕ) (y x : List ℕ) → startsBy rd x c ≡ true → sliced rd (x ++ (c ∷ y)) ≡ sliced rd x ++ sliced rd (c ∷ y)
+sliced-append Plain c y x h = slices-append c y x h
+sliced-append Paragraphs c y x h = slices-append c y x h
+sliced-append Standard c y x h = standard-append c y x h
+
+parts-append : (a b : List (List ℕ)) → parts (a ++ b) ≡ parts a ++ parts b
+unfolding parts
+parts-append [] b = refl
+parts-append (s ∷ a) b = rw (parts-append a b, append-assoc)
+
+marked-first : (rd : Reading) (c : ℕ) (y : List ℕ) → isMark c ≡ true → pieces rd (c ∷ y) ≡ (c ∷ []) ∷ pieces rd y
+unfolding pieces crate standard
+marked-first Plain c y m = pieces-mark crate c y m
+marked-first Paragraphs c y m = pieces-mark crate c y m
+marked-first Standard c y m = pieces-mark standard c y m
 
 -- the cutting lemma
-pub pieces-append : (b : ℕ) (x : List ℕ) (c : ℕ) (y : List ℕ) → isMark c ≡ true → endsBare b x ≡ true
-    → pieces (x ++ (c ∷ y)) ≡ pieces x ++ ((c ∷ []) ∷ pieces y)
-unfolding join
-pieces-append b x c y m e =
-    let j : join (pieces x ++ ((c ∷ []) ∷ pieces y)) ≡ x ++ (c ∷ y) = join-append (pieces x) ((c ∷ []) ∷ pieces y) ∙ rw (join-pieces x, join-pieces y) in
-    ap pieces (sym j) ∙ recut (cut-append c (pieces y) m (cut-pieces y) b (cut-pieces x) (rw (join-pieces x) e))
+pub pieces-append : (rd : Reading) (x : List ℕ) (c : ℕ) (y : List ℕ) → isMark c ≡ true → startsBy rd x c ≡ true
+    → pieces rd (x ++ (c ∷ y)) ≡ pieces rd x ++ ((c ∷ []) ∷ pieces rd y)
+unfolding pieces
+pieces-append rd x c y m h =
+    ap parts (sliced-append rd c y x h)
+    ∙ parts-append (sliced rd x) (sliced rd (c ∷ y))
+    ∙ ap (λ (l : List (List ℕ)). pieces rd x ++ l) (marked-first rd c y m)

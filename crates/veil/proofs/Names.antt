@@ -23,7 +23,7 @@ use Rattle.tokens.specs.declared.Property.{Property}
 use Rattle.tokens.specs.declared.Property.the-variants.{None, Value}
 use Rattle.tokens.specs.Tokens.{Shown, Token, token, sliceOf, shownIn, shownBy}
 use Rattle.tokens.specs.Tokens
-use Rattle.tokenize.proofs.Places.{Stands}
+use Rattle.controls.proofs.Places.{Stands}
 use Rattle.cutter.specs.Cutting.{tokenStream}
 use Rattle.cutter.proofs.Places.{Placed, stream-places}
 use Rattle.tokens.specs.Items.{part}
@@ -55,6 +55,7 @@ module _ (src : List ℕ) where
   TextAt Shown.ignorable = Unit {0}
   TextAt (Shown.word w num) = Unit {0}
   TextAt (Shown.unknown p bs num) = Unit {0}
+  TextAt (Shown.symbol b num) = Unit {0}
 
   abbrev TextsAt : List Token → Type 0
   TextsAt [] = Unit {0}
@@ -69,6 +70,7 @@ module _ (src : List ℕ) where
   text-at Shown.ignorable a = tt
   text-at (Shown.word w num) a = tt
   text-at (Shown.unknown p bs num) a = tt
+  text-at (Shown.symbol b num) a = tt
 
   texts-at : (s : Stream Refusal Token) → Each (Placed src) s → TextsAt (items s)
   unfolding items
@@ -107,6 +109,7 @@ module _ (src : List ℕ) where
   step-at (Shown.text p bs) t ts h = tt
   step-at (Shown.word w num) t ts h = tt
   step-at (Shown.unknown p bs num) t ts h = tt
+  step-at (Shown.symbol b num) t ts h = tt
 
   walk-at : (w : ℕ) (ts : List Token) → TextsAt ts → StepsAt (walkFrom w ts)
   unfolding walkFrom
@@ -211,6 +214,7 @@ module _ (src : List ℕ) where
   font-token-at limit Shown.lineBreak s e h = h
   font-token-at limit Shown.ignorable s e h = h
   font-token-at limit (Shown.unknown p bs num) s e h = h
+  font-token-at limit (Shown.symbol b num) s e h = h
 
   next-font-at : (limit : ℕ) (x : Found Fonts) (t : Token) → TextAt (shownIn t) → FontsAt x → FontsAt (nextFont limit x t)
   next-font-at limit (found s) t e h = found-at (sliceOf t) (fontToken limit (shownIn t) s) (font-token-at limit (shownIn t) s e h)
@@ -286,6 +290,7 @@ module _ (src : List ℕ) where
     first-at (kept (token p n (Shown.text q bs)) ∷ ss) e = tt
     first-at (kept (token p n (Shown.word w num)) ∷ ss) e = tt
     first-at (kept (token p n (Shown.unknown q bs num)) ∷ ss) e = tt
+    first-at (kept (token p n (Shown.symbol b num)) ∷ ss) e = tt
     first-at (hidden ∷ ss) e = stepped-at (hidden ∷ ss) e
     first-at (fontTable late ts ∷ ss) e = stepped-at (fontTable late ts ∷ ss) e
     first-at (colourTable late ts ∷ ss) e = stepped-at (colourTable late ts ∷ ss) e

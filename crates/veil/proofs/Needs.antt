@@ -12,21 +12,28 @@ use Rattle.names.specs.Names.{sameBytes, placeIn, wordNumber}
 use Rattle.numbers.specs.Numbers.{hexDigit, hexPair, digitsFrom, digits, decimal}
 use Rattle.rooms.specs.Streams.{andThen, each, items, ended}
 use Rattle.rooms.specs.Rooms.{settled, tableLimit}
-use Rattle.slices.specs.Slices.{split, slices}
-use Rattle.tokenize.specs.Tokenize.{otherBy, mark, plain, hexValue, hexEscape, lineBreakAnd, shownWord, numbered, named, bareLength}
+use Rattle.slices.specs.Slices.{split, slices, splitStandard, standardSlices}
+use Rattle.tokenize.specs.Tokenize.{otherBy, mark, plain, hexValue, hexEscape, lineBreakAnd, named, bareLength}
+use Rattle.controls.specs.Controls.{shownWord, numbered}
 use Rattle.tokenize.specs.Tokenize.{wordTail, word, other, escaped, tokens}
-use Rattle.cutter.specs.Cutting.{located, last, allSlices, trimmed, tokenStream, cutAnswer}
+use Rattle.standard.specs.Standard.{leads, tail, numberLength, named as standardNamed, word as standardWord, hexValue as standardValue, hexEscape as standardHex}
+use Rattle.standard.specs.Standard.{breakLength, lineBreakAnd as standardBreak, escaped as standardEscaped, tokens as standardTokens}
+use Rattle.cutter.specs.Cutting.{located, last, allSlices, every, closedBehind, closing, trimmed, tokenStream, cutAnswer}
 use Rattle.utf8.specs.Utf8.{utf8, written}
-use Rattle.units.specs.Units.{unitOf, taken, met, metAny, step, values}
+use Rattle.units.specs.Units.{unitOf, taken, met, metAny, step, takenAny, standardStep, values}
 use Rattle.machine.specs.Stack.{moved}
-use Rattle.machine.specs.Machine.{gave, writtenAll, _▸▸_, settle, spoken, said as saidOf, machine}
+use Rattle.machine.specs.Machine.{gave, left, owedBehind, writtenAll, _▸▸_, settle, spoken, said as saidOf, machine}
+use Rattle.runs.specs.Runs.{stepBy as runStep, owedBy}
+use Rattle.deeds.specs.Deeds.{symbolEffect}
+use Rattle.windows.specs.Windows.{windows1252}
 use Rattle.tokens.specs.Items.{part as bytesAt}
 use Rattle.walk.specs.Walk.{aimFrom, extent, walkFrom}
 use Rattle.fonts.specs.Rows.{hasKey, inserted, stored, fontWords}
 use Rattle.fonts.specs.Fonts.{named as fontNamed, fontWord, fontToken, fontsFrom, fonts}
 use Rattle.colours.specs.Colours.{colourWordOf, colourToken, coloursFrom, colours, colourWords}
 use Rattle.header.specs.Header.{tablesFrom}
-use Rattle.readings.specs.declared.Reading.the-variants.{Plain, Paragraphs}
+use Rattle.readings.specs.declared.Reading.{Reading}
+use Rattle.readings.specs.declared.Reading.the-variants.{Plain, Paragraphs, Standard}
 use Rattle.settings.specs.Fields.{resets, flagsOf, styleOf}
 use Rattle.settings.specs.Effects.{fitted, spacing, painterWord, paragraphWord, characterWord, endingWord, indentWord, effect}
 use Rattle.blocks.specs.Pages.{blocksFrom, blocks, textOf, roomy, blockWords}
@@ -87,6 +94,7 @@ cases =
     ∷ case "{a{\\*{x}b}" (text "a")
     ∷ case "{a{\\*x\\}b}" (text "a")
     ∷ case "{a{\\*{\\\\}b}" (text "a")
+    ∷ case "{a{\\*x\\\\}b}" (text "a")
     -- opened by a bracket: one that is text
     ∷ case "{a\\{\\*x}b}" (refusal 13)
     -- reached by the walk: in a font table a `\*` group is read
@@ -118,22 +126,48 @@ cases =
     ∷ case "{a{\\*{{y}" (text "a")
     ∷ []
 
-abbrev Heards : List Case → Type 0
-Heards [] = Unit {0}
-Heards (x ∷ xs) =
-    (heard (said Plain (bytesOf (x .letter)) (record {
+-- in standard reading
+standardCases : List Case
+standardCases =
+    case "{a{\\*x}b}" (text "ab")
+    -- cut without refusal
+    ∷ case "{a{\\*{\\'zz}}b}" (refusal 4)
+    -- closed by its own bracket: one that closes an inner group; one that is text. But behind an escaped backslash a bracket is one, which in
+    -- plain reading is text
+    ∷ case "{a{\\*{x}b}" (text "a")
+    ∷ case "{a{\\*x\\}b}" (text "a")
+    ∷ case "{a{\\*x\\\\}b}" (text "ab")
+    -- opened by a bracket: one that is text; and behind an escaped backslash
+    ∷ case "{a\\{\\*x}b}" (refusal 13)
+    ∷ case "{a\\\\{\\*x}b}" (text "a\\b")
+    -- passed over, both: here white space is text, so that behind it the mark is not the first. Raw line ends are nothing, and are passed
+    ∷ case "{a{ \\*x}b}" (refusal 13)
+    ∷ case "{a{\r\n\\*x}b}" (text "ab")
+    -- the group stays, as a mark: it ends what is passed over behind a `u`
+    ∷ case "{\\u8212 {\\*x}\\u65 }" (bytes (226 ∷ 128 ∷ 148 ∷ 65 ∷ []))
+    ∷ case "{\\u8212 \\u65 }" (bytes (226 ∷ 128 ∷ 148 ∷ []))
+    ∷ []
+
+abbrev Heards : Reading → List Case → Type 0
+Heards rd [] = Unit {0}
+Heards rd (x ∷ xs) =
+    (heard (said rd (bytesOf (x .letter)) (record {
       tokens =
           x .tokens * tokenWords;
       fonts = 3 * fontWords;
       colours = 3 * colourWords;
       blocks = 3 * blockWords;
       text = x .text;
-    })) ≡ x .hears) × Heards xs
+    })) ≡ x .hears) × Heards rd xs
 
-needs : Heards cases
-unfolding cases case inRooms text bytes refusal font said letterOf shownBy bodied placed roomy bodyOf acts machine moved saidOf spoken gave settle writtenAll _▸▸_ blocks blocksFrom textOf walkFrom extent aimFrom tablesFrom fonts fontsFrom fontToken fontWord stored inserted hasKey fontNamed colours coloursFrom colourToken colourWordOf tableLimit values step metAny met taken unitOf utf8 written effect painterWord paragraphWord characterWord endingWord indentWord fitted spacing resets styleOf flagsOf cutAnswer tokenStream trimmed allSlices last located settled ended items each andThen split slices lead body any tokens escaped other word wordTail bareLength named numbered shownWord lineBreakAnd hexEscape hexValue plain mark wordNumber placeIn sameBytes hexDigit hexPair digitsFrom digits decimal namesIn bytesAt
+needs : Heards Plain cases
+unfolding cases case inRooms text bytes refusal font said letterOf shownBy bodied placed roomy bodyOf acts machine left owedBehind runStep owedBy moved saidOf spoken gave settle writtenAll _▸▸_ blocks blocksFrom textOf walkFrom extent aimFrom tablesFrom fonts fontsFrom fontToken fontWord stored inserted hasKey fontNamed colours coloursFrom colourToken colourWordOf tableLimit values step metAny met taken unitOf utf8 written effect painterWord paragraphWord characterWord endingWord indentWord fitted spacing resets styleOf flagsOf cutAnswer tokenStream trimmed allSlices last located settled ended items each andThen split slices lead body any tokens escaped other word wordTail bareLength named numbered shownWord lineBreakAnd hexEscape hexValue plain mark wordNumber placeIn sameBytes hexDigit hexPair digitsFrom digits decimal namesIn bytesAt
 needs =
-    (refl, (refl, (refl, (refl, (refl, (refl, (refl, (refl, (refl, (refl, (refl, (refl, (refl, (refl, (refl, (refl, (refl, (refl, (refl, (refl, (refl, tt)))))))))))))))))))))
+    (refl, (refl, (refl, (refl, (refl, (refl, (refl, (refl, (refl, (refl, (refl, (refl, (refl, (refl, (refl, (refl, (refl, (refl, (refl, (refl, (refl, (refl, tt))))))))))))))))))))))
+
+standard-needs : Heards Standard standardCases
+unfolding standardCases case text bytes refusal said letterOf shownBy bodied placed roomy bodyOf acts machine left owedBehind runStep owedBy moved saidOf spoken gave settle writtenAll _▸▸_ blocks blocksFrom textOf walkFrom extent aimFrom tablesFrom tableLimit values standardStep takenAny taken unitOf utf8 written effect symbolEffect windows1252 painterWord paragraphWord characterWord endingWord indentWord fitted spacing resets styleOf flagsOf cutAnswer tokenStream trimmed every closedBehind closing located settled ended items each andThen splitStandard standardSlices lead body any standardTokens standardEscaped standardWord standardNamed standardHex standardValue standardBreak breakLength numberLength leads tail numbered shownWord wordNumber placeIn sameBytes hexDigit hexPair digitsFrom digits decimal namesIn bytesAt
+standard-needs = (refl, (refl, (refl, (refl, (refl, (refl, (refl, (refl, (refl, (refl, (refl, tt)))))))))))
 
 -- the second letter above is of one veil with the first: only that it is not cut parts them
 refused-inside : veil Plain (bytesOf "{a{\\*{\\'zz}}b}") ≡ veil Plain (bytesOf "{a{\\*x}b}")
@@ -149,11 +183,11 @@ abbrev refusedAt : String → ℕ
 refusedAt s = place (letterOf Plain (bytesOf s) (record { tokens = 75 * tokenWords; fonts = 3 * fontWords; colours = 3 * colourWords; blocks = 3 * blockWords; text = 16 }))
 
 first-place : refusedAt "{a{\\*x}\\fs-1}" ≡ 7
-unfolding letterOf shownBy bodied placed roomy bodyOf acts machine moved saidOf spoken gave settle writtenAll _▸▸_ blocks blocksFrom textOf walkFrom extent aimFrom tablesFrom fonts fontsFrom fontToken fontWord stored inserted hasKey fontNamed colours coloursFrom colourToken colourWordOf tableLimit values step metAny met taken unitOf utf8 written effect painterWord paragraphWord characterWord endingWord indentWord fitted spacing resets styleOf flagsOf cutAnswer tokenStream trimmed allSlices last located settled ended items each andThen split slices lead body any tokens escaped other word wordTail bareLength named numbered shownWord lineBreakAnd hexEscape hexValue plain mark wordNumber placeIn sameBytes hexDigit hexPair digitsFrom digits decimal
+unfolding letterOf shownBy bodied placed roomy bodyOf acts machine left owedBehind runStep owedBy moved saidOf spoken gave settle writtenAll _▸▸_ blocks blocksFrom textOf walkFrom extent aimFrom tablesFrom fonts fontsFrom fontToken fontWord stored inserted hasKey fontNamed colours coloursFrom colourToken colourWordOf tableLimit values step metAny met taken unitOf utf8 written effect painterWord paragraphWord characterWord endingWord indentWord fitted spacing resets styleOf flagsOf cutAnswer tokenStream trimmed allSlices last located settled ended items each andThen split slices lead body any tokens escaped other word wordTail bareLength named numbered shownWord lineBreakAnd hexEscape hexValue plain mark wordNumber placeIn sameBytes hexDigit hexPair digitsFrom digits decimal
 first-place = refl
 
 second-place : refusedAt "{a{\\*xyz}\\fs-1}" ≡ 9
-unfolding letterOf shownBy bodied placed roomy bodyOf acts machine moved saidOf spoken gave settle writtenAll _▸▸_ blocks blocksFrom textOf walkFrom extent aimFrom tablesFrom fonts fontsFrom fontToken fontWord stored inserted hasKey fontNamed colours coloursFrom colourToken colourWordOf tableLimit values step metAny met taken unitOf utf8 written effect painterWord paragraphWord characterWord endingWord indentWord fitted spacing resets styleOf flagsOf cutAnswer tokenStream trimmed allSlices last located settled ended items each andThen split slices lead body any tokens escaped other word wordTail bareLength named numbered shownWord lineBreakAnd hexEscape hexValue plain mark wordNumber placeIn sameBytes hexDigit hexPair digitsFrom digits decimal
+unfolding letterOf shownBy bodied placed roomy bodyOf acts machine left owedBehind runStep owedBy moved saidOf spoken gave settle writtenAll _▸▸_ blocks blocksFrom textOf walkFrom extent aimFrom tablesFrom fonts fontsFrom fontToken fontWord stored inserted hasKey fontNamed colours coloursFrom colourToken colourWordOf tableLimit values step metAny met taken unitOf utf8 written effect painterWord paragraphWord characterWord endingWord indentWord fitted spacing resets styleOf flagsOf cutAnswer tokenStream trimmed allSlices last located settled ended items each andThen split slices lead body any tokens escaped other word wordTail bareLength named numbered shownWord lineBreakAnd hexEscape hexValue plain mark wordNumber placeIn sameBytes hexDigit hexPair digitsFrom digits decimal
 second-place = refl
 
 same-veil : veil Plain (bytesOf "{a{\\*x}\\fs-1}") ≡ veil Plain (bytesOf "{a{\\*xyz}\\fs-1}")

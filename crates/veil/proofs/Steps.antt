@@ -35,7 +35,7 @@ use Rattle.readings.specs.declared.Reading.{Reading}
 use Rattle.blocks.specs.Pages.{Piece, blocks, textOf, blockWords, textCapacity, Last, none, last, starts, roomy}
 use Rattle.machine.specs.Machine.{at, start}
 use Rattle.machine.proofs.Places.{unplaced, unplacedAll, bareRefusal, bare as unstopped, start-unplaced}
-use Rattle.runs.specs.Runs.{rows}
+use Rattle.runs.specs.Runs.{rows, stepsBy}
 use Rattle.deeds.specs.Deeds.{tokenDeed}
 use Rattle.body.specs.Body.{actOf, acts, body}
 use Rattle.parser.specs.Parsing.{begun, Sizes, Letter, letterFrom, placed, bodied, headed, walked}
@@ -67,6 +67,7 @@ module _ (rd : Reading) (f c b t : ℕ) where
   first (kept (token p n (Shown.text q bs)) ∷ ss) = refused (refusalAt FirstToken p)
   first (kept (token p n (Shown.word w num)) ∷ ss) = refused (refusalAt FirstToken p)
   first (kept (token p n (Shown.unknown q bs num)) ∷ ss) = refused (refusalAt FirstToken p)
+  first (kept (token p n (Shown.symbol b num)) ∷ ss) = refused (refusalAt FirstToken p)
   first (hidden ∷ ss) = stepped (hidden ∷ ss)
   first (fontTable late ts ∷ ss) = stepped (fontTable late ts ∷ ss)
   first (colourTable late ts ∷ ss) = stepped (colourTable late ts ∷ ss)
@@ -97,6 +98,7 @@ begun-steps rd z (token p n Shown.ignorable ∷ ts) = refl
 begun-steps rd z (token p n (Shown.text q bs) ∷ ts) = refl
 begun-steps rd z (token p n (Shown.word w num) ∷ ts) = refl
 begun-steps rd z (token p n (Shown.unknown q bs num) ∷ ts) = refl
+begun-steps rd z (token p n (Shown.symbol b num) ∷ ts) = refl
 
 -- ---- the body
 
@@ -108,6 +110,7 @@ token-bare rd Shown.ignorable = refl
 token-bare rd (Shown.text p bs) = refl
 token-bare rd (Shown.word w num) = refl
 token-bare rd (Shown.unknown p bs num) = refl
+token-bare rd (Shown.symbol b num) = refl
 
 act-bare : (rd : Reading) (s : Step) → actOf rd (bareStep s) ≡ unplaced (actOf rd s)
 act-bare rd (kept t) = ap (at 0) (token-bare rd (shownIn t))
@@ -123,7 +126,7 @@ acts-bare rd (s ∷ ss) = rw (act-bare rd s, acts-bare rd ss)
 -- the body says the same, and where it stops it says the same refusal
 body-bare : (rd : Reading) (ss : List Step) → body rd (bareSteps ss) ≡ unstopped (body rd ss)
 unfolding body
-body-bare rd ss = ap (start rows) (acts-bare rd ss) ∙ start-unplaced rows (acts rd ss)
+body-bare rd ss = ap (start rows (stepsBy rd)) (acts-bare rd ss) ∙ start-unplaced rows (stepsBy rd) (acts rd ss)
 
 items-bare : (s : Stream Refusal Piece) → items (unstopped s) ≡ items s
 unfolding items each
@@ -250,6 +253,7 @@ font-token-bare limit Shown.opening s = refl
 font-token-bare limit Shown.lineBreak s = refl
 font-token-bare limit Shown.ignorable s = refl
 font-token-bare limit (Shown.unknown p bs num) s = refl
+font-token-bare limit (Shown.symbol b num) s = refl
 
 found-bare : (p : ℕ) (x : Fate Fonts) → foundAt 0 (bareFate x) ≡ bareFound (foundAt p x)
 found-bare p (becomes s) = refl
@@ -295,6 +299,7 @@ colour-token-bare limit Shown.opening s = refl
 colour-token-bare limit Shown.lineBreak s = refl
 colour-token-bare limit Shown.ignorable s = refl
 colour-token-bare limit (Shown.unknown p bs num) s = refl
+colour-token-bare limit (Shown.symbol b num) s = refl
 
 abbrev bareColours : Found Colours → Found Colours
 bareColours (found s) = found s
@@ -439,6 +444,7 @@ module _ (rd : Reading) (f c b t : ℕ) where
   say-bare (kept (token p n (Shown.text q bs)) ∷ ss) = refl
   say-bare (kept (token p n (Shown.word w num)) ∷ ss) = refl
   say-bare (kept (token p n (Shown.unknown q bs num)) ∷ ss) = refl
+  say-bare (kept (token p n (Shown.symbol b num)) ∷ ss) = refl
   say-bare (hidden ∷ ss) = stepped-bare (hidden ∷ ss)
   say-bare (fontTable late ts ∷ ss) = stepped-bare (fontTable late ts ∷ ss)
   say-bare (colourTable late ts ∷ ss) = stepped-bare (colourTable late ts ∷ ss)

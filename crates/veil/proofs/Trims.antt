@@ -1,18 +1,23 @@
 -- A letter with a group in it, trimmed: the white space is that of what stands before the group and behind it.
 --     trimmed-grouped   the trimmed letter
---     ends-dropped      what stands before the group ends as before
+--     ends-dropped      what stands before the group ends as before, by the reading
 -- Assumes nothing.
-use mathlib.Core.Path.{_≡_, refl, sym, ap, _∙_}
+use mathlib.Core.Path.{_≡_, refl, sym, ap, subst, _∙_}
 use mathlib.Core.List.{List, [], _∷_, _++_, append-assoc}
-use mathlib.Core.Bool.{Bool, true, false, cond}
+use mathlib.Core.Bool.{Bool, true, false, cond, false≢true}
 use Prim.Native.Nat.{ℕ, zero, suc, _+_}
 use native.Mathlib.Omega.{arith}
 use lib.ListN.{length, take, drop}
 use lib.Seq.{take-append-add}
+use lib.Dec.{eqb}
+use borrow.Author.Tests.{eqb-true}
+use Rattle.readings.specs.declared.Reading.{Reading}
+use Rattle.readings.specs.declared.Reading.the-variants.{Plain, Paragraphs, Standard}
 use Rattle.bytes.specs.declared.Class.the-variants.{White}
 use Rattle.bytes.specs.Bytes.{inClass, lead, grown, body}
+use Rattle.slices.specs.Slices.{Behind, anything, escape, behind}
 use Rattle.cutter.specs.Cutting.{trimStart, trimmed}
-use Rattle.veil.specs.Veil.{endsBare, grouped}
+use Rattle.veil.specs.Veil.{endsBare, endsFree, ends, grouped}
 
 -- without the white space in front, and at the end
 abbrev pub fronted : List ℕ → List ℕ
@@ -68,9 +73,32 @@ trimmed-grouped x g y =
     ∙ append-assoc (fronted x) (123 ∷ g) (125 ∷ backed y)
 
 -- what stands before the group ends as before, or is all white space
-pub ends-dropped : (b : ℕ) (n : ℕ) (x : List ℕ) → endsBare b x ≡ true → endsBare 0 (drop n x) ≡ true
+bare-dropped : (b : ℕ) (n : ℕ) (x : List ℕ) → endsBare b x ≡ true → endsBare 0 (drop n x) ≡ true
 unfolding endsBare
-ends-dropped b zero [] e = refl
-ends-dropped b zero (c ∷ x) e = e
-ends-dropped b (suc n) [] e = refl
-ends-dropped b (suc n) (c ∷ x) e = ends-dropped c n x e
+bare-dropped b zero [] e = refl
+bare-dropped b zero (c ∷ x) e = e
+bare-dropped b (suc n) [] e = refl
+bare-dropped b (suc n) (c ∷ x) e = bare-dropped c n x e
+
+-- white space is no backslash
+white-behind : (b : ℕ) → inClass White b ≡ true → behind anything b ≡ anything
+white-behind b w = go (eqb b 92) refl
+  where
+    go : (t : Bool) → eqb b 92 ≡ t → cond t escape anything ≡ anything
+    go true e = absurd (false≢true (subst (λ (k : ℕ). inClass White k ≡ true) (eqb-true b 92 e) w))
+    go false e = refl
+
+free-dropped : (x : List ℕ) → endsFree anything (fronted x) ≡ endsFree anything x
+unfolding endsFree lead
+free-dropped [] = refl
+free-dropped (b ∷ x) = go (inClass White b) refl (free-dropped x)
+  where
+    go : (t : Bool) → inClass White b ≡ t → endsFree anything (fronted x) ≡ endsFree anything x
+        → endsFree anything (drop (cond t (suc (lead (inClass White) x)) zero) (b ∷ x)) ≡ endsFree (behind anything b) x
+    go true e ih = ih ∙ ap (λ (q : Behind). endsFree q x) (sym (white-behind b e))
+    go false e ih = refl
+
+pub ends-dropped : (rd : Reading) (x : List ℕ) → ends rd x ≡ true → ends rd (fronted x) ≡ true
+ends-dropped Plain x e = bare-dropped 0 (trimStart x) x e
+ends-dropped Paragraphs x e = bare-dropped 0 (trimStart x) x e
+ends-dropped Standard x e = free-dropped x ∙ e

@@ -1,9 +1,9 @@
 -- The walk over pieces and the walk over the masked pieces make the same steps.
 --     Sorted, sorted     a letter's pieces are opening brackets, closing brackets, and pieces that show no bracket
---     aim-append         an aim depends on what follows by its aim alone
+--     aim-append         an aim depends on what follows by its aim alone; aim-opens, aim-closes: at a bracket it is nothing
 --     walk-mask          the steps
 -- Assumes nothing.
-use mathlib.Core.Path.{_≡_, refl, sym, ap, _∙_}
+use mathlib.Core.Path.{_≡_, refl, sym, ap, subst, _∙_}
 use mathlib.Core.List.{List, [], _∷_, _++_}
 use mathlib.Core.Bool.{Bool, true, false, cond, _||_, false≢true}
 use Prim.Native.Nat.{ℕ, zero, suc, _+_, _-_}
@@ -12,19 +12,21 @@ use lib.ListN.{take, drop}
 use lib.Dec.{eqb}
 use borrow.Author.Tests.{eqb-true, ne-eqb}
 use Rattle.readings.specs.declared.Reading.{Reading}
-use Rattle.rooms.specs.Streams.{andThen, items}
+use Rattle.rooms.specs.Streams.{items}
 use Rattle.tokens.specs.Tokens.{Shown, Token, shownBy}
 use Rattle.tokens.specs.Tokens
-use Rattle.tokenize.specs.Tokenize.{isMark, mark, escaped, tokens}
+use Rattle.tokenize.specs.Tokenize.{isMark}
+use Rattle.cutter.specs.Cutting.{tokensBy}
 use Rattle.walk.specs.declared.Aim.{Aim}
 use Rattle.walk.specs.declared.Aim.the-variants.{Nothing, Hide, Fonts, Colours}
 use Rattle.walk.specs.Walk.{aimAt, aimFrom, aim, level, extent, Step, kept, hidden, fontTable, colourTable, group, entered}
 use Rattle.walk.specs.Walk.{enteredLength, walkFrom, walk}
 use Rattle.walk.proofs.Walk.{walk-one}
-use Rattle.veil.specs.Veil.{up, down, flat, Mode, going, passing, reading, enter, shown, sideOf, cover, mask}
+use Rattle.veil.specs.Veil.{up, down, flat, Mode, going, passing, reading, enter, shown, sideOf, mute, cover, mask}
 use Rattle.veil.proofs.Bare.{lone, seen, steps, shown-seen, take-seen, drop-seen, side, Flat, none as flat-none, some as flat-some}
+use Rattle.veil.proofs.Cuttings.{Cutting}
 use Rattle.veil.proofs.Pieces.{Cut, none as cut-none, mark as cut-mark, run as cut-run}
-use Rattle.veil.proofs.Shows.{calm-flat, calm-tokens}
+use Rattle.veil.proofs.Shows.{calm-flat, calm-tokens, shown-open, shown-close, shown-mute, feed-flat}
 
 -- ---- the pieces of a letter, by what they are to the walk
 
@@ -32,7 +34,7 @@ pub data Sorted (rd : Reading) : List (List ℕ) → Type 0 where
   none : Sorted rd []
   opens : {ps : List (List ℕ)} → Sorted rd ps → Sorted rd ((123 ∷ []) ∷ ps)
   closes : {ps : List (List ℕ)} → Sorted rd ps → Sorted rd ((125 ∷ []) ∷ ps)
-  stays : {p : List ℕ} {ps : List (List ℕ)} → sideOf p ≡ flat → Flat (items (tokens rd 0 p)) → Sorted rd ps → Sorted rd (p ∷ ps)
+  stays : {p : List ℕ} {ps : List (List ℕ)} → sideOf p ≡ flat → Flat (items (tokensBy rd 0 p)) → Sorted rd ps → Sorted rd (p ∷ ps)
 
 data Mark (b : ℕ) : Type 0 where
   is-open : b ≡ 123 → Mark b
@@ -55,9 +57,8 @@ run-side b t = go (eqb b 123) (eqb b 125)
     go false true m = absurd (false≢true (sym m))
     go false false m = refl
 
-module _ (rd : Reading) where
-  pub sorted : {ps : List (List ℕ)} → Cut ps → Sorted rd ps
-  unfolding tokens mark andThen items
+module _ (rd : Reading) {Q : Type 0} (c : Cutting Q) where
+  pub sorted : {ps : List (List ℕ)} → Cut c ps → Sorted rd ps
   sorted cut-none = none
   sorted (cut-run {b} {t} {ps} m f h) = stays (run-side b t m) (calm-flat (calm-tokens rd 0 0 b t m)) (sorted h)
   sorted (cut-mark {b} {ps} m h) = go (mark-of b m) (sorted h)
@@ -65,7 +66,7 @@ module _ (rd : Reading) where
       go : Mark b → Sorted rd ps → Sorted rd ((b ∷ []) ∷ ps)
       go (is-open e) k = rw e (opens k)
       go (is-close e) k = rw e (closes k)
-      go (is-feed e) k = rw e (stays refl flat-none k)
+      go (is-feed e) k = rw e (stays refl (feed-flat rd) k)
 
 -- ---- what follows an opening bracket
 
@@ -85,26 +86,35 @@ pub data Seen : Mode → Type 0 where
   reads : {d : ℕ} → Seen (reading d)
 
 module _ (rd : Reading) where
+  -- a bracket ends the look behind another
+  pub aim-opens : (late : Bool) (ps : List (List ℕ)) → aimFrom late (shown rd ((123 ∷ []) ∷ ps)) ≡ Nothing
+  unfolding aimFrom
+  aim-opens late ps = ap (aimFrom late) (shown-open ps rd)
+
+  pub aim-closes : (late : Bool) (ps : List (List ℕ)) → aimFrom late (shown rd ((125 ∷ []) ∷ ps)) ≡ Nothing
+  unfolding aimFrom
+  aim-closes late ps = ap (aimFrom late) (shown-close ps rd)
+
   -- the first token behind a bracket is left as it is
   aim-mask : {ps : List (List ℕ)} {m : Mode} → Sorted rd ps → Seen m → (late : Bool)
       → aimFrom late (shown rd (mask rd m ps)) ≡ aimFrom late (shown rd ps)
-  unfolding mask shown tokens mark andThen items aimFrom
+  unfolding mask shown
   aim-mask none v late = refl
-  aim-mask (opens {ps} h) goes late = go (aim (shown rd ps)) (mask rd (enter (aim (shown rd ps))) ps)
+  aim-mask (opens {ps} h) goes late = go (aim (shown rd ps)) (mask rd (enter (aim (shown rd ps))) ps) ∙ sym (aim-opens late ps)
     where
       go : (a : Aim) (r : List (List ℕ)) → aimFrom late (shown rd (cover going up a (123 ∷ []) ++ r)) ≡ Nothing
-      go Nothing r = refl
-      go Hide r = refl
-      go (Fonts l) r = refl
-      go (Colours l) r = refl
-  aim-mask (opens h) reads late = refl
-  aim-mask (closes h) goes late = refl
-  aim-mask (closes h) (reads {d = zero}) late = refl
-  aim-mask (closes h) (reads {d = suc d}) late = refl
+      go Nothing r = aim-opens late r
+      go Hide r = aim-opens late (mute ∷ r)
+      go (Fonts l) r = aim-opens late r
+      go (Colours l) r = aim-opens late r
+  aim-mask (opens {ps} h) (reads {d}) late = aim-opens late (mask rd (reading (suc d)) ps) ∙ sym (aim-opens late ps)
+  aim-mask (closes {ps} h) goes late = aim-closes late (mask rd going ps) ∙ sym (aim-closes late ps)
+  aim-mask (closes {ps} h) (reads {d = zero}) late = aim-closes late (mask rd going ps) ∙ sym (aim-closes late ps)
+  aim-mask (closes {ps} h) (reads {d = suc d}) late = aim-closes late (mask rd (reading d) ps) ∙ sym (aim-closes late ps)
   aim-mask (stays {p} {ps} e l h) goes late =
-      rw e (aim-from-append late (items (tokens rd 0 p)) (shown rd (mask rd going ps)) (shown rd ps) (aim-mask h goes))
+      rw e (aim-from-append late (items (tokensBy rd 0 p)) (shown rd (mask rd going ps)) (shown rd ps) (aim-mask h goes))
   aim-mask (stays {p} {ps} e l h) (reads {d}) late =
-      rw e (aim-from-append late (items (tokens rd 0 p)) (shown rd (mask rd (reading d) ps)) (shown rd ps) (aim-mask h reads))
+      rw e (aim-from-append late (items (tokensBy rd 0 p)) (shown rd (mask rd (reading d) ps)) (shown rd ps) (aim-mask h reads))
 
 -- ---- tokens that are no brackets
 
@@ -116,6 +126,7 @@ flat-level Shown.ignorable d e = refl
 flat-level (Shown.text p bs) d e = refl
 flat-level (Shown.word w num) d e = refl
 flat-level (Shown.unknown p bs num) d e = refl
+flat-level (Shown.symbol b num) d e = refl
 
 -- a token that is no opening bracket
 steps-kept : (x : Shown) (ts : List Shown) → (side x ≡ up → ⊥) → steps (x ∷ ts) ≡ kept (lone x) ∷ steps ts
@@ -127,6 +138,7 @@ steps-kept Shown.ignorable ts e = refl
 steps-kept (Shown.text p bs) ts e = refl
 steps-kept (Shown.word w num) ts e = refl
 steps-kept (Shown.unknown p bs num) ts e = refl
+steps-kept (Shown.symbol b num) ts e = refl
 
 flat-up : (x : Shown) → side x ≡ flat → side x ≡ up → ⊥
 flat-up x e f = let z : flat ≡ up = sym e ∙ f in let y : _≡_ {A = ℕ} 0 1 = cc in omega arith
@@ -204,6 +216,9 @@ same-flat d x y (flat-some {t} {ts = c} e h) s = go (same-flat d x y h s)
       behind-it = rw (extent-flat d t (c ++ x) e, extent-flat d t (c ++ y) e) (k .behind-it);
     }
 
+same-by : (d : ℕ) {x x′ y y′ : List Shown} → x ≡ x′ → y ≡ y′ → Same d x y → Same d x′ y′
+same-by d {x} {x′} {y} {y′} e f s = subst (λ (l : List Shown). Same d x′ l) f (subst (λ (l : List Shown). Same d l y) e s)
+
 same-none : (d : ℕ) → Same d [] []
 same-none d = record { in-it = refl; behind-it = refl }
 
@@ -273,24 +288,27 @@ module _ (rd : Reading) where
   module _ {ps : List (List ℕ)} (h : Sorted rd ps) where
     opened : (a : Aim) → aim (shown rd ps) ≡ a → ((m : Mode) → Masked m ps)
         → steps (shown rd (cover going up a (123 ∷ []) ++ mask rd (enter a) ps)) ≡ steps (Shown.opening ∷ shown rd ps)
-    unfolding shown tokens mark escaped andThen items
     opened Nothing e ih =
         let ms : List Shown = shown rd (mask rd going ps) in
-        walk-none ms (aim-mask rd h goes false ∙ e) ∙ ap (λ (ss : List Step). kept (lone Shown.opening) ∷ ss) (ih going) ∙ sym (walk-none (shown rd ps) e)
+        ap steps (shown-open (mask rd going ps) rd) ∙ walk-none ms (aim-mask rd h goes false ∙ e) ∙ ap (λ (ss : List Step). kept (lone Shown.opening) ∷ ss) (ih going) ∙ sym (walk-none (shown rd ps) e)
     opened Hide e ih =
         let ms : List Shown = shown rd (mask rd (passing 0) ps) in
         let f : aim (Shown.ignorable ∷ ms) ≡ Hide = (unfold aimFrom in refl) in
         let g : outside 0 (Shown.ignorable ∷ ms) ≡ outside 0 ms = outside-flat 0 {c = Shown.ignorable ∷ []} ms (flat-some refl flat-none) in
-        walk-hide (Shown.ignorable ∷ ms) f ∙ ap (λ (ts : List Shown). hidden ∷ steps ts) g ∙ ap (λ (ss : List Step). hidden ∷ ss) (ih (passing 0)) ∙ sym (walk-hide (shown rd ps) e)
+        ap steps (shown-open (mute ∷ mask rd (passing 0) ps) rd)
+        ∙ ap (λ (ts : List Shown). steps (Shown.opening ∷ ts)) (shown-mute (mask rd (passing 0) ps) rd)
+        ∙ walk-hide (Shown.ignorable ∷ ms) f ∙ ap (λ (ts : List Shown). hidden ∷ steps ts) g ∙ ap (λ (ss : List Step). hidden ∷ ss) (ih (passing 0)) ∙ sym (walk-hide (shown rd ps) e)
     opened (Fonts late) e ih =
         let ms : List Shown = shown rd (mask rd (reading 0) ps) in
-        walk-fonts late ms (aim-mask rd h (reads {d = 0}) false ∙ e)
+        ap steps (shown-open (mask rd (reading 0) ps) rd)
+        ∙ walk-fonts late ms (aim-mask rd h (reads {d = 0}) false ∙ e)
         ∙ ap (λ (ts : List Shown). fontTable late (seen ts) ∷ steps (outside 0 ms)) (ih (reading 0) .in-it)
         ∙ ap (λ (ss : List Step). fontTable late (seen (inside 0 (shown rd ps))) ∷ ss) (ih (reading 0) .behind-it)
         ∙ sym (walk-fonts late (shown rd ps) e)
     opened (Colours late) e ih =
         let ms : List Shown = shown rd (mask rd (reading 0) ps) in
-        walk-colours late ms (aim-mask rd h (reads {d = 0}) false ∙ e)
+        ap steps (shown-open (mask rd (reading 0) ps) rd)
+        ∙ walk-colours late ms (aim-mask rd h (reads {d = 0}) false ∙ e)
         ∙ ap (λ (ts : List Shown). colourTable late (seen ts) ∷ steps (outside 0 ms)) (ih (reading 0) .in-it)
         ∙ ap (λ (ss : List Step). colourTable late (seen (inside 0 (shown rd ps))) ∷ ss) (ih (reading 0) .behind-it)
         ∙ sym (walk-colours late (shown rd ps) e)
@@ -305,21 +323,34 @@ module _ (rd : Reading) where
       ∙ sym (steps-kept Shown.closing y closing-up)
 
   walk-masked : {ps : List (List ℕ)} → Sorted rd ps → (m : Mode) → Masked m ps
-  unfolding mask shown tokens mark andThen items
+  unfolding mask shown
   walk-masked none going = refl
   walk-masked none (passing d) = ap steps (outside-none 0 ∙ sym (outside-none d))
   walk-masked none (reading d) = same-none d
-  walk-masked (opens {ps} h) going = opened h (aim (shown rd ps)) refl (walk-masked h)
-  walk-masked (opens {ps} h) (passing d) = walk-masked h (passing (suc d)) ∙ ap steps (sym (outside-open d (shown rd ps)))
+  walk-masked (opens {ps} h) going = opened h (aim (shown rd ps)) refl (walk-masked h) ∙ ap steps (sym (shown-open ps rd))
+  walk-masked (opens {ps} h) (passing d) =
+      walk-masked h (passing (suc d)) ∙ ap steps (sym (outside-open d (shown rd ps))) ∙ ap (λ (l : List Shown). steps (outside d l)) (sym (shown-open ps rd))
   walk-masked (opens {ps} h) (reading d) =
-      same-open d (shown rd (mask rd (reading (suc d)) ps)) (shown rd ps) (walk-masked h (reading (suc d)))
-  walk-masked (closes {ps} h) going = walk-close (shown rd (mask rd going ps)) (shown rd ps) (walk-masked h going)
+      let qs : List (List ℕ) = mask rd (reading (suc d)) ps in
+      same-by d (sym (shown-open qs rd)) (sym (shown-open ps rd)) (same-open d (shown rd qs) (shown rd ps) (walk-masked h (reading (suc d))))
+  walk-masked (closes {ps} h) going =
+      let qs : List (List ℕ) = mask rd going ps in
+      ap steps (shown-close qs rd) ∙ walk-close (shown rd qs) (shown rd ps) (walk-masked h going) ∙ ap steps (sym (shown-close ps rd))
   walk-masked (closes {ps} h) (passing zero) =
-      ap steps (outside-close (shown rd (mask rd going ps))) ∙ walk-masked h going ∙ ap steps (sym (outside-close (shown rd ps)))
-  walk-masked (closes {ps} h) (passing (suc d)) = walk-masked h (passing d) ∙ ap steps (sym (outside-closes d (shown rd ps)))
-  walk-masked (closes {ps} h) (reading zero) = same-close (shown rd (mask rd going ps)) (shown rd ps) (walk-masked h going)
+      let qs : List (List ℕ) = mask rd going ps in
+      ap (λ (l : List Shown). steps (outside 0 l)) (shown-close qs rd)
+      ∙ ap steps (outside-close (shown rd qs))
+      ∙ walk-masked h going
+      ∙ ap steps (sym (outside-close (shown rd ps)))
+      ∙ ap (λ (l : List Shown). steps (outside 0 l)) (sym (shown-close ps rd))
+  walk-masked (closes {ps} h) (passing (suc d)) =
+      walk-masked h (passing d) ∙ ap steps (sym (outside-closes d (shown rd ps))) ∙ ap (λ (l : List Shown). steps (outside (suc d) l)) (sym (shown-close ps rd))
+  walk-masked (closes {ps} h) (reading zero) =
+      let qs : List (List ℕ) = mask rd going ps in
+      same-by 0 (sym (shown-close qs rd)) (sym (shown-close ps rd)) (same-close (shown rd qs) (shown rd ps) (walk-masked h going))
   walk-masked (closes {ps} h) (reading (suc d)) =
-      same-closes d (shown rd (mask rd (reading d) ps)) (shown rd ps) (walk-masked h (reading d))
+      let qs : List (List ℕ) = mask rd (reading d) ps in
+      same-by (suc d) (sym (shown-close qs rd)) (sym (shown-close ps rd)) (same-closes d (shown rd qs) (shown rd ps) (walk-masked h (reading d)))
   walk-masked (stays {p} {ps} e l h) going = rw e (flat-walk (shown rd (mask rd going ps)) (shown rd ps) l (walk-masked h going))
   walk-masked (stays {p} {ps} e l h) (passing d) = rw e (walk-masked h (passing d) ∙ ap steps (sym (outside-flat d (shown rd ps) l)))
   walk-masked (stays {p} {ps} e l h) (reading d) =

@@ -1,7 +1,7 @@
 -- Demand 3, "Hidden stays hidden: two letters that are the same except inside ignored groups (`\*`, stylesheet) that the header walk
 -- reaches, each closed, give the same refusal or the same text, blocks, colours, font keys and names." This file says it whole: what
 -- is asked of two letters, and what is promised. `veil` and `Alike` are defined in Veil, `said` in Said; proofs/Hidden proves both
--- promises, proofs/Needs computes the letters named here. Assumes nothing: these are definitions.
+-- promises, proofs/Needs computes the letters named here, in plain reading where none is said. Assumes nothing: these are definitions.
 use mathlib.Core.Path.{_≡_}
 use mathlib.Core.List.{List}
 use Prim.Native.Nat.{ℕ}
@@ -27,6 +27,10 @@ pub record Cut (rd : Reading) (a b : List ℕ) (z y : Sizes) : Type 0 where
 -- - not reached: in `{{\fonttbl{\f0 A;}{\*\f1 B;}}t}` the `\*` group is a part of the table, and names a font;
 -- - not passed over: `{a{\b x}b}` has the text axb, `{a{x\*}b}` is refused by 13. A line break may stand before the mark.
 -- And the group itself stays: `{\u8212 {\*x}\u65 }` has two units, of `{\u8212 \u65 }` the second is skipped
+--
+-- Brackets, groups and marks are those of the reading. Standard reading cuts by rules of its own (02, A1): `{a{\*x\\}b}` is closed there, and has
+-- the text ab, while by 01 its bracket belongs to the text behind the backslash, and the text is a; and `{a{ \*x}b}` is refused there by 13, as
+-- white space is text, while by 01 it may stand before the mark
 --
 -- Of a refusal its number is the same, "and no longer places" (02, A4): what is hidden moves what comes behind it. `{a{\*x}\fs-1}` is
 -- refused by 12 at byte 7, `{a{\*xyz}\fs-1}` by 12 at byte 9

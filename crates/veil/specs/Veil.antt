@@ -1,7 +1,6 @@
--- 01, Cutting and Header walk: which bytes of a letter are hidden. The veil of a letter is the letter, trimmed, with the inside
--- of each ignored group put as `\*`: of each group that the header walk comes to and passes over
--- in a reading. Assumes nothing: these are
--- definitions.
+-- 01, Cutting and Header walk, and 02, A1: which bytes of a letter are hidden. The veil of a letter is the letter, trimmed, with the
+-- inside of each ignored group put as `\*`: of each group that the header walk comes to and passes over. Each is said by the reading,
+-- over that reading's slices and tokens. Assumes nothing: these are definitions.
 use mathlib.Core.Path.{_≡_}
 use Prim.Native.Nat.{ℕ, zero, suc}
 use mathlib.Core.List.{List, [], _∷_, _++_}
@@ -9,11 +8,12 @@ use mathlib.Core.Bool.{Bool, true, false, cond, not}
 use lib.ListN.{drop}
 use lib.Dec.{eqb}
 use Rattle.readings.specs.declared.Reading.{Reading}
+use Rattle.readings.specs.declared.Reading.the-variants.{Plain, Paragraphs, Standard}
 use Rattle.rooms.specs.Streams.{items}
-use Rattle.slices.specs.Slices.{slices}
+use Rattle.slices.specs.Slices.{slices, Behind, anything, startsStandard, behind as knownBehind, standardSlices}
 use Rattle.tokens.specs.Tokens.{Shown}
-use Rattle.tokenize.specs.Tokenize.{isMark, tokens}
-use Rattle.cutter.specs.Cutting.{trimStart, trimmed}
+use Rattle.tokenize.specs.Tokenize.{isMark}
+use Rattle.cutter.specs.Cutting.{tokensBy, trimStart, trimmed}
 use Rattle.walk.specs.declared.Aim.{Aim}
 use Rattle.walk.specs.declared.Aim.the-variants.{Nothing, Hide, Fonts, Colours}
 use Rattle.walk.specs.Walk.{aim}
@@ -21,7 +21,8 @@ use Rattle.walk.specs.Walk.{aim}
 -- ---- pieces
 
 -- "`{`, `}` or a raw line feed: .. what follows that byte is cut again by these rules.": the pieces of a slice are such bytes,
--- each by itself, and then the rest. So `}b`, which is one slice, is two pieces, of which the first may end a hidden group
+-- each by itself, and then the rest. So `}b`, which is one slice, is two pieces, of which the first may end a hidden group. So it is in
+-- standard reading too, where text is all that can follow such a byte in its slice
 unfoldable pub part : List ℕ → List (List ℕ)
 part [] = []
 part (b ∷ s) = cond (isMark b) ((b ∷ []) ∷ part s) ((b ∷ s) ∷ [])
@@ -30,20 +31,26 @@ unfoldable pub parts : List (List ℕ) → List (List ℕ)
 parts [] = []
 parts (s ∷ ss) = part s ++ parts ss
 
+-- the slices that are taken apart: those of the reading, but for a line feed that by paragraphs a carriage return takes in. Here it is a
+-- slice of its own: it shows nothing by itself, and what follows it shows the same in either way
+abbrev pub sliced : Reading → List ℕ → List (List ℕ)
+sliced Plain s = slices s
+sliced Paragraphs s = slices s
+sliced Standard s = standardSlices s
+
 -- the pieces of bytes
-unfoldable pub pieces : List ℕ → List (List ℕ)
-pieces s = parts (slices s)
+unfoldable pub pieces : Reading → List ℕ → List (List ℕ)
+pieces rd s = parts (sliced rd s)
 
 -- pieces one after the other
 unfoldable pub join : List (List ℕ) → List ℕ
 join [] = []
 join (p ∷ ps) = p ++ join ps
 
--- what the tokens of pieces show, each piece cut by itself. A line feed that a carriage return takes in is a piece of its own here: it shows nothing by
--- itself, and what follows it shows the same in either way
+-- what the tokens of pieces show, each piece cut by itself
 unfoldable pub shown : Reading → List (List ℕ) → List Shown
 shown rd [] = []
-shown rd (p ∷ ps) = items (tokens rd 0 p) ++ shown rd ps
+shown rd (p ∷ ps) = items (tokensBy rd 0 p) ++ shown rd ps
 
 -- ---- where the walk is
 
@@ -112,7 +119,7 @@ mask rd m (p ∷ ps) = cover m (sideOf p) (aim (shown rd ps)) p ++ mask rd (next
 
 -- the veil of a letter: `{a{\*x}b}` and `{a{\stylesheet{y}}b}` have the veil `{a{\*}b}`
 unfoldable pub veil : Reading → List ℕ → List ℕ
-veil rd src = join (mask rd going (pieces (trimmed src)))
+veil rd src = join (mask rd going (pieces rd (trimmed src)))
 
 -- ---- the same, said of two letters: the same except inside ignored groups
 
@@ -138,21 +145,33 @@ unfoldable pub endsBare : ℕ → List ℕ → Bool
 endsBare b [] = not (eqb b 92)
 endsBare b (c ∷ s) = endsBare c s
 
+-- in standard reading an escaped backslash may be the last byte: "unless they stand right behind the backslash that starts it". So the inside
+-- `\*\\` may be closed there, and not in the other readings
+unfoldable pub endsFree : Behind → List ℕ → Bool
+endsFree q [] = startsStandard q 123
+endsFree q (c ∷ s) = endsFree (knownBehind q c) s
+
+-- a bracket that follows starts a slice, by the reading
+abbrev pub ends : Reading → List ℕ → Bool
+ends Plain x = endsBare 0 x
+ends Paragraphs x = endsBare 0 x
+ends Standard x = endsFree anything x
+
 -- a letter with a group in it: x, an opening bracket, the group's inside, a closing bracket, y
 abbrev pub grouped : List ℕ → List ℕ → List ℕ → List ℕ
 grouped x g y = x ++ (123 ∷ (g ++ (125 ∷ y)))
 
 -- behind x, the start of a letter, a group with the inside g is ignored, and the bracket that follows g closes it
 pub record Ignored (rd : Reading) (x g : List ℕ) : Type 0 where
-  -- no backslash stands before its two brackets
-  pub opened : endsBare 0 x ≡ true
-  pub closed : endsBare 123 g ≡ true
+  -- its two brackets start slices: no backslash makes them text
+  pub opened : ends rd x ≡ true
+  pub closed : ends rd g ≡ true
   -- the second bracket matches the first
-  pub balanced : own 0 (pieces g) ≡ true
+  pub balanced : own 0 (pieces rd g) ≡ true
   -- the walk, which begins behind the letter's white front, comes to the first
-  pub reached : behind rd going (pieces (drop (trimStart x) x)) ≡ going
+  pub reached : behind rd going (pieces rd (drop (trimStart x) x)) ≡ going
   -- "`\*`, or `stylesheet` without a number: pass over"
-  pub hidden : aim (shown rd (pieces g)) ≡ Hide
+  pub hidden : aim (shown rd (pieces rd g)) ≡ Hide
 
 -- letters that are the same except inside ignored groups: the inside of one such group after another is changed. The letters in
 -- between need not be letters that a reader takes

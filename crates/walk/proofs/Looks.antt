@@ -38,6 +38,7 @@ break-goes-on late (Shown.text p bs) later e = absurd (false≢true e)
 break-goes-on late Shown.opening later e = absurd (false≢true e)
 break-goes-on late Shown.closing later e = absurd (false≢true e)
 break-goes-on late (Shown.unknown p bs num) later e = absurd (false≢true e)
+break-goes-on late (Shown.symbol b num) later e = absurd (false≢true e)
 
 other-decides : (late : Bool) (t : Shown) (later other : Aim) → isBreak t ≡ false → aimAt late t later ≡ aimAt late t other
 other-decides late Shown.lineBreak later other e = absurd (false≢true (sym e))
@@ -47,6 +48,7 @@ other-decides late (Shown.text p bs) later other e = refl
 other-decides late Shown.opening later other e = refl
 other-decides late Shown.closing later other e = refl
 other-decides late (Shown.unknown p bs num) later other e = refl
+other-decides late (Shown.symbol b num) later other e = refl
 
 -- a word, where it is the first
 pub aim-word : (src : List ℕ) {i : Item} {w : ℕ} {num : Property} (late : Bool) {r : Aim} → i ≡ Word w num → r ≡ wordAim w num late
@@ -107,6 +109,7 @@ level-bound Shown.ignorable d = omega arith
 level-bound (Shown.text p bs) d = omega arith
 level-bound (Shown.word w num) d = omega arith
 level-bound (Shown.unknown p bs num) d = omega arith
+level-bound (Shown.symbol b num) d = omega arith
 
 module _ {s : List ℕ} {count : ℕ} {t : List ℕ} {n d : ℕ} (m : Measuring s count t n d) where
   pub measure-none : n ≤ 0 → ((src : List ℕ) → count ≡ extent 1 (shownAll src count s)) × (count ≤ count)

@@ -39,6 +39,7 @@ break-level (Shown.text p bs) d e = absurd (false≢true e)
 break-level Shown.opening d e = absurd (false≢true e)
 break-level Shown.closing d e = absurd (false≢true e)
 break-level (Shown.unknown p bs num) d e = absurd (false≢true e)
+break-level (Shown.symbol b num) d e = absurd (false≢true e)
 
 pub group-word : (ts : List Token) → tableWord (group ts) ≡ tableWord ts
 unfolding extent shownBy tableWord

@@ -28,6 +28,7 @@ aimAt late (Shown.text p bs) later = Nothing
 aimAt late Shown.opening later = Nothing
 aimAt late Shown.closing later = Nothing
 aimAt late (Shown.unknown p bs num) later = Nothing
+aimAt late (Shown.symbol b num) later = Nothing
 
 abbrev pub isBreak : Shown → Bool
 isBreak Shown.lineBreak = true
@@ -37,6 +38,7 @@ isBreak (Shown.text p bs) = false
 isBreak Shown.opening = false
 isBreak Shown.closing = false
 isBreak (Shown.unknown p bs num) = false
+isBreak (Shown.symbol b num) = false
 
 -- "At an opening bracket look at the first token after the bracket that is not a line break."
 unfoldable pub aimFrom : Bool → List Shown → Aim
@@ -55,6 +57,7 @@ level Shown.ignorable d = d
 level (Shown.text p bs) d = d
 level (Shown.word w num) d = d
 level (Shown.unknown p bs num) d = d
+level (Shown.symbol b num) d = d
 
 -- "to the bracket that matches, or to the end": how many tokens that is, where d groups are open
 unfoldable pub extent : ℕ → List Shown → ℕ
@@ -101,6 +104,7 @@ stepBy Shown.ignorable t ts = kept t
 stepBy (Shown.text p bs) t ts = kept t
 stepBy (Shown.word w num) t ts = kept t
 stepBy (Shown.unknown p bs num) t ts = kept t
+stepBy (Shown.symbol b num) t ts = kept t
 
 abbrev pub stepOf : Token → List Token → Step
 stepOf t ts = stepBy (shownIn t) t ts
@@ -113,6 +117,7 @@ passedBy Shown.ignorable ts = 0
 passedBy (Shown.text p bs) ts = 0
 passedBy (Shown.word w num) ts = 0
 passedBy (Shown.unknown p bs num) ts = 0
+passedBy (Shown.symbol b num) ts = 0
 
 -- the same, where w tokens are still to be passed over
 abbrev pub stepsAt : ℕ → Token → List Token → List Step

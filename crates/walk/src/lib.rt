@@ -60,6 +60,7 @@ fn aim_at(i: Item, late: bool) -> Aim
         Item::Opening => Aim::Nothing,
         Item::Closing => Aim::Nothing,
         Item::Unknown(_, _, _) => Aim::Nothing,
+        Item::Symbol(_, _) => Aim::Nothing,
     }
 }
 
@@ -74,6 +75,7 @@ fn is_break(i: Item) -> bool
         Item::Opening => false,
         Item::Closing => false,
         Item::Unknown(_, _, _) => false,
+        Item::Symbol(_, _) => false,
     }
 }
 
@@ -131,6 +133,7 @@ fn level(i: Item, d: usize) -> usize
         Item::Word(_, _) => d,
         Item::Text(_, _) => d,
         Item::Unknown(_, _, _) => d,
+        Item::Symbol(_, _) => d,
     }
 }
 

@@ -5,6 +5,7 @@ use Rattle.bytes.proofs.is_in.Tie as tie
 use Rattle.bytes.proofs.is_in.Reads as reads
 use Rattle.bytes.proofs.is_in.Lts as lts
 use Rattle.bytes.proofs.ends_word.Reads as ends-word-reads
+use Rattle.bytes.proofs.is_alpha.Reads as is-alpha-reads
 use Rattle.bytes.proofs.is_numeral.Reads as is-numeral-reads
 use Rattle.bytes.proofs.is_white.Reads as is-white-reads
 
@@ -38,6 +39,15 @@ is-numeral-requires c κs = search needs
 enum-told-6 : tie.Need-enum-told-6
 enum-told-6 c = search needs
 
+enum-told-7 : tie.Need-enum-told-7
+enum-told-7 c = search needs
+
+is-alpha-requires : tie.Need-is-alpha-requires
+is-alpha-requires c κs = search needs
+
+enum-told-8 : tie.Need-enum-told-8
+enum-told-8 c = search needs
+
 returns : tie.Need-returns
 returns c = cc
 
@@ -56,6 +66,12 @@ returns-5 c = cc
 returns-6 : tie.Need-returns-6
 returns-6 c = cc
 
+returns-7 : tie.Need-returns-7
+returns-7 c = cc
+
+returns-8 : tie.Need-returns-8
+returns-8 c = cc
+
 pub is-in-spec : {M : Type 1} → statement M
 is-in-spec =
     tie.close
@@ -70,9 +86,14 @@ is-in-spec =
     enum-told-5
     is-numeral-requires
     enum-told-6
+    enum-told-7
+    is-alpha-requires
+    enum-told-8
     returns
     returns-2
     returns-3
     returns-4
     returns-5
-    returns-6)
+    returns-6
+    returns-7
+    returns-8)

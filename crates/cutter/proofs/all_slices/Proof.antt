@@ -11,9 +11,9 @@ use Rattle.cutter.proofs.all_slices.Tie as tie
 use Rattle.cutter.proofs.all_slices.Reads as reads
 use Rattle.cutter.proofs.all_slices.Lts as lts
 use Rattle.answers.proofs.Refusal.at.Reads as at-reads
-use Rattle.cutter.proofs.last.Reads as last-reads
+use Rattle.cutter.proofs.last_by.Reads as last-by-reads
 use Rattle.slices.proofs.slice_end.Reads as slice-end-reads
-use Rattle.tokenize.proofs.quick.slice_tokens.Reads as slice-tokens-reads
+use Rattle.cutter.proofs.cut_slice.Reads as cut-slice-reads
 use Rattle.tokens.proofs.seal.Reads as seal-reads
 
 abbrev Inv-loop : tie.InvT-loop
@@ -31,11 +31,11 @@ loop-holds c = loop-start _ _ _ _ (c .if1 .left) (c .before .before .before .pre
 slice-end-by-requires : tie.Need-slice-end-by-requires Inv-loop μ-loop
 slice-end-by-requires c κs = search needs
 
-slice-aggregate-slice-tokens : tie.Need-slice-aggregate-slice-tokens Inv-loop μ-loop
-slice-aggregate-slice-tokens c = simp length-take (omega arith)
+slice-aggregate-cut-slice : tie.Need-slice-aggregate-cut-slice Inv-loop μ-loop
+slice-aggregate-cut-slice c = simp length-take (omega arith)
 
-slice-tokens-requires : tie.Need-slice-tokens-requires Inv-loop μ-loop
-slice-tokens-requires c κs = (simp length-take (omega (arith, c .before .before .before .before .loop .inv .fits, c .before .before .if2 .left)), c .before .before .before .before .loop .inv .below, c .before .before .before .before .before .before .before .before .pre .1)
+cut-slice-requires : tie.Need-cut-slice-requires Inv-loop μ-loop
+cut-slice-requires c κs = (simp length-take (omega (arith, c .before .before .before .before .loop .inv .fits, c .before .before .if2 .left)), c .before .before .before .before .loop .inv .below, c .before .before .before .before .before .before .before .before .pre .1)
 
 enum-known-one : tie.Need-enum-known-one Inv-loop μ-loop
 enum-known-one c = search needs
@@ -47,10 +47,10 @@ at-requires : tie.Need-at-requires Inv-loop μ-loop
 at-requires c κs = search needs
 
 same-length : tie.Need-same-length Inv-loop μ-loop
-same-length c = c .before .before .before .before .before .before .slice-tokens .kept .1 .1 .1 .1 .0 ∙ c .before .before .before .before .before .before .before .before .before .before .before .loop .inv .long
+same-length c = c .before .before .before .before .before .before .cut-slice .kept .1 .1 .1 .1 .0 ∙ c .before .before .before .before .before .before .before .before .before .before .before .loop .inv .long
 
 returns-2 : tie.Need-returns-2 Inv-loop μ-loop
-returns-2 c = loop-stop _ (c .before .before .before .before .before .before .before .before .before .before .before .loop .inv) (c .before .before .before .before .before .before .before .before .before .before .slice-end-by .ensures) (c .before .before .before .before .before .before .before .before .before .if2 .left) (c .before .before .before .before .before .before .slice-tokens .ensures) (c .before .before .one .given .1) refl (c .at .ensures)
+returns-2 c = loop-stop _ (c .before .before .before .before .before .before .before .before .before .before .before .loop .inv) (c .before .before .before .before .before .before .before .before .before .before .slice-end-by .ensures) (c .before .before .before .before .before .before .before .before .before .if2 .left) (c .before .before .before .before .before .before .cut-slice .ensures) (c .before .before .one .given .1) refl (c .at .ensures)
 
 enum-known-one-2 : tie.Need-enum-known-one-2 Inv-loop μ-loop
 enum-known-one-2 c = search needs
@@ -62,7 +62,7 @@ cast-seal-2 : tie.Need-cast-seal-2 Inv-loop μ-loop
 cast-seal-2 c = omega (arith, c .before .before .before .before .before .before .before .before .before .before .before .loop .inv .fits, c .before .before .before .before .before .before .before .before .before .if2 .left)
 
 seal-requires : tie.Need-seal-requires Inv-loop μ-loop
-seal-requires c κs = next-above _ (c .before .before .before .before .before .before .before .before .before .before .before .loop .inv) (c .before .before .before .before .before .before .before .before .before .before .slice-end-by .ensures) (c .before .before .before .before .before .before .before .before .before .if2 .left) (c .before .before .before .before .before .before .slice-tokens .ensures) (c .before .before .one2 .given .1)
+seal-requires c κs = next-above _ (c .before .before .before .before .before .before .before .before .before .before .before .loop .inv) (c .before .before .before .before .before .before .before .before .before .before .slice-end-by .ensures) (c .before .before .before .before .before .before .before .before .before .if2 .left) (c .before .before .before .before .before .before .cut-slice .ensures) (c .before .before .one2 .given .1)
 
 sub-t : tie.Need-sub-t Inv-loop μ-loop
 sub-t c = omega (arith, c .before .before .before .before .before .before .before .before .before .before .before .before .if2 .left)
@@ -80,16 +80,18 @@ loop-less : tie.Need-loop-less Inv-loop μ-loop
 loop-less c = loop-falls _ (c .before .before .before .before .before .before .before .before .before .before .before .before .before .before .before .loop .inv) (c .before .before .before .before .before .before .before .before .before .before .before .before .before .before .slice-end-by .ensures) (c .before .before .before .before .before .before .before .before .before .before .before .before .before .if2 .left)
 
 loop-again : tie.Need-loop-again Inv-loop μ-loop
-loop-again c = loop-next _ (c .before .before .before .before .before .before .before .before .before .before .before .before .before .before .before .loop .inv) (c .before .before .before .before .before .before .before .before .before .before .before .before .before .before .slice-end-by .ensures) (c .before .before .before .before .before .before .before .before .before .before .before .before .before .if2 .left) (c .before .before .before .before .before .before .before .before .before .before .slice-tokens .ensures) (c .before .before .before .before .before .before .one2 .given .1) refl refl (c .before .before .before .seal .ensures)
+loop-again c = loop-next _ (c .before .before .before .before .before .before .before .before .before .before .before .before .before .before .before .loop .inv) (c .before .before .before .before .before .before .before .before .before .before .before .before .before .before .slice-end-by .ensures) (c .before .before .before .before .before .before .before .before .before .before .before .before .before .if2 .left) (c .before .before .before .before .before .before .before .before .before .before .cut-slice .ensures) (c .before .before .before .before .before .before .one2 .given .1) refl refl (c .before .before .before .seal .ensures)
 
-last-requires : tie.Need-last-requires Inv-loop μ-loop
-last-requires c κs = (omega (arith, c .before .before .before .loop .inv .fits, c .before .before .before .loop .inv .some, c .before .before .before .loop .inv .below), omega (arith, c .before .before .before .loop .inv .fits))
+last-by-requires : tie.Need-last-by-requires Inv-loop μ-loop
+last-by-requires c κs =
+    let l = c .before .before .before .loop .inv in
+    (l .fits, omega (arith, l .fits, l .some, l .below), l .below, c .before .before .before .before .before .before .before .pre .1)
 
 same-length-2 : tie.Need-same-length-2 Inv-loop μ-loop
-same-length-2 c = c .before .before .last .kept .1 .1 .0 ∙ c .before .before .before .before .before .before .loop .inv .long
+same-length-2 c = c .before .before .last-by .kept .1 .1 .1 .1 .0 ∙ c .before .before .before .before .before .before .loop .inv .long
 
 returns-3 : tie.Need-returns-3 Inv-loop μ-loop
-returns-3 c = loop-last _ (c .before .before .before .before .before .before .loop .inv) (c .before .before .before .before .before .slice-end-by .ensures) (c .before .before .before .before .if2 .taken) (c .before .before .last .ensures)
+returns-3 c = loop-last _ (c .before .before .before .before .before .before .loop .inv) (c .before .before .before .before .before .slice-end-by .ensures) (c .before .before .before .before .if2 .taken) (c .before .before .last-by .ensures)
 
 pub all-slices-spec : {M : Type 1} → statement M
 all-slices-spec =
@@ -100,8 +102,8 @@ all-slices-spec =
     returns
     loop-holds
     slice-end-by-requires
-    slice-aggregate-slice-tokens
-    slice-tokens-requires
+    slice-aggregate-cut-slice
+    cut-slice-requires
     enum-known-one
     cast-at
     at-requires
@@ -117,6 +119,6 @@ all-slices-spec =
     add-p
     loop-less
     loop-again
-    last-requires
+    last-by-requires
     same-length-2
     returns-3)

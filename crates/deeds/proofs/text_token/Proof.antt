@@ -2,7 +2,7 @@
 use Rattle.answers.specs.Answers.{becomes}
 use Rattle.deeds.proofs.Moves.{took-none}
 use Rattle.runs.proofs.Saying.{ne-pos}
-use Rattle.deeds.proofs.Turning.{turns-bare, turns-text}
+use Rattle.deeds.proofs.Turning.{turns-bare, turns-tell}
 use mathlib.Core.Path.{refl}
 use borrow.Author.Needs.{needs}
 use Rattle.deeds.proofs.text_token.Statement.{statement}
@@ -31,7 +31,7 @@ same-length-2 : tie.Need-same-length-2
 same-length-2 c = search needs
 
 returns-2 : tie.Need-returns-2
-returns-2 c = let s = c .before .before .before .before .before .before .before .before .before .before .before .before .before in turns-text _ _ (s .pre .1) (ne-pos (c .before .before .before .before .before .before .before .before .before .if1 .left)) (s .pre .0) (c .before .before .before .before .before .lay .result) (s .args .page .now) _ (s .args .blocks .now) (s .args .text .now) _ _ (c .before .before .before .before .before .lay .ensures .1) (c .stays .ensures) (s .args .bytes .now) (c .before .before .before .before .before .lay .ensures .0)
+returns-2 c = let s = c .before .before .before .before .before .before .before .before .before .before .before .before .before in turns-tell _ _ (s .pre .1) (ne-pos (c .before .before .before .before .before .before .before .before .before .if1 .left)) (s .pre .0) (c .before .before .before .before .before .lay .result) (s .args .page .now) _ (s .args .blocks .now) (s .args .text .now) _ _ (c .before .before .before .before .before .lay .ensures .1) (c .stays .ensures) (s .args .bytes .now) (c .before .before .before .before .before .lay .ensures .0)
 
 pub text-token-spec : {M : Type 1} → statement M
 text-token-spec =

@@ -19,7 +19,7 @@ returns : tie.Need-returns
 returns c =
     let start = c .before .before .before .before .before in
     let lent = c .before .before .clear-bytes-from-arg .given in
-    read-longer _ (c .before .before .before .if1 .taken) (c .of .ensures) _ _ _ (start .args .text .now) (lent .0 .1) (c .before .clear-bytes-from .ensures)
+    read-longer _ _ (c .before .before .before .if1 .taken) (c .of .ensures) _ _ _ (start .args .text .now) (lent .0 .1) (c .before .clear-bytes-from .ensures)
 
 read-requires : tie.Need-read-requires
 read-requires c κs = search needs
@@ -28,7 +28,7 @@ returns-2 : tie.Need-returns-2
 returns-2 c =
     let rooms = c .before .before .before .before .before .before .before .before .args in
     let e = c .read .ensures in
-    read-taken _ (c .before .before .before .before .before .before .if1 .left)
+    read-taken _ _ (c .before .before .before .before .before .before .if1 .left)
     (rooms .tokens .now) (rooms .fonts .now) (rooms .colours .now) (rooms .blocks .now) (rooms .text .now)
     (c .before .before .before .before .before .read-arg .given .0 .1)
     (c .before .before .before .before .read-arg2 .given .0 .1)

@@ -35,6 +35,9 @@ enum-told-4 c = search needs
 enum-told-5 : tie.Need-enum-told-5
 enum-told-5 c = search needs
 
+enum-told-6 : tie.Need-enum-told-6
+enum-told-6 c = search needs
+
 returns : tie.Need-returns
 returns c = rw (c .before .before .i .given .1) (c .word-effect .ensures)
 
@@ -56,6 +59,9 @@ returns-6 c = rw (c .enum-told4 .given .1)
 returns-7 : tie.Need-returns-7
 returns-7 c = rw (c .enum-told5 .given .1)
 
+returns-8 : tie.Need-returns-8
+returns-8 c = rw (c .enum-told6 .given .1)
+
 pub step-spec : {M : Type 1} → statement M
 step-spec =
     tie.close
@@ -69,10 +75,12 @@ step-spec =
     enum-told-3
     enum-told-4
     enum-told-5
+    enum-told-6
     returns
     returns-2
     returns-3
     returns-4
     returns-5
     returns-6
-    returns-7)
+    returns-7
+    returns-8)

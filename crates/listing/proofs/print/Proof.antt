@@ -12,7 +12,7 @@ cut-requires : tie.Need-cut-requires
 cut-requires c κs = search needs
 
 write-list-requires : tie.Need-write-list-requires
-write-list-requires c κs = list-lines _ _ (c .before .before .before .before .cut .ensures .answer) (c .before .before .before .before .cut .ensures .content) (c .before .before .before .before .cut .kept .1 .1 .0)
+write-list-requires c κs = list-lines _ _ _ (c .before .before .before .before .cut .ensures .answer) (c .before .before .before .before .cut .ensures .content) (c .before .before .before .before .cut .kept .1 .1 .0)
 
 same-length : tie.Need-same-length
 same-length c = search needs

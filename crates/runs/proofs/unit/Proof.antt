@@ -9,7 +9,7 @@ use Rattle.runs.proofs.unit.Lts as lts
 use Rattle.runs.proofs.lay_values.Reads as lay-values-reads
 use Rattle.runs.proofs.put_run.Reads as put-run-reads
 use Rattle.runs.proofs.run_in.Reads as run-in-reads
-use Rattle.units.proofs.step.Reads as step-reads
+use Rattle.runs.proofs.step_by.Reads as step-by-reads
 
 mul-skip : tie.Need-mul-skip
 mul-skip c = search needs
@@ -23,8 +23,8 @@ index-2-skip c = search needs
 run-in-requires : tie.Need-run-in-requires
 run-in-requires c κs = search needs
 
-step-requires : tie.Need-step-requires
-step-requires c κs = search needs
+step-by-requires : tie.Need-step-by-requires
+step-by-requires c κs = search needs
 
 put-run-requires : tie.Need-put-run-requires
 put-run-requires c κs = search needs
@@ -43,9 +43,9 @@ returns c =
     let s = c .before .before .before .before .before .before .before .before .before .before .before .before .before .before .before .before in
     let l = c .before .before .before .before .lay-values in
     let p = c .before .before .before .before .before .before .before .before .put-run in
-    let g = c .before .before .before .before .before .before .before .before .before .before .step .ensures in
+    let g = c .before .before .before .before .before .before .before .before .before .before .step-by .ensures in
     let r = c .before .before .before .before .before .before .before .before .before .before .before .run-in .ensures in
-    (unit-laid _ _ _ r g _ (pageOf (s .args .page .now)) (s .args .blocks .now) (s .args .text .now) (l .ensures .0), (unit-run _ _ _ r g (p .ensures .1), (p .ensures .0, l .ensures .1)))
+    (unit-laid _ _ _ _ r g _ (pageOf (s .args .page .now)) (s .args .blocks .now) (s .args .text .now) (l .ensures .0), (unit-run _ _ _ _ r g (p .ensures .1), (p .ensures .0, l .ensures .1)))
 
 pub unit-spec : {M : Type 1} → statement M
 unit-spec =
@@ -55,7 +55,7 @@ unit-spec =
     index-1-skip
     index-2-skip
     run-in-requires
-    step-requires
+    step-by-requires
     put-run-requires
     lay-values-requires
     same-length

@@ -12,8 +12,8 @@ use Rattle.settings.proofs.act_of.Reads as reads
 use Rattle.settings.proofs.act_of.Lts as lts
 use Rattle.settings.proofs.ending.Reads as ending-reads
 use Rattle.settings.proofs.fit.Reads as fit-reads
-use Rattle.settings.proofs.indent.Reads as indent-reads
 use Rattle.settings.proofs.flag.Reads as flag-reads
+use Rattle.settings.proofs.indent.Reads as indent-reads
 use Rattle.settings.proofs.space.Reads as space-reads
 use Rattle.tokens.proofs.Property.value.Reads as value-reads
 
@@ -220,7 +220,7 @@ returns-37 c =
     let n16 = n8 .0 .0 .0 .0 .0 .0 .0 .0 in
     let n24 = n16 .0 .0 .0 .0 .0 .0 .0 .0 in (
       other-word (c .before .before .args .reading) w num
-          (no-painter w num (sets []) (n24 .0 .0 .0 .0 .0 .0 .0 .0 .1) (n24 .0 .0 .0 .0 .0 .0 .0 .1) (n24 .0 .0 .0 .0 .0 .0 .1) (n24 .0 .0 .0 .0 .0 .1) (n24 .0 .0 .0 .0 .1) (n24 .0 .0 .0 .1) (n24 .0 .0 .1) (n24 .0 .1) (n24 .1) (n16 .0 .0 .0 .0 .0 .0 .0 .1) (n16 .0 .0 .0 .0 .0 .0 .1) (n16 .0 .0 .0 .0 .0 .1))
+          (no-painter w (c .before .before .args .reading) num (sets []) (n24 .0 .0 .0 .0 .0 .0 .0 .0 .1) (n24 .0 .0 .0 .0 .0 .0 .0 .1) (n24 .0 .0 .0 .0 .0 .0 .1) (n24 .0 .0 .0 .0 .0 .1) (n24 .0 .0 .0 .0 .1) (n24 .0 .0 .0 .1) (n24 .0 .0 .1) (n24 .0 .1) (n24 .1) (n16 .0 .0 .0 .0 .0 .0 .0 .1) (n16 .0 .0 .0 .0 .0 .0 .1) (n16 .0 .0 .0 .0 .0 .1))
           (no-paragraph w num (sets []) (n16 .0 .0 .0 .0 .1) (n16 .0 .0 .0 .1) (n16 .0 .0 .1) (n16 .0 .1) (n16 .1) (n8 .0 .0 .0 .0 .0 .0 .0 .1) (n8 .0 .0 .0 .0 .0 .0 .1) (n8 .0 .0 .0 .0 .0 .1) (n8 .0 .0 .0 .0 .1) (n8 .0 .0 .0 .1) (n8 .0 .0 .1))
           (no-character w (sets []) (n8 .0 .1) (n8 .1) (n .0 .0 .0 .0 .0 .0 .0 .1) (n .0 .0 .0 .0 .0 .0 .1) (n .0 .0 .0 .0 .0 .1) (n .0 .0 .0 .0 .1) (n .0 .0 .0 .1) (n .0 .0 .1) (n .0 .1))
           (no-ending w (c .before .before .args .reading) (sets []) (n .1))

@@ -5,7 +5,8 @@ use native.Mathlib.Omega.{arith}
 use lib.ListN.{length}
 use borrow.Author.Needs.{needs}
 use Rattle.slices.specs.Slices.{sliceLength}
-use Rattle.slices.proofs.Ends.{end-short, ends-here, slice-within, At, at-start, at-more, passed, found, found-ends, found-more}
+use Rattle.slices.proofs.Ends.{end-short, ends-here, At, at-start, at-more, passed, found, found-ends, found-more}
+use Rattle.slices.proofs.Slices.{slice-within}
 use Rattle.slices.proofs.slice_end.Statement.{statement}
 use Rattle.slices.proofs.slice_end.Tie as tie
 use Rattle.slices.proofs.slice_end.Reads as reads

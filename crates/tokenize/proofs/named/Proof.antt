@@ -1,19 +1,18 @@
--- `named` meets its contract: no number, a number, or one that is none.
-use mathlib.Core.Path.{refl}
+-- `named` meets its contract: no number, or the word with the number that its bytes write.
 use native.Mathlib.Omega.{arith}
 use lib.ListN.{length-take}
-use Rattle.rooms.proofs.Rooms.{wrote-stop}
+use Rattle.rooms.proofs.Rooms.{wrote-as}
 use Rattle.tokens.specs.Tokens.{shownLayout}
 use Rattle.tokens.proofs.Records.{wrote-token}
-use Rattle.tokenize.proofs.Rules.{named-bare, named-bad, named-is}
+use Rattle.tokenize.proofs.Rules.{named-bare, named-numbered}
 use borrow.Author.Needs.{needs}
 use Rattle.tokenize.proofs.named.Statement.{statement}
 use Rattle.tokenize.proofs.named.Tie as tie
 use Rattle.tokenize.proofs.named.Reads as reads
 use Rattle.tokenize.proofs.named.Lts as lts
 use Rattle.bytes.proofs.body_of.Reads as body-of-reads
-use Rattle.numbers.proofs.decimal_of.Reads as decimal-of-reads
-use Rattle.tokenize.proofs.word_record.Reads as word-record-reads
+use Rattle.controls.proofs.numbered_word.Reads as numbered-word-reads
+use Rattle.controls.proofs.word_record.Reads as word-record-reads
 use Rattle.tokens.proofs.put.Reads as put-reads
 
 body-of-requires : tie.Need-body-of-requires
@@ -25,8 +24,8 @@ word-record-requires c κs = search needs
 put-requires : tie.Need-put-requires
 put-requires c κs = search needs
 
-add-t17 : tie.Need-add-t17
-add-t17 c = search needs
+add-t15 : tie.Need-add-t15
+add-t15 c = search needs
 
 same-length : tie.Need-same-length
 same-length c = search needs
@@ -34,44 +33,26 @@ same-length c = search needs
 returns : tie.Need-returns
 returns c = wrote-token (named-bare _ _ _ (c .before .before .before .before .before .before .body-of .ensures .0) (c .before .before .before .before .before .if1 .taken)) (c .before .before .before .word-record .ensures) (c .before .before .put .ensures)
 
-sub-decimal-of : tie.Need-sub-decimal-of
-sub-decimal-of c = search needs
+slice-aggregate-numbered-word : tie.Need-slice-aggregate-numbered-word
+slice-aggregate-numbered-word c = simp length-take (omega arith)
 
-part-decimal-of-start : tie.Need-part-decimal-of-start
-part-decimal-of-start c = search needs
+sub-numbered-word : tie.Need-sub-numbered-word
+sub-numbered-word c = search needs
 
-part-decimal-of-end : tie.Need-part-decimal-of-end
-part-decimal-of-end c = search needs
+part-numbered-word-start : tie.Need-part-numbered-word-start
+part-numbered-word-start c = search needs
 
-decimal-of-requires : tie.Need-decimal-of-requires
-decimal-of-requires c κs = search needs
+part-numbered-word-end : tie.Need-part-numbered-word-end
+part-numbered-word-end c = search needs
 
-enum-told : tie.Need-enum-told
-enum-told c = search needs
-
-enum-known-number : tie.Need-enum-known-number
-enum-known-number c = search needs
-
-slice-aggregate-word-record : tie.Need-slice-aggregate-word-record
-slice-aggregate-word-record c = simp length-take (omega arith)
-
-word-record-requires-2 : tie.Need-word-record-requires-2
-word-record-requires-2 c κs = (simp length-take (omega arith), search needs)
-
-put-requires-2 : tie.Need-put-requires-2
-put-requires-2 c κs = search needs
-
-add-t30 : tie.Need-add-t30
-add-t30 c = search needs
-
-returns-2 : tie.Need-returns-2
-returns-2 c = wrote-stop shownLayout (named-bad _ _ _ (c .before .before .before .before .before .body-of .ensures .0) (c .before .before .before .before .if1 .left) _ (c .before .before .decimal-of .ensures) (c .enum-told .given .1)) refl
+numbered-word-requires : tie.Need-numbered-word-requires
+numbered-word-requires c κs = (simp length-take (omega arith), search needs, search needs)
 
 same-length-2 : tie.Need-same-length-2
 same-length-2 c = search needs
 
-returns-3 : tie.Need-returns-3
-returns-3 c = wrote-token (named-is _ _ _ (c .before .before .before .before .before .before .before .before .before .before .before .before .body-of .ensures .0) (c .before .before .before .before .before .before .before .before .before .before .before .if1 .left) _ (c .before .before .before .before .before .before .before .before .before .decimal-of .ensures) _ (c .before .before .before .before .before .before .before .number .given .1)) (c .before .before .before .word-record2 .ensures) (c .before .before .put2 .ensures)
+returns-2 : tie.Need-returns-2
+returns-2 c = wrote-as shownLayout (named-numbered _ _ _ (c .before .before .before .before .before .before .before .body-of .ensures .0) (c .before .before .before .before .before .before .if1 .left)) (c .before .before .numbered-word .ensures)
 
 pub named-spec : {M : Type 1} → statement M
 named-spec =
@@ -80,19 +61,13 @@ named-spec =
     body-of-requires
     word-record-requires
     put-requires
-    add-t17
+    add-t15
     same-length
     returns
-    sub-decimal-of
-    part-decimal-of-start
-    part-decimal-of-end
-    decimal-of-requires
-    enum-told
-    enum-known-number
-    slice-aggregate-word-record
-    word-record-requires-2
-    put-requires-2
-    add-t30
-    returns-2
+    slice-aggregate-numbered-word
+    sub-numbered-word
+    part-numbered-word-start
+    part-numbered-word-end
+    numbered-word-requires
     same-length-2
-    returns-3)
+    returns-2)

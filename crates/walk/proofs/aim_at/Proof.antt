@@ -31,6 +31,9 @@ enum-told-5 c = search needs
 enum-told-6 : tie.Need-enum-told-6
 enum-told-6 c = search needs
 
+enum-told-7 : tie.Need-enum-told-7
+enum-told-7 c = search needs
+
 returns : tie.Need-returns
 returns c src = cc
 
@@ -52,6 +55,9 @@ returns-6 c src = cc
 returns-7 : tie.Need-returns-7
 returns-7 c src = cc
 
+returns-8 : tie.Need-returns-8
+returns-8 c src = cc
+
 pub aim-at-spec : {M : Type 1} → statement M
 aim-at-spec =
     tie.close
@@ -64,10 +70,12 @@ aim-at-spec =
     enum-told-4
     enum-told-5
     enum-told-6
+    enum-told-7
     returns
     returns-2
     returns-3
     returns-4
     returns-5
     returns-6
-    returns-7)
+    returns-7
+    returns-8)

@@ -33,6 +33,9 @@ enum-told-6 c = search needs
 enum-told-7 : tie.Need-enum-told-7
 enum-told-7 c = search needs
 
+enum-told-8 : tie.Need-enum-told-8
+enum-told-8 c = search needs
+
 returns : tie.Need-returns
 returns c src = rw (c .enum-told .given .1) (omega arith)
 
@@ -54,6 +57,9 @@ returns-6 c src = cc
 returns-7 : tie.Need-returns-7
 returns-7 c src = cc
 
+returns-8 : tie.Need-returns-8
+returns-8 c src = cc
+
 pub level-spec : {M : Type 1} → statement M
 level-spec =
     tie.close
@@ -67,10 +73,12 @@ level-spec =
     enum-told-5
     enum-told-6
     enum-told-7
+    enum-told-8
     returns
     returns-2
     returns-3
     returns-4
     returns-5
     returns-6
-    returns-7)
+    returns-7
+    returns-8)

@@ -11,7 +11,7 @@ cast-result : tie.Need-cast-result
 cast-result c = let h = trailing-le 64 (c .args .m) in omega (arith, h)
 
 returns : tie.Need-returns
-returns c = λ s n q. first-right s n _ q
+returns c = λ f s n q. first-right f s n _ q
 
 pub first-mark-spec : {M : Type 1} → statement M
 first-mark-spec = tie.close (tie.spec cast-result returns)

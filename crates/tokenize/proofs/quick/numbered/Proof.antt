@@ -1,18 +1,19 @@
 -- `numbered` meets its contract: no number, a number, or one that is none. Assumes nothing.
-use mathlib.Core.Path.{refl}
+use mathlib.Core.Path.{refl, _∙_}
 use native.Mathlib.Omega.{arith}
 use lib.ListN.{length-take}
 use borrow.Author.Needs.{needs}
 use Rattle.rooms.proofs.Rooms.{wrote-stop}
 use Rattle.tokens.specs.Tokens.{shownLayout}
 use Rattle.tokens.proofs.Records.{wrote-token}
-use Rattle.tokenize.proofs.Rules.{named-bare, named-bad, named-is}
+use Rattle.controls.proofs.Words.{numbered-bad, numbered-is}
+use Rattle.tokenize.proofs.Rules.{named-bare, named-numbered}
 use Rattle.tokenize.proofs.quick.numbered.Statement.{statement}
 use Rattle.tokenize.proofs.quick.numbered.Tie as tie
 use Rattle.tokenize.proofs.quick.numbered.Reads as reads
 use Rattle.tokenize.proofs.quick.numbered.Lts as lts
 use Rattle.numbers.proofs.decimal_of.Reads as decimal-of-reads
-use Rattle.tokenize.proofs.word_record.Reads as word-record-reads
+use Rattle.controls.proofs.word_record.Reads as word-record-reads
 use Rattle.tokens.proofs.put.Reads as put-reads
 
 word-record-requires : tie.Need-word-record-requires
@@ -61,13 +62,13 @@ add-t29 : tie.Need-add-t29
 add-t29 c = search needs
 
 returns-2 : tie.Need-returns-2
-returns-2 c = wrote-stop shownLayout (named-bad _ _ _ (c .before .before .before .before .before .before .before .pre .1 .0) (c .before .before .before .before .if1 .left) _ (c .before .before .decimal-of .ensures) (c .enum-told .given .1)) refl
+returns-2 c = wrote-stop shownLayout (named-numbered _ _ _ (c .before .before .before .before .before .before .before .pre .1 .0) (c .before .before .before .before .if1 .left) ∙ numbered-bad _ _ _ _ (c .before .before .decimal-of .ensures) (c .enum-told .given .1)) refl
 
 same-length-2 : tie.Need-same-length-2
 same-length-2 c = search needs
 
 returns-3 : tie.Need-returns-3
-returns-3 c = wrote-token (named-is _ _ _ (c .before .before .before .before .before .before .before .before .before .before .before .before .before .before .pre .1 .0) (c .before .before .before .before .before .before .before .before .before .before .before .if1 .left) _ (c .before .before .before .before .before .before .before .before .before .decimal-of .ensures) _ (c .before .before .before .before .before .before .before .number .given .1)) (c .before .before .before .word-record2 .ensures) (c .before .before .put2 .ensures)
+returns-3 c = wrote-token (named-numbered _ _ _ (c .before .before .before .before .before .before .before .before .before .before .before .before .before .before .pre .1 .0) (c .before .before .before .before .before .before .before .before .before .before .before .if1 .left) ∙ numbered-is _ _ _ _ (c .before .before .before .before .before .before .before .before .before .decimal-of .ensures) _ (c .before .before .before .before .before .before .before .number .given .1)) (c .before .before .before .word-record2 .ensures) (c .before .before .put2 .ensures)
 
 pub numbered-spec : {M : Type 1} → statement M
 numbered-spec =

@@ -1,5 +1,6 @@
 -- `item_at` meets its contract: the kinds are tried in the order of `itemOf`.
-use Rattle.tokens.proofs.Items.{item-opening, item-closing, item-break, item-ignorable, item-word, item-text}
+use Rattle.tokens.proofs.Items.{item-opening, item-closing, item-break, item-ignorable, item-word, item-symbol, item-text}
+use mathlib.Core.Path.{refl}
 use borrow.Author.Needs.{needs}
 use Rattle.tokens.proofs.item.item_at.Statement.{statement}
 use Rattle.tokens.proofs.item.item_at.Tie as tie
@@ -47,8 +48,23 @@ word-item-requires c κs = search needs
 returns-5 : tie.Need-returns-5
 returns-5 c = item-word _ (c .before .before .before .before .before .if5 .taken) (c .before .before .property .ensures .0) (c .word-item .ensures)
 
+shared-slice-read-byte : tie.Need-shared-slice-read-byte
+shared-slice-read-byte c = search needs
+
+shared-slice-read-property-3 : tie.Need-shared-slice-read-property-3
+shared-slice-read-property-3 c = search needs
+
+shared-slice-read-property-4 : tie.Need-shared-slice-read-property-4
+shared-slice-read-property-4 c = search needs
+
+property-requires-2 : tie.Need-property-requires-2
+property-requires-2 c κs = search needs
+
 returns-6 : tie.Need-returns-6
-returns-6 c = item-text _ (c .before .before .before .before .before .before .if1 .left) (c .before .before .before .before .before .if2 .left) (c .before .before .before .before .if3 .left) (c .before .before .before .if4 .left) (c .if5 .left)
+returns-6 c = item-symbol _ (c .before .before .before .before .if6 .taken) refl (c .property2 .ensures .0)
+
+returns-7 : tie.Need-returns-7
+returns-7 c = item-text _ (c .before .before .before .before .before .before .before .if1 .left) (c .before .before .before .before .before .before .if2 .left) (c .before .before .before .before .before .if3 .left) (c .before .before .before .before .if4 .left) (c .before .if5 .left) (c .if6 .left)
 
 pub item-at-spec : {M : Type 1} → statement M
 item-at-spec =
@@ -67,4 +83,9 @@ item-at-spec =
     shared-slice-read-word-item
     word-item-requires
     returns-5
-    returns-6)
+    shared-slice-read-byte
+    shared-slice-read-property-3
+    shared-slice-read-property-4
+    property-requires-2
+    returns-6
+    returns-7)

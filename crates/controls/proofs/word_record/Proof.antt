@@ -1,8 +1,8 @@
 -- `word_record` meets its contract: the word's number is below 49, or it is unknown.
-use Rattle.tokenize.proofs.Rules.{record-known, record-unknown}
+use Rattle.controls.proofs.Words.{record-known, record-unknown}
 use borrow.Author.Needs.{needs}
-use Rattle.tokenize.proofs.word_record.Statement.{statement}
-use Rattle.tokenize.proofs.word_record.Tie as tie
+use Rattle.controls.proofs.word_record.Statement.{statement}
+use Rattle.controls.proofs.word_record.Tie as tie
 
 number-of-requires : tie.Need-number-of-requires
 number-of-requires c κs = search needs

@@ -1,0 +1,2 @@
+-- Controls: a control word by its name and its number.
+pub mod Controls

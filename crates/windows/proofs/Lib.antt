@@ -1,0 +1,2 @@
+-- Laws that the crates above cite. Table: the table as a whole.
+pub mod Table

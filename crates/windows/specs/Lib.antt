@@ -1,0 +1,2 @@
+-- Windows: the table.
+pub mod Windows
