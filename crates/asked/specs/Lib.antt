@@ -1,0 +1,2 @@
+-- Asked: a reading by a digit.
+pub mod Asked
