@@ -1,4 +1,5 @@
 // The reading that a program is asked for: its first argument is the reading's number, as hosts say it; plain if there is none.
+#![tactic(auto)]
 ghost use Rattle.std.specs.Prelude.{◌≡◌};
 ghost use Rattle.asked.specs.Asked.{asked_by};
 

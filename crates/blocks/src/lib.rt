@@ -6,6 +6,7 @@
 //   add      both
 //
 // A block's record is written when it starts, and its length grows with its text: both rooms hold at any time what has been laid.
+#![tactic(auto)]
 mod copy;
 mod record;
 
@@ -37,21 +38,21 @@ pub const FROM: usize = 2;
 pub const PAGE_WORDS: usize = 3;
 
 // `blocks` records and `text` bytes are written; the last block's text starts at `from`.
-#[derive(Drop)]
+#[derive(Clone, Copy)]
 pub struct Page {
     pub blocks: usize,
     pub text: usize,
     pub from: usize,
 }
 
-#[derive(Drop)]
+#[derive(Clone, Copy)]
 pub enum Laid {
     On(Page),
     Full(Refusal),
 }
 
 // Whether text found room, for a new block and for itself.
-#[derive(Drop)]
+#[derive(Clone, Copy)]
 pub enum Room {
     Fits,
     NoBlock,

@@ -5,6 +5,7 @@
 // What one token does is said in `deeds`; `group` tells what of the tokens the walk passes over.
 //
 // States, run and page are lent as arrays: a struct that goes through the loop by value is copied at each token.
+#![tactic(auto)]
 mod group;
 
 ghost use Rattle.std.specs.Prelude.{◌≡◌, [], ◌*◌, ◌≤◌, length};

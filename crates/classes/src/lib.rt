@@ -6,10 +6,11 @@
 //   has_high whether a byte is above 127
 //
 // Every function is total. Tests join by `|` and `&`, which ask no proof by cases.
+#![tactic(auto)]
 ghost use Rattle.std.specs.Prelude.{◌≡◌, ◌≤◌, length};
 ghost use Rattle.classes.specs.Bytes.{is_white, ends_word, is_numeral, is_special, is_letter, is_alpha, is_high, in_class, any, lead, body};
 
-#[derive(Drop)]
+#[derive(Clone, Copy)]
 pub enum Class {
     // 9 to 13 and 32
     White,

@@ -6,6 +6,7 @@
 //   step          a token's effect
 //   colour_word   a colour as its word
 //   read_colours  the whole table
+#![tactic(auto)]
 ghost use Rattle.std.specs.Prelude.{◌≡◌, List, ℕ, ◌*◌, ◌≤◌, length};
 ghost use Rattle.tokens.specs.Items.{tokens_all};
 ghost use Rattle.rooms.specs.Rooms.{table_limit};
@@ -20,14 +21,14 @@ use tokens::{Property, TOKEN_WORDS, words};
 // How many words a colour's record has.
 pub const COLOUR_WORDS: usize = 1;
 
-#[derive(Drop)]
+#[derive(Clone, Copy)]
 pub struct Colour {
     pub red: u32,
     pub green: u32,
     pub blue: u32,
 }
 
-#[derive(Drop)]
+#[derive(Clone, Copy)]
 pub enum Effect {
     Set(Colour),
     Store(Colour),

@@ -5,6 +5,8 @@
 //
 // The word's backslash stands at `place` of a source of at most 65,536 bytes. The table of names is lent by the caller, who takes it
 // once.
+#![tactic(auto)]
+
 ghost use Rattle.std.specs.Prelude.{◌≡◌, ◌+◌, ◌≤◌, length};
 ghost use Rattle.names.specs.Names.{rows};
 ghost use Rattle.numbers.specs.Numbers.{decimal};

@@ -5,6 +5,7 @@
 //   act       a word but `u`, or a symbol
 //   token     any token but a `u` word, behind the run that it ended
 //   turn      any token
+#![tactic(auto)]
 pub mod passing;
 pub mod stack;
 

@@ -11,7 +11,7 @@ use answers::Why;
 use settings::rows::STATES;
 use settings::{State, WIDTH};
 
-#[derive(Drop)]
+#[derive(Clone, Copy)]
 pub enum Moved {
     Holds(usize),
     Refuses(Why),

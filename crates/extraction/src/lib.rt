@@ -4,6 +4,7 @@
 //   extract   the listing, on a page that holds any
 //
 // Both are total.
+#![tactic(auto)]
 pub mod listing;
 
 ghost use Rattle.std.specs.Prelude.{◌≡◌};

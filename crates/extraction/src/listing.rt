@@ -13,7 +13,7 @@ use lines::{append, number, place_item, push, records};
 use parser::{Answer, Counts};
 
 // The number of the answer, and how many bytes its listing has.
-#[derive(Drop)]
+#[derive(Clone, Copy)]
 pub struct Listed {
     pub number: u32,
     pub bytes: usize,

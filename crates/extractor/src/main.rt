@@ -1,5 +1,6 @@
 // The extractor (01, Sample letters): the letter comes by standard input, its listing goes to standard output. It reads plain,
 // or by the reading whose number is the first argument. A read that fails counts as the letter's end.
+#![tactic(auto)]
 ghost use Rattle.lines.specs.Pages.{Front};
 ghost use Rattle.extraction.specs.Extractor.{extracted};
 

@@ -6,6 +6,7 @@
 //   step        a token's effect
 //   refuse      a refusal at a token
 //   read_fonts  the whole table
+#![tactic(auto)]
 mod rows;
 
 ghost use Rattle.std.specs.Prelude.{◌≡◌, ◌*◌, ◌%◌, ◌≤◌, length};
@@ -29,7 +30,7 @@ use tokens::{Property, TOKEN_WORDS, words};
 // How many words a font's record has.
 pub const FONT_WORDS: usize = 3;
 
-#[derive(Drop)]
+#[derive(Clone, Copy)]
 pub enum Effect {
     Set(Font),
     Store(Font),

@@ -10,7 +10,7 @@ ghost use Rattle.fonts.specs.Rows.{Font as Named, row_words, Ascends, Rank, stan
 use crate::FONT_WORDS;
 use answers::{Why, Written};
 
-#[derive(Drop)]
+#[derive(Clone, Copy)]
 pub struct Font {
     pub key: u32,
     pub place: u32,

@@ -1,6 +1,7 @@
 // A letter's text for people: the letter comes by standard input, its text by the specification goes to standard output. A
 // refusal is one line on standard error, its number and its place, and no text. Its rooms hold what any letter of up to 65,536 bytes
 // needs, but for a block every second byte.
+#![tactic(auto)]
 use answers::Refusal;
 use blocks::BLOCK_WORDS;
 use colours::COLOUR_WORDS;

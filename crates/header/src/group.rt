@@ -21,7 +21,7 @@ use fonts::read_fonts;
 use tokens::TOKEN_WORDS;
 use walk::{Aim, aim_of, extent, table_word};
 
-#[derive(Drop)]
+#[derive(Clone, Copy)]
 pub enum Entered {
     On(usize, usize, usize),
     Bad(Refusal),

@@ -1,5 +1,6 @@
 // The header (01, Header walk; `Parser::parse_header` in the crate): the tables among a letter's tokens become records in two
 // lent rooms, and zeros behind them. A later table replaces an earlier one. The walk is linear, as `enter` is.
+#![tactic(auto)]
 pub mod group;
 
 ghost use Rattle.std.specs.Prelude.{◌*◌, ◌≤◌, length};
@@ -18,7 +19,7 @@ use rooms::clear_from;
 use tokens::TOKEN_WORDS;
 
 // How many fonts and colours, or a refusal.
-#[derive(Drop)]
+#[derive(Clone, Copy)]
 pub enum Header {
     Read(usize, usize),
     Refused(Refusal),

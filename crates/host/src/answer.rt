@@ -10,7 +10,7 @@ use parser::Answer;
 
 // How many tokens stand in the room.
 #[repr(C)]
-#[derive(Drop)]
+#[derive(Clone, Copy)]
 pub struct CutAnswer {
     pub refusal: u32,
     pub place: u32,
@@ -19,7 +19,7 @@ pub struct CutAnswer {
 
 // How many tokens, fonts, colours, blocks and text bytes stand in the rooms.
 #[repr(C)]
-#[derive(Drop)]
+#[derive(Clone, Copy)]
 pub struct ReadAnswer {
     pub refusal: u32,
     pub place: u32,
@@ -32,7 +32,7 @@ pub struct ReadAnswer {
 
 // How many blocks and text bytes stand in the rooms.
 #[repr(C)]
-#[derive(Drop)]
+#[derive(Clone, Copy)]
 pub struct StoredAnswer {
     pub refusal: u32,
     pub blocks: usize,
@@ -41,7 +41,7 @@ pub struct StoredAnswer {
 
 // How many bytes stand in the room.
 #[repr(C)]
-#[derive(Drop)]
+#[derive(Clone, Copy)]
 pub struct WriteAnswer {
     pub refusal: u32,
     pub bytes: usize,

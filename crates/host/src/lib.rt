@@ -6,6 +6,7 @@
 //   elduvarn_stored_check, _read, _write             the stored form
 //
 // Every function is total, and says what the crate below says.
+#![tactic(auto)]
 pub mod answer;
 
 ghost use Rattle.readings.specs.Readings.{reading_of};

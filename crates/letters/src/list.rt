@@ -7,7 +7,7 @@ ghost use Rattle.letters.specs.Listed.{FrontWhole};
 pub const LENGTH_BYTES: usize = 4;
 
 // The letter at the front of a list stands from LENGTH_BYTES to `letter`, its listing from `listing` to `end`.
-#[derive(Drop)]
+#[derive(Clone, Copy)]
 pub struct Letter {
     pub letter: usize,
     pub listing: usize,
@@ -15,7 +15,7 @@ pub struct Letter {
 }
 
 // What stands at the front of a list.
-#[derive(Drop)]
+#[derive(Clone, Copy)]
 pub enum Front {
     Letter(Letter),
     CutShort,

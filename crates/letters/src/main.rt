@@ -5,6 +5,7 @@
 //   say     the lines that are written
 //
 // The letters are in data/listings.bin; data/README.md says what it holds and how it was made.
+#![tactic(auto)]
 mod judge;
 mod list;
 mod same;

@@ -2,13 +2,13 @@
 use libc::STDOUT_FILENO;
 
 // How the file ended.
-#[derive(Drop)]
+#[derive(Clone, Copy)]
 pub enum End {
     Whole,
     CutShort,
 }
 
-#[derive(Drop)]
+#[derive(Clone, Copy)]
 pub struct Tally {
     pub letters: usize,
     pub agree: usize,

@@ -5,6 +5,7 @@
 // number as a signed one. A read that fails counts as the letter's end.
 //
 // The list goes out part by part, each whole on its page: the first line, then the lines of so many tokens at a time.
+#![tactic(auto)]
 ghost use Rattle.std.specs.Prelude.{◌≡◌, ◌++◌, ◌-◌, ◌≤◌, length};
 ghost use Rattle.answers.specs.Answers.{outcome_count};
 ghost use Rattle.lines.specs.Lines.{lines};

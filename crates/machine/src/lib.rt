@@ -13,3 +13,4 @@
 //   proofs/Left.antt      what is left of a token where characters are passed over
 //   proofs/Places.antt    the places of tokens, and of refusals
 //   proofs/Cases.antt     small bodies, computed
+#![tactic(auto)]

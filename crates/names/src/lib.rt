@@ -1,6 +1,8 @@
 // The 49 names of control words (01, Cutting; `ControlWord::from` in the crate), and the search for a word's number.
 //
 // A constant is laid out anew at each use, so a caller takes the table once by `table()` and lends it to each search.
+#![tactic(auto)]
+
 ghost use Rattle.std.specs.Prelude.{◌≡◌, ◌≤◌, ◌<◌};
 ghost use Rattle.names.specs.Names.{rows, name_of, same_bytes, word_number};
 

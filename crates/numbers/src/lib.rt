@@ -1,10 +1,11 @@
 // Numbers as a letter writes them (01, Cutting): two hexadecimal digits behind `\'`, the signed decimal that ends a word.
 // `u8::from_str_radix` and `str::parse::<i32>` in the crate. Every public function is total.
+#![tactic(auto)]
 ghost use Rattle.std.specs.Prelude.{◌≡◌, ◌≤◌};
 ghost use Rattle.numbers.specs.Numbers.{hex_digit, hex_pair, digits, decimal};
 
 // A number as the bytes write it, modulo 2^32; or bytes that write none.
-#[derive(Drop)]
+#[derive(Clone, Copy)]
 pub enum Number {
     Is(u32),
     Bad,

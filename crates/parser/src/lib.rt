@@ -4,6 +4,7 @@
 //   parse    the whole: first token, header, body; answers 8 to 20 in 01's order
 //
 // After a refusal the rooms may hold anything. `parse` asks that so many whole records are there, at most 65,536.
+#![tactic(auto)]
 ghost use Rattle.std.specs.Prelude.{◌≡◌, List, ℕ, ◌*◌, ◌≤◌, length};
 ghost use Rattle.tokens.specs.Items.{tokens_all};
 ghost use Rattle.parser.specs.Parsing.{answer_number, answer_place, answer_counts, sizes, begun as begun_of, headed, placed, walked};
@@ -26,7 +27,7 @@ use rooms::{clear_bytes_from, clear_from};
 use tokens::item::slice_at;
 
 // How many records of each kind, and how many bytes of text.
-#[derive(Drop)]
+#[derive(Clone, Copy)]
 pub struct Counts {
     pub tokens: usize,
     pub fonts: usize,
@@ -35,7 +36,7 @@ pub struct Counts {
     pub text: usize,
 }
 
-#[derive(Drop)]
+#[derive(Clone, Copy)]
 pub enum Answer {
     Read(Counts),
     Refuses(Refusal),

@@ -6,7 +6,7 @@ use crate::list::{Answer, word};
 use answers::Outcome;
 
 // What differs first.
-#[derive(Drop)]
+#[derive(Clone, Copy)]
 pub enum Part {
     Refusal,
     Place,
@@ -14,14 +14,14 @@ pub enum Part {
     Word(usize),
 }
 
-#[derive(Drop)]
+#[derive(Clone, Copy)]
 pub struct Difference {
     pub part: Part,
     pub ours: u64,
     pub listed: u64,
 }
 
-#[derive(Drop)]
+#[derive(Clone, Copy)]
 pub enum Verdict {
     Same,
     Differs(Difference),

@@ -18,7 +18,7 @@ pub const ROOM_MOST: usize = 600;
 const RECORD_BYTES: usize = 4 * TOKEN_WORDS;
 
 // An answer at the front of a list. Its letter stands from HEAD_BYTES to `records`, its records from there to `end`.
-#[derive(Drop)]
+#[derive(Clone, Copy)]
 pub struct Answer {
     pub room: usize,
     pub refusal: u32,
@@ -29,7 +29,7 @@ pub struct Answer {
 }
 
 // What stands at the front of a list.
-#[derive(Drop)]
+#[derive(Clone, Copy)]
 pub enum Front {
     Answer(Answer),
     CutShort,

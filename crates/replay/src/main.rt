@@ -5,6 +5,7 @@
 //   say     the lines that are written
 //
 // The list is data/letters.bin; data/README.md says what it holds and how it was made.
+#![tactic(auto)]
 mod judge;
 mod list;
 mod say;

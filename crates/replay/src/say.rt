@@ -6,14 +6,14 @@ use libc::STDOUT_FILENO;
 const LINES_MOST: usize = 10;
 
 // How the list ended.
-#[derive(Drop)]
+#[derive(Clone, Copy)]
 pub enum End {
     Whole,
     CutShort,
     Malformed,
 }
 
-#[derive(Drop)]
+#[derive(Clone, Copy)]
 pub struct Tally {
     pub answers: usize,
     pub differ: usize,

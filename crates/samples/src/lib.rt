@@ -6,3 +6,4 @@
 //   specs/Fonts      telling token lists, and the fonts that each must give
 //
 // proofs/ computes each through the definitions.
+#![tactic(auto)]

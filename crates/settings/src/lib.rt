@@ -7,6 +7,8 @@
 //   rows                        settings done in an array of states, and the style of one
 //
 // A flag is a field, 1 where it is on. Signed numbers stand in two's complement. Every function here is total.
+#![tactic(auto)]
+
 pub mod rows;
 
 ghost use Rattle.std.specs.Prelude.{◌≡◌, cond, ◌<◌};
@@ -62,7 +64,7 @@ pub const SKIP: usize = 20;
 pub const WIDTH: usize = 21;
 
 // Colour and font by key; the size in half points.
-#[derive(Drop)]
+#[derive(Clone, Copy)]
 pub struct Painter {
     pub colour: u32,
     pub font: u32,
@@ -77,7 +79,7 @@ pub struct Painter {
 }
 
 // The space between lines: kind 0 automatic, 1 the value `line`. The indents, `Indentation` in the crate, which never fills it.
-#[derive(Drop)]
+#[derive(Clone, Copy)]
 pub struct Paragraph {
     pub alignment: u32,
     pub before: u32,
@@ -92,14 +94,14 @@ pub struct Paragraph {
 }
 
 // What a bracket saves: style, paragraph, and how many units are skipped behind a `u` word.
-#[derive(Drop)]
+#[derive(Clone, Copy)]
 pub struct State {
     pub painter: Painter,
     pub paragraph: Paragraph,
     pub skip: u32,
 }
 
-#[derive(Drop)]
+#[derive(Clone, Copy)]
 pub enum Act {
     Nothing,
     // a field and its value

@@ -4,6 +4,7 @@
 //   number_at   reads it
 //   put_byte    a byte at its place in a room
 //   put_number  writes a number
+#![tactic(auto)]
 ghost use Rattle.std.specs.Prelude.{◌≡◌, [], ◌∷◌, ◌≤◌, ◌<◌};
 ghost use Rattle.rooms.specs.Rooms.{Wrote, put as put_words};
 ghost use Rattle.sevens.specs.Sevens.{written, number_of, byte_layout, streamed};
@@ -11,7 +12,7 @@ ghost use Rattle.rooms.specs.Streams.{by_refusal};
 
 use answers::Outcome;
 
-#[derive(Drop)]
+#[derive(Clone, Copy)]
 pub enum Numeral {
     Is(u32, usize),
     // a sixth group, not shortest, or above 4,294,967,295

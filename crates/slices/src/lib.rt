@@ -3,6 +3,8 @@
 //   slice_end      the end of the first slice, eight bytes at once
 //   standard_end   the same in standard reading (02, A1)
 //   slice_end_by   the same by the reading: by paragraphs `\` and a carriage return take in a line feed behind them (02, A2)
+#![tactic(auto)]
+
 mod eights;
 
 ghost use Rattle.std.specs.Prelude.{◌≡◌, ◌&&◌, ◌+◌, ◌-◌, ◌≤◌, ◌<◌, length, get_or, take, drop};

@@ -1,6 +1,7 @@
 // Letters in small rooms, which hold other words before: a line for each with the letter, the reading, the rooms' sizes in words
 // and for the text in bytes; the answer, of a refusal its place, and the counts; the text; and whether all behind the counts is zero,
 // which after a refusal is all of every room.
+#![tactic(auto)]
 ghost use Rattle.std.specs.Prelude.{◌≡◌, true, ℕ, ◌*◌, ◌<◌, ◌≤◌, length, get_or};
 ghost use Rattle.tokens.specs.Tokens.{token_words};
 ghost use Rattle.fonts.specs.Rows.{font_words};

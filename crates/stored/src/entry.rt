@@ -17,7 +17,7 @@ use sevens::{Numeral, number_at};
 use styles::{BARE_WORDS, Style};
 use wellformed::is_utf8;
 
-#[derive(Drop)]
+#[derive(Clone, Copy)]
 pub enum Entry {
     Is(Style, usize, usize),
     Bad(Refusal),

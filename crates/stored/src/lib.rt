@@ -4,6 +4,7 @@
 //   read_list  the whole: each room holds its records and zeros, or zeros alone
 //
 // `read_list` is total. It reads blocks by `crate::entry::block_at`.
+#![tactic(auto)]
 pub mod check;
 mod entry;
 
@@ -21,13 +22,13 @@ use sevens::{Numeral, number_at};
 use styles::Style;
 
 // How many blocks, and how many bytes of text.
-#[derive(Drop)]
+#[derive(Clone, Copy)]
 pub struct Counts {
     pub blocks: usize,
     pub text: usize,
 }
 
-#[derive(Drop)]
+#[derive(Clone, Copy)]
 pub enum Answer {
     Read(Counts),
     Refuses(Refusal),

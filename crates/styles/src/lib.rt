@@ -5,6 +5,7 @@
 //   words, at    a style as its words, and the style that words start with
 //   same_style   whether two are the same
 //   is_flush     whether no indent is set
+#![tactic(auto)]
 ghost use Rattle.std.specs.Prelude.{◌≡◌, ◌≤◌, length};
 ghost use Rattle.styles.specs.Styles.{style_width, style_words, style_at, no_style, same_style, flush};
 
@@ -15,7 +16,7 @@ pub const BARE_WORDS: usize = 11;
 
 // Colour and font by key; the size in half points; flags as a sum of bits; the space between lines: kind 0 automatic, 1 the
 // value `line`; the indents left, right and of the first line.
-#[derive(Drop)]
+#[derive(Clone, Copy)]
 pub struct Style {
     pub colour: u32,
     pub font: u32,

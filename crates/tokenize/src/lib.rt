@@ -9,6 +9,7 @@
 // Each function writes its records from place n of the room on, and answers the next place or a refusal. The table of
 // names is lent by the caller, who takes it once. A slice stands at `place` of a source of at most 65,536 bytes, and
 // so far at most one record was written for each byte before it.
+#![tactic(auto)]
 pub mod quick;
 
 ghost use Rattle.std.specs.Prelude.{◌≡◌, ◌+◌, ◌≤◌, ◌<◌, length};

@@ -12,7 +12,7 @@ ghost use Rattle.tokens.specs.Items.{property_of, number_at, word_item, item_at,
 use crate::{Property, SLICE, words};
 use rooms::wide;
 
-#[derive(Drop)]
+#[derive(Clone, Copy)]
 pub enum Item {
     Text(u32, u32),
     Opening,

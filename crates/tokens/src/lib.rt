@@ -7,6 +7,8 @@
 //   seal       writes the two words behind it: place and length of the slice that it was cut from
 //
 // What a slice shows is found by functions that see a part of the slice; the cutter's loop, which holds all of it, seals.
+#![tactic(auto)]
+
 pub mod item;
 pub mod words;
 
@@ -21,13 +23,13 @@ pub const SLICE: usize = 6;
 
 pub const SLICE_LENGTH: usize = 7;
 
-#[derive(Drop)]
+#[derive(Clone, Copy)]
 pub enum Property {
     None,
     Value(u32),
 }
 
-#[derive(Drop)]
+#[derive(Clone, Copy)]
 pub struct Record {
     pub kind: u32,
     pub word: u32,

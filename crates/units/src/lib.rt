@@ -6,13 +6,15 @@
 //   standard_step   the same by the specification (02, A1): no unit is skipped, and a token without one ends the run
 //
 // Every public function is total. A surrogate that is no part of a pair gives U+FFFD.
+#![tactic(auto)]
+
 ghost use Rattle.std.specs.Prelude.{◌≡◌, ltb};
 ghost use Rattle.units.specs.Units.{is_high, is_low, alone as alone_of, pair as pair_of, before as before_of, nothing as nothing_of, cut_short, taken as taken_of, met as met_of, step as step_of, standard_step};
 
 use tokens::Property;
 
 // Whether a unit has come, how many were skipped since the last kept one, a high surrogate that waits (0 if none does).
-#[derive(Drop)]
+#[derive(Clone, Copy)]
 pub struct Run {
     pub begun: bool,
     pub skipped: u32,
@@ -20,7 +22,7 @@ pub struct Run {
 }
 
 // What a token gives: U+FFFD for a waiting surrogate if `lost`, then `value` if `some`.
-#[derive(Drop)]
+#[derive(Clone, Copy)]
 pub struct Gave {
     pub run: Run,
     pub lost: bool,

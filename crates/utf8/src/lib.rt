@@ -1,9 +1,10 @@
 // A Unicode scalar value as UTF-8 (RFC 3629, section 3), by shifts and masks. Every public function is total.
+#![tactic(auto)]
 ghost use Rattle.std.specs.Prelude.{◌≡◌, [], ◌∷◌, ◌+◌, ◌/◌, ◌≤◌, ◌<◌};
 ghost use Rattle.utf8.specs.Utf8.{is_scalar, tail, utf8, padded, encoded_of};
 
 // The bytes of one value: the first `length` of four, and then zeros.
-#[derive(Drop)]
+#[derive(Clone, Copy)]
 pub struct Encoded {
     pub length: usize,
     pub bytes: [u8; 4],

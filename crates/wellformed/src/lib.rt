@@ -5,6 +5,7 @@
 //   ascii         how far ASCII goes on
 //
 // Every public function is total.
+#![tactic(auto)]
 mod ascii;
 
 ghost use Rattle.std.specs.Prelude.{◌≡◌, true, ◌≤◌, ◌<◌, length, drop};
@@ -14,7 +15,7 @@ ghost use Rattle.wellformed.specs.Owed.{owed, ranges, pays, char_length};
 use crate::ascii::{ascii_blocks, ascii_eights};
 
 // How many bytes a character still owes, and the range of the next; those behind it lie in 0x80 to 0xBF.
-#[derive(Drop)]
+#[derive(Clone, Copy)]
 struct Owed {
     count: usize,
     low: u8,

@@ -1,0 +1,13 @@
+-- `of` meets its contract: by whether the number is 1, or 2.
+use borrow.Author.Rules.{rules}
+use borrow.Author.Tests.{eq-eqb, ne_eqb}
+use Rattle.readings.proofs.Reading.of.Goals as goal
+
+pub returns-then-number-eq1 : goal.returns-then-number-eq1
+returns-then-number-eq1 c = rw (eq-eqb _ 1 c.if-number-eq1.true)
+
+pub returns-then-number-eq2 : goal.returns-then-number-eq2
+returns-then-number-eq2 c = rw (ne_eqb _ 1 c.if-number-eq1.false, eq-eqb _ 2 c.if-number-eq2.true)
+
+pub returns : goal.returns
+returns c = rw (ne_eqb _ 1 c.if-number-eq1.false, ne_eqb _ 2 c.if-number-eq2.false)

@@ -1,0 +1,6 @@
+-- `fresh` meets its contract.
+use borrow.Author.Rules.{rules}
+use Rattle.settings.proofs.State.fresh.Goals as goal
+
+pub returns : goal.returns
+returns c = rw (c.fresh-painter.ensures, c.fresh-paragraph.ensures)

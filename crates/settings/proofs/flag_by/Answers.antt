@@ -1,0 +1,14 @@
+-- `flag_by` meets its contract: reading by reading.
+use mathlib.Core.Path.{◌∙◌}
+use Rattle.settings.proofs.Effects.{flag-on}
+use borrow.Author.Rules.{rules}
+use Rattle.settings.proofs.flag_by.Goals as goal
+
+pub returns-in-Plain : goal.returns-in-Plain
+returns-in-Plain c = rw c.in-Plain.is c.bit.ensures
+
+pub returns-in-Paragraphs : goal.returns-in-Paragraphs
+returns-in-Paragraphs c = rw c.in-Paragraphs.is c.bit-in-Paragraphs.ensures
+
+pub returns-in-Standard : goal.returns-in-Standard
+returns-in-Standard c = rw c.in-Standard.is (c.bit-in-Standard.ensures ∙ flag-on c.args.v)

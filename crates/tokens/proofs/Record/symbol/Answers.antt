@@ -1,0 +1,6 @@
+-- `Record::symbol` meets its contract: its fields are what its two callees answer.
+use borrow.Author.Rules.{rules}
+use Rattle.tokens.proofs.Record.symbol.Goals as goal
+
+pub returns : goal.returns
+returns c = cc

@@ -1,0 +1,15 @@
+-- `three` meets its contract: the first byte's bits lie below its mark, and each byte behind it is a tail. Assumes nothing.
+use borrow.Author.Rules.{rules}
+use native.Mathlib.Omega.{arith}
+use Prim.Native.Nat.{◌/◌, ◌<◌}
+use Rattle.utf8.specs.Utf8.{padded}
+use lib.Bits.{or_shifted_r}
+use Rattle.utf8.proofs.Bits.{byte_or}
+use Rattle.utf8.proofs.three.Goals as goal
+
+pub low_byte-a-requires : goal.low_byte-a-requires
+low_byte-a-requires c = let h : c.args.c / 4096 < 256 = omega arith in search (byte_or, rules)
+
+pub returns : goal.returns
+unfolding padded
+returns c = cc (or_shifted_r 7 5 (c.args.c / 4096) (omega arith))
