@@ -7,6 +7,7 @@
 //
 // A block's record is written when it starts, and its length grows with its text: both rooms hold at any time what has been laid.
 #![tactic(auto)]
+
 mod copy;
 mod record;
 
@@ -74,9 +75,9 @@ fn joins(n: usize, s: Style, blocks: &[u32]) -> bool
 // The block that text of a style goes to: the last one, or a new one, without text as yet; false if there is no room for it.
 pub fn start(page: &mut [usize; PAGE_WORDS], s: Style, blocks: &mut [u32]) -> bool
     requires { (length page.old ≡ page_words) × ReadyBlocks (page_of page.old) (length blocks.old) }
-    ensures by_index { (t : List ℕ) → laid_if BlockRoom result (page_of page.new) blocks.new t ≡ start_of (page_of page.old) s blocks.old t }
-    ensures by_index_2 { (v : ℕ) → (page_of page.old).text ≤ text_capacity v → Held page.new (length blocks.old) v }
-    ensures blocks_nonzero { result ≡ true → 0 < (page_of page.new).blocks }
+    ensures laid { (t : List ℕ) → laid_if BlockRoom result (page_of page.new) blocks.new t ≡ start_of (page_of page.old) s blocks.old t }
+    ensures held { (v : ℕ) → (page_of page.old).text ≤ text_capacity v → Held page.new (length blocks.old) v }
+    ensures some { result ≡ true → 0 < (page_of page.new).blocks }
 {
     let n = page[BLOCKS];
     if joins(n, s, blocks) {
@@ -111,7 +112,7 @@ pub fn append(
     text: &mut [u8],
 ) -> bool
     requires { Held page.old (length blocks.old) (length text.old) × (0 < (page_of page.old).blocks) }
-    ensures text_after { laid_if TextRoom result (page_of page.new) blocks.new text.new ≡ append_of (page_of page.old) bytes.now blocks.old text.old }
+    ensures laid { laid_if TextRoom result (page_of page.new) blocks.new text.new ≡ append_of (page_of page.old) bytes.now blocks.old text.old }
     ensures held { Held page.new (length blocks.old) (length text.old) }
 {
     let at = page[TEXT];
@@ -137,7 +138,7 @@ pub fn add(
     text: &mut [u8],
 ) -> Room
     requires { Held page.old (length blocks.old) (length text.old) }
-    ensures text_after { roomed result (page_of page.new) blocks.new text.new ≡ add_of (page_of page.old) s bytes.now blocks.old text.old }
+    ensures laid { roomed result (page_of page.new) blocks.new text.new ≡ add_of (page_of page.old) s bytes.now blocks.old text.old }
     ensures held { Held page.new (length blocks.old) (length text.old) }
 {
     if !start(page, s, blocks) {

@@ -41,7 +41,7 @@ fn finish(
     text: &mut [u8],
 ) -> Laid
     requires { (depth ≤ stack_limit) × (length states.now ≡ stack_limit) × (length run.old ≡ run_words) × Held page.old (length blocks.old) (length text.old) }
-    ensures text_after { told result blocks.new text.new ≡ laid_all (on (page_of page.old) blocks.old text.old) (said rows (held [] states.now depth) (ended (run_of run.old)) parts) }
+    ensures laid { told result blocks.new text.new ≡ laid_all (on (page_of page.old) blocks.old text.old) (said rows (held [] states.now depth) (ended (run_of run.old)) parts) }
     ensures still { Still result (length blocks.old) (length text.old) }
 {
     let room = end_run(states, depth, run, page, blocks, text);
@@ -66,7 +66,7 @@ pub fn lay_body(
     text: &mut [u8],
 ) -> Laid
     requires { (count * token_words ≤ length tokens.now) × (count ≤ 65536) }
-    ensures text_after { told result blocks.new text.new ≡ lay_all (on blank_page blocks.old text.old) (body reading (walk (tokens_all source.now count tokens.now))) }
+    ensures laid { told result blocks.new text.new ≡ lay_all (on blank_page blocks.old text.old) (body reading (walk (tokens_all source.now count tokens.now))) }
     ensures still { Still result (length blocks.old) (length text.old) }
 {
     let mut states = [[0u32; WIDTH]; STATES];

@@ -7,6 +7,7 @@
 //   colour_word   a colour as its word
 //   read_colours  the whole table
 #![tactic(auto)]
+
 ghost use Rattle.std.specs.Prelude.{◌≡◌, List, ℕ, ◌*◌, ◌≤◌, length};
 ghost use Rattle.tokens.specs.Items.{tokens_all};
 ghost use Rattle.rooms.specs.Rooms.{table_limit};

@@ -7,6 +7,7 @@
 //   refuse      a refusal at a token
 //   read_fonts  the whole table
 #![tactic(auto)]
+
 mod rows;
 
 ghost use Rattle.std.specs.Prelude.{◌≡◌, ◌*◌, ◌%◌, ◌≤◌, length};

@@ -72,7 +72,7 @@ fn lay_value(
     text: &mut [u8],
 ) -> Room
     requires { (d < stack_limit) × (length states.now ≡ stack_limit) × Held page.old (length blocks.old) (length text.old) }
-    ensures text_after { roomed result (page_of page.new) blocks.new text.new ≡ laid_all (on (page_of page.old) blocks.old text.old) (spoken rows (get_or states.now d []) (written_all (value_if some value))) }
+    ensures laid { roomed result (page_of page.new) blocks.new text.new ≡ laid_all (on (page_of page.old) blocks.old text.old) (spoken rows (get_or states.now d []) (written_all (value_if some value))) }
     ensures held { Held page.new (length blocks.old) (length text.old) }
 {
     if some {
@@ -91,7 +91,7 @@ fn lay_values(
     text: &mut [u8],
 ) -> Room
     requires { (d < stack_limit) × (length states.now ≡ stack_limit) × Held page.old (length blocks.old) (length text.old) }
-    ensures text_after { roomed result (page_of page.new) blocks.new text.new ≡ laid_all (on (page_of page.old) blocks.old text.old) (spoken rows (get_or states.now d []) (written_all (values g))) }
+    ensures laid { roomed result (page_of page.new) blocks.new text.new ≡ laid_all (on (page_of page.old) blocks.old text.old) (spoken rows (get_or states.now d []) (written_all (values g))) }
     ensures held { Held page.new (length blocks.old) (length text.old) }
 {
     let first = lay_value(states, d, g.lost, 0xFFFD, page, blocks, text);
@@ -143,7 +143,7 @@ pub fn unit(
     text: &mut [u8],
 ) -> Room
     requires { (d < stack_limit) × (length states.now ≡ stack_limit) × (length run.old ≡ run_words) × Held page.old (length blocks.old) (length text.old) }
-    ensures text_after { roomed result (page_of page.new) blocks.new text.new ≡ laid_all (on (page_of page.old) blocks.old text.old) (spoken rows (get_or states.now d []) (written_all (values (step_by reading (get_or (get_or states.now d []) field.skip 0) (run_of run.old) number)))) }
+    ensures laid { roomed result (page_of page.new) blocks.new text.new ≡ laid_all (on (page_of page.old) blocks.old text.old) (spoken rows (get_or states.now d []) (written_all (values (step_by reading (get_or (get_or states.now d []) field.skip 0) (run_of run.old) number)))) }
     ensures run_after { run_of run.new ≡ (step_by reading (get_or (get_or states.now d []) field.skip 0) (run_of run.old) number).run }
     ensures run_len { (length run.new ≡ run_words) × Held page.new (length blocks.old) (length text.old) }
 {
@@ -163,7 +163,7 @@ pub fn end_run(
     text: &mut [u8],
 ) -> Room
     requires { (depth ≤ stack_limit) × (length states.now ≡ stack_limit) × (length run.old ≡ run_words) × Held page.old (length blocks.old) (length text.old) }
-    ensures text_after { roomed result (page_of page.new) blocks.new text.new ≡ laid_all (on (page_of page.old) blocks.old text.old) (said rows (held [] states.now depth) (ended (run_of run.old)) parts) }
+    ensures laid { roomed result (page_of page.new) blocks.new text.new ≡ laid_all (on (page_of page.old) blocks.old text.old) (said rows (held [] states.now depth) (ended (run_of run.old)) parts) }
     ensures run_after { run_of run.new ≡ before }
     ensures run_len { (length run.new ≡ run_words) × Held page.new (length blocks.old) (length text.old) }
 {

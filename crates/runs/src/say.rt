@@ -24,7 +24,7 @@ pub fn lay(
     text: &mut [u8],
 ) -> Room
     requires { (d < stack_limit) × (length states.now ≡ stack_limit) × Held page.old (length blocks.old) (length text.old) }
-    ensures text_after { roomed result (page_of page.new) blocks.new text.new ≡ add_of (page_of page.old) (style_of (get_or states.now d [])) bytes.now blocks.old text.old }
+    ensures laid { roomed result (page_of page.new) blocks.new text.new ≡ add_of (page_of page.old) (style_of (get_or states.now d [])) bytes.now blocks.old text.old }
     ensures held { Held page.new (length blocks.old) (length text.old) }
 {
     let style = style_of(states, d);
@@ -47,7 +47,7 @@ pub fn character(
     text: &mut [u8],
 ) -> Room
     requires { (d < stack_limit) × (length states.now ≡ stack_limit) × Held page.old (length blocks.old) (length text.old) }
-    ensures text_after { roomed result (page_of page.new) blocks.new text.new ≡ add_of (page_of page.old) (style_of (get_or states.now d [])) (written value) blocks.old text.old }
+    ensures laid { roomed result (page_of page.new) blocks.new text.new ≡ add_of (page_of page.old) (style_of (get_or states.now d [])) (written value) blocks.old text.old }
     ensures held { Held page.new (length blocks.old) (length text.old) }
 {
     let e = encode(value);

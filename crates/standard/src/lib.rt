@@ -10,6 +10,7 @@
 // the caller, who takes it once. A slice stands at `place` of a source of at most 65,536 bytes, and so far at most one record was
 // written for each byte before it.
 #![tactic(auto)]
+
 ghost use Rattle.std.specs.Prelude.{◌≡◌, ◌+◌, ◌≤◌, length};
 ghost use Rattle.classes.specs.declared.Class.TheVariants.{Alpha};
 ghost use Rattle.classes.specs.Bytes.{in_class, lead};

@@ -36,7 +36,7 @@ pub enum Answer {
 
 // Lays k blocks onto a page.
 fn lay_blocks(list: &[u8], k: usize, blocks: &mut [u32], text: &mut [u8]) -> Laid
-    ensures text_after { told result blocks.new text.new
+    ensures laid { told result blocks.new text.new
         ≡ lay_all (on blank_page blocks.old text.old) (blocks_from k none list.now) }
     ensures still { Still result (length blocks.old) (length text.old) }
 {
@@ -82,7 +82,7 @@ fn lay_blocks(list: &[u8], k: usize, blocks: &mut [u32], text: &mut [u8]) -> Lai
 
 // Lays a whole list onto a page.
 fn lay_list(list: &[u8], blocks: &mut [u32], text: &mut [u8]) -> Laid
-    ensures text_after { told result blocks.new text.new
+    ensures laid { told result blocks.new text.new
         ≡ lay_all (on blank_page blocks.old text.old) (stored list.now) }
     ensures still { Still result (length blocks.old) (length text.old) }
 {

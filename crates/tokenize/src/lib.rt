@@ -10,6 +10,7 @@
 // names is lent by the caller, who takes it once. A slice stands at `place` of a source of at most 65,536 bytes, and
 // so far at most one record was written for each byte before it.
 #![tactic(auto)]
+
 pub mod quick;
 
 ghost use Rattle.std.specs.Prelude.{◌≡◌, ◌+◌, ◌≤◌, ◌<◌, length};
@@ -81,7 +82,7 @@ fn word_tail(s: &[u8], place: usize, room: &mut [u32], n: usize) -> Written
 // The length without one semicolon at the end.
 fn bare_length(w: &[u8]) -> usize
     ensures value { result ≡ bare_length w.now }
-    ensures upper_bound { result ≤ length w.now }
+    ensures within { result ≤ length w.now }
 {
     let k = w.len();
     if k == 0 {

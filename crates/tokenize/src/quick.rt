@@ -53,8 +53,8 @@ fn ends_at(s: &[u8], k: usize) -> bool
 
 // The token of a word whose name has e bytes, as the code behind `tokenize::word` finds it, but for the search for e.
 fn numbered(w: &[u8], e: usize, place: usize, names: &Table, room: &mut [u32], n: usize) -> Written
-    requires w_bound { (place + (1 + length w.now) ≤ 65536) × (n ≤ place) × (names.now ≡ rows) }
-    requires e_value { (e ≡ body (in_class Numeral) w.now) × (e ≤ length w.now) }
+    requires bounds { (place + (1 + length w.now) ≤ 65536) × (n ≤ place) × (names.now ≡ rows) }
+    requires ends { (e ≡ body (in_class Numeral) w.now) × (e ≤ length w.now) }
     ensures { Wrote shown_layout by_name n room.old (named place w.now) result room.new }
 {
     if e == w.len() {
@@ -121,8 +121,8 @@ fn escaped(
     room: &mut [u32],
     n: usize,
 ) -> Written
-    requires s_bound { (place + length s.now ≤ 65536) × (n ≤ place) × (names.now ≡ rows) }
-    requires s_nonzero { (0 < length s.now) × (get_or s.now 0 0 ≡ 92) }
+    requires bounds { (place + length s.now ≤ 65536) × (n ≤ place) × (names.now ≡ rows) }
+    requires starts { (0 < length s.now) × (get_or s.now 0 0 ≡ 92) }
     ensures { Wrote shown_layout by_name n room.old (tokens_of reading place s.now) result room.new }
 {
     if 1 < s.len() {
@@ -146,8 +146,8 @@ fn marked(
     room: &mut [u32],
     n: usize,
 ) -> Written
-    requires s_bound { (place + length s.now ≤ 65536) × (n ≤ place) × (names.now ≡ rows) }
-    requires s_nonzero { (0 < length s.now) × (is_mark (get_or s.now 0 0) ≡ true) }
+    requires bounds { (place + length s.now ≤ 65536) × (n ≤ place) × (names.now ≡ rows) }
+    requires starts { (0 < length s.now) × (is_mark (get_or s.now 0 0) ≡ true) }
     ensures { Wrote shown_layout by_name n room.old (tokens_of reading place s.now) result room.new }
 {
     if s.len() == 1 {

@@ -209,8 +209,8 @@ walk skip run (n ∷ ns) = values (step skip run n) ++ walk skip (step skip run 
 
 pub walk-rest : {run : Run} (skip : ℕ) (ns : List Property) → Fit run → walk skip run ns ≡ rest skip run ns
 unfolding walk
-walk-rest skip [] f = sym (rest_end skip f)
-walk-rest {run} skip (n ∷ ns) f = rw (walk-rest skip ns (fit-step skip n f)) (sym (rest-step skip n ns f))
+walk-rest {run} skip [] f = sym (rest_end skip f)
+walk-rest {run} skip (n ∷ ns) f = rw (walk-rest {run = (step skip run n).run} skip ns (fit-step skip n f)) (sym (rest-step skip n ns f))
 
 -- ---- in bytes
 

@@ -9,6 +9,7 @@
 // Header and body both walk by these two, and so agree on what is passed over. Each token is looked at once by `aim_of` for
 // the bracket before it and once by `extent`: the walk is linear, as the crate's is not.
 #![tactic(auto)]
+
 ghost use Rattle.std.specs.Prelude.{◌≡◌, List, ℕ, ◌*◌, ◌≤◌, ◌<◌, length};
 ghost use Rattle.tokens.specs.Items.{shown_of, shown_all, tokens_all};
 ghost use Rattle.walk.specs.Walk.{word_aim, aim_at, is_break, aim as aim_of, level as level_of, extent as extent_of, table_word};

@@ -157,7 +157,7 @@ unfolding meaning
 returns-in_default c =
     let w = c.args.w in
     let num = c.args.number in
-    let m = c.in_default.rest in
+    let m = c.in_default.in_default-own.rest in
     let n = m.0.0.0 in
     let n8 = n.0.0.0.0.0.0.0.0 in
     let n16 = n8.0.0.0.0.0.0.0.0 in

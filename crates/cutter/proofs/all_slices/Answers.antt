@@ -1,0 +1,64 @@
+-- `all_slices` meets its contract. The invariant: whoever cuts what is left has cut all; the bytes left are the measure.
+use borrow.Author.Rules.{rules}
+use mathlib.Core.Path.{refl, ◌∙◌}
+use native.Mathlib.Omega.{arith}
+use lib.ListN.{length, length-take}
+use Rattle.rooms.proofs.Rooms.{wrote_none}
+use Rattle.tokens.specs.Tokens.{token_layout}
+use Rattle.cutter.proofs.Loop.{Loop, all_none, loop-start, loop-falls, loop-stop, next-above, loop-next, loop-last}
+use Rattle.cutter.proofs.all_slices.Goals as goal
+
+pub returns-then-s-eq0 : goal.returns-then-s-eq0
+returns-then-s-eq0 c = wrote_none token_layout (all_none _ _ _ c.if-s-eq0.true)
+
+pub loop-t-init : goal.loop-t-init
+loop-t-init c = loop-start _ _ _ _ c.if-s-eq0.false c.requires.0
+
+pub slice_bounds-cut_slice-end : goal.slice_bounds-cut_slice-end
+slice_bounds-cut_slice-end c = simp length-take (omega arith)
+
+pub cut_slice-one-requires : goal.cut_slice-one-requires
+cut_slice-one-requires c = (simp length-take (omega (arith, c.loop-t.invariant.fits, c.if-t-e.false)), c.loop-t.invariant.below, c.requires.1)
+
+pub overflow_cast-p : goal.overflow_cast-p
+overflow_cast-p c = omega (arith, c.loop-t.invariant.fits)
+
+-- GONE same-length
+-- same_length : tie.Need-same-length invariant-loop decreases-loop
+-- same_length c = c.before.before.before.before.before.before.cut-slice.auto.1.1.1.1.0 ∙ c.before.before.before.before.before.before.before.before.before.before.before.loop.invariant.long
+
+pub returns-in-Refused : goal.returns-in-Refused
+returns-in-Refused c = loop-stop _ c.loop-t.invariant (c.slice_end_by-e.ensures.length, (c.slice_end_by-e.ensures.within, c.slice_end_by-e.ensures.some)) c.if-t-e.false c.cut_slice-one.ensures c.in-Refused.is refl c.at.ensures
+
+pub overflow_cast-p-in-Done : goal.overflow_cast-p-in-Done
+overflow_cast-p-in-Done c = omega (arith, c.loop-t.invariant.fits)
+
+pub overflow_cast-e : goal.overflow_cast-e
+overflow_cast-e c = omega (arith, c.loop-t.invariant.fits, c.if-t-e.false)
+
+pub seal-requires : goal.seal-requires
+seal-requires c = next-above _ c.loop-t.invariant (c.slice_end_by-e.ensures.length, (c.slice_end_by-e.ensures.within, c.slice_end_by-e.ensures.some)) c.if-t-e.false c.cut_slice-one.ensures c.in-Done.is
+
+pub slice_bounds-t-count : goal.slice_bounds-t-count
+slice_bounds-t-count c = omega (arith, c.if-t-e.false)
+
+pub overflow_add-p : goal.overflow_add-p
+overflow_add-p c = omega (arith, c.loop-t.invariant.fits, c.if-t-e.false)
+
+pub loop-t-smaller : goal.loop-t-smaller
+loop-t-smaller c = loop-falls _ c.loop-t.invariant (c.slice_end_by-e.ensures.length, (c.slice_end_by-e.ensures.within, c.slice_end_by-e.ensures.some)) c.if-t-e.false
+
+pub loop-t-preserved : goal.loop-t-preserved
+loop-t-preserved c = loop-next _ c.loop-t.invariant (c.slice_end_by-e.ensures.length, (c.slice_end_by-e.ensures.within, c.slice_end_by-e.ensures.some)) c.if-t-e.false c.cut_slice-one.ensures c.in-Done.is refl refl c.seal.ensures
+
+pub last_by-requires : goal.last_by-requires
+last_by-requires c =
+    let l = c.loop-t.invariant in
+    (l.fits, omega (arith, l.fits, l.some, l.below), l.below, c.requires.1)
+
+-- GONE same-length-2
+-- same-length-2 : tie.Need-same-length-2 invariant-loop decreases-loop
+-- same-length-2 c = c.before.before.last-by.auto.1.1.1.1.0 ∙ c.before.before.before.before.before.before.loop.invariant.long
+
+pub returns : goal.returns
+returns c = loop-last _ c.loop-t.invariant (c.slice_end_by-e.ensures.length, (c.slice_end_by-e.ensures.within, c.slice_end_by-e.ensures.some)) c.if-t-e.true c.last_by.ensures

@@ -1,0 +1,9 @@
+-- `unnumbered` meets its contract.
+use Rattle.std.proofs.Common.{refl, rules}
+use Rattle.fonts.proofs.unnumbered.Goals as goal
+
+pub returns-in-Done : goal.returns-in-Done
+returns-in-Done c = rw c.in-Done.is
+
+pub returns-in-Refused : goal.returns-in-Refused
+returns-in-Refused c = rw c.in-Refused.is refl
