@@ -6,6 +6,7 @@
 //   token     any token but a `u` word, behind the run that it ended
 //   turn      any token
 #![tactic(auto)]
+
 pub mod passing;
 pub mod stack;
 

@@ -6,6 +6,7 @@
 //   in_range      whether a style's words are in their ranges
 //   follows       whether a block of a style may stand behind the one before
 #![tactic(auto)]
+
 ghost use Rattle.std.specs.Prelude.{◌≡◌, ◌≤◌, length};
 ghost use Rattle.blocks.specs.Pages.{starts};
 ghost use Rattle.styles.specs.Styles.{style_width, style_words, style_at};

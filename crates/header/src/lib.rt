@@ -1,6 +1,7 @@
 // The header (01, Header walk; `Parser::parse_header` in the crate): the tables among a letter's tokens become records in two
 // lent rooms, and zeros behind them. A later table replaces an earlier one. The walk is linear, as `enter` is.
 #![tactic(auto)]
+
 pub mod group;
 
 ghost use Rattle.std.specs.Prelude.{◌*◌, ◌≤◌, length};

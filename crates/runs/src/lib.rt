@@ -6,6 +6,7 @@
 //   owes      how many characters are passed over behind one
 //   end_run   any other token ends the run
 #![tactic(auto)]
+
 pub mod say;
 
 ghost use Rattle.std.specs.Prelude.{◌≡◌, cond, [], ◌≤◌, ◌<◌, length, get_or};

@@ -5,6 +5,7 @@
 //   put_byte    a byte at its place in a room
 //   put_number  writes a number
 #![tactic(auto)]
+
 ghost use Rattle.std.specs.Prelude.{◌≡◌, [], ◌∷◌, ◌≤◌, ◌<◌};
 ghost use Rattle.rooms.specs.Rooms.{Wrote, put as put_words};
 ghost use Rattle.sevens.specs.Sevens.{written, number_of, byte_layout, streamed};

@@ -6,6 +6,7 @@
 //
 // Every public function is total.
 #![tactic(auto)]
+
 mod ascii;
 
 ghost use Rattle.std.specs.Prelude.{◌≡◌, true, ◌≤◌, ◌<◌, length, drop};

@@ -1,0 +1,21 @@
+-- `font_table` meets its contract: refused by 10, or as the group's tokens are read.
+use native.Mathlib.Omega.{arith}
+use lib.ListN.{length-take}
+use Rattle.header.proofs.Entering.{late-fonts, fonts-read, fonts-bad}
+use borrow.Author.Rules.{rules}
+use Rattle.header.proofs.group.font_table.Goals as goal
+
+pub returns-then-late : goal.returns-then-late
+returns-then-late c = late-fonts _ _ _ _ _ _ c.if-late.true (c.table_word-place.ensures _) c.at.ensures
+
+pub slice_bounds-read_fonts-end : goal.slice_bounds-read_fonts-end
+slice_bounds-read_fonts-end c = let a = c.extent-h.ensures.1 in let b = c.requires.0 in simp length-take (omega arith)
+
+pub read_fonts-o-requires : goal.read_fonts-o-requires
+read_fonts-o-requires c = (let a = c.extent-h.ensures.1 in let b = c.requires.0 in simp length-take (omega arith), (let a = c.extent-h.ensures.1 in let b = c.requires.1 in omega arith))
+
+pub returns-in-Done : goal.returns-in-Done
+returns-in-Done c = fonts-read _ _ _ _ _ _ c.if-late.false (c.extent-h.ensures.0 _) c.extent-h.ensures.1 _ _ c.read_fonts-o.ensures c.in-Done.is
+
+pub returns-in-Refused : goal.returns-in-Refused
+returns-in-Refused c = fonts-bad _ _ _ _ _ _ c.if-late.false (c.extent-h.ensures.0 _) c.extent-h.ensures.1 _ _ c.read_fonts-o.ensures c.in-Refused.is

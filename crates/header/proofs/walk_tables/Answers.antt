@@ -1,0 +1,74 @@
+-- `walk_tables` meets its contract. The invariant: what is left, from the tables in the rooms, gives the whole result. The
+-- measure is how many tokens are left.
+use borrow.Author.Rules.{rules}
+use native.Mathlib.Omega.{arith}
+use mathlib.Core.Path.{◌∙◌}
+use Rattle.header.proofs.Walking.{Walking, walking_start, walking-stay, walking_on, walking-bad, walking-end, walking-ready, on-within, on-small, on-words}
+use Rattle.header.proofs.walk_tables.Goals as goal
+
+pub loop-n-init : goal.loop-n-init
+loop-n-init c = walking_start _ _ _ _ _ c.requires
+
+pub is_opening-opening-requires : goal.is_opening-opening-requires
+is_opening-opening-requires c = let w = c.loop-n.invariant.words in omega arith
+
+pub slice_bounds-t-count : goal.slice_bounds-t-count
+slice_bounds-t-count c = let w = c.loop-n.invariant.words in omega arith
+
+-- GONE slice-bounds-t-start
+-- part-t-start : tie.Need-slice-bounds-t-start invariant-loop decreases-loop
+-- part-t-start c = let w = c.before.before.loop.invariant.words in omega arith
+
+-- GONE slice-bounds-t-end
+-- part-t-end : tie.Need-slice-bounds-t-end invariant-loop decreases-loop
+-- part-t-end c = omega arith
+
+pub enter-e-requires : goal.enter-e-requires
+enter-e-requires c = walking-ready c.loop-n.invariant c.loop-n-test.true c.is_opening-opening.ensures
+
+pub overflow_mul-passed : goal.overflow_mul-passed
+overflow_mul-passed c = let k = on-small c.loop-n.invariant c.loop-n-test.true c.is_opening-opening.ensures c.if-opening.true _ _ _ c.enter-e.ensures c.in-On.is in omega arith
+
+pub offset_bounds-t-passed : goal.offset_bounds-t-passed
+offset_bounds-t-passed c = let k = on-small c.loop-n.invariant c.loop-n-test.true c.is_opening-opening.ensures c.if-opening.true _ _ _ c.enter-e.ensures c.in-On.is in omega arith
+
+pub slice_bounds-t-count-in-On : goal.slice_bounds-t-count-in-On
+slice_bounds-t-count-in-On c = on-words c.loop-n.invariant c.loop-n-test.true c.is_opening-opening.ensures c.if-opening.true _ _ _ c.enter-e.ensures c.in-On.is
+
+-- GONE slice-bounds-t-start-2
+-- part-t-start-2 : tie.Need-slice-bounds-t-start-2 invariant-loop decreases-loop
+-- part-t-start-2 c = on-words c.before.before.before.before.before.before.before.before.before.before.before.before.before.before.loop.invariant c.before.before.before.before.before.before.before.before.before.before.before.before.before.loop-test.true c.before.before.before.before.before.before.before.before.before.before.before.before.is-opening.ensures c.before.before.before.before.before.before.before.before.before.before.if1.true _ _ _ c.before.before.before.before.before.before.before.enter.ensures c.before.e.given.1
+
+-- GONE slice-bounds-t-end-2
+-- part-t-end-2 : tie.Need-slice-bounds-t-end-2 invariant-loop decreases-loop
+-- part-t-end-2 c = omega arith
+
+pub overflow_sub-n-in-On : goal.overflow_sub-n-in-On
+overflow_sub-n-in-On c = on-within c.loop-n.invariant c.loop-n-test.true c.is_opening-opening.ensures c.if-opening.true _ _ _ c.enter-e.ensures c.in-On.is
+
+pub loop-n-smaller-in-On : goal.loop-n-smaller-in-On
+loop-n-smaller-in-On c = omega (arith, on-within c.loop-n.invariant c.loop-n-test.true c.is_opening-opening.ensures c.if-opening.true _ _ _ c.enter-e.ensures c.in-On.is)
+
+pub loop-n-preserved-in-On : goal.loop-n-preserved-in-On
+loop-n-preserved-in-On c = walking_on c.loop-n.invariant c.loop-n-test.true c.is_opening-opening.ensures c.if-opening.true _ _ _ c.enter-e.ensures c.enter-e.auto.fonts c.enter-e.auto.colours c.in-On.is
+
+pub shape_of-fonts-in-Bad : goal.shape_of-fonts-in-Bad
+shape_of-fonts-in-Bad c = c.enter-e.auto.fonts ∙ c.loop-n.invariant.fonts_long
+
+pub shape_of-colours-in-Bad : goal.shape_of-colours-in-Bad
+shape_of-colours-in-Bad c = c.enter-e.auto.colours ∙ c.loop-n.invariant.colours_long
+
+pub returns-in-Bad : goal.returns-in-Bad
+returns-in-Bad c = walking-bad c.loop-n.invariant c.loop-n-test.true c.is_opening-opening.ensures c.if-opening.true _ _ _ c.enter-e.ensures c.in-Bad.is
+
+pub loop-n-preserved : goal.loop-n-preserved
+loop-n-preserved c = walking-stay c.loop-n.invariant c.loop-n-test.true c.is_opening-opening.ensures c.if-opening.false
+
+pub shape_of-fonts : goal.shape_of-fonts
+shape_of-fonts c = c.loop-n.invariant.fonts_long
+
+pub shape_of-colours : goal.shape_of-colours
+shape_of-colours c = c.loop-n.invariant.colours_long
+
+pub returns : goal.returns
+returns c = walking-end c.loop-n.invariant c.loop-n-test.false

@@ -1,0 +1,43 @@
+-- `ascii_blocks` meets its contract: each block that is passed over is ASCII.
+use borrow.Author.Rules.{rules}
+use native.Mathlib.Omega.{arith}
+use mathlib.Core.Path.{sym, ◌∙◌}
+use lib.ListN.{length}
+use Prim.Native.Nat.{◌-◌}
+use Rattle.wellformed.specs.Ascii.{Passed}
+use Rattle.wellformed.proofs.Passing.{passed_none, passed-more, as-part}
+use Rattle.wellformed.proofs.ascii.ascii_blocks.Goals as goal
+
+pub loop-at-init : goal.loop-at-init
+loop-at-init c = passed_none _ _ c.requires
+
+pub overflow_sub-s : goal.overflow_sub-s
+overflow_sub-s c = let w = c.loop-at.invariant.high in omega arith
+
+pub overflow_add-next : goal.overflow_add-next
+overflow_add-next c = let w = c.loop-at.invariant.high in let f = c.well_formed in omega arith
+
+-- GONE slice-bounds-has-high-start
+-- part-has-high-start : tie.Need-slice-bounds-has-high-start invariant-loop decreases-loop
+-- part-has-high-start c = let w = c.before.loop.invariant.high in omega arith
+
+-- GONE slice-bounds-has-high-end
+-- part-has-high-end : tie.Need-slice-bounds-has-high-end invariant-loop decreases-loop
+-- part-has-high-end c = let w = c.before.loop.invariant.high in omega arith
+
+pub returns-then-has_high : goal.returns-then-has_high
+returns-then-has_high c = c.loop-at.invariant
+
+pub loop-at-smaller : goal.loop-at-smaller
+loop-at-smaller c = let w = c.loop-at.invariant.high in omega arith
+
+pub loop-at-preserved : goal.loop-at-preserved
+loop-at-preserved c =
+    let at_high = c in
+    let at-loop = at_high in
+    let start = at-loop in
+    passed-more _ at-loop.loop-at.invariant 64 (omega arith)
+    (as-part start.args.s.now at-loop.loop-at.at 64 (sym at_high.has_high.ensures ∙ c.if-has_high.false))
+
+pub returns : goal.returns
+returns c = c.loop-at.invariant
