@@ -6,6 +6,7 @@
 //
 // States, run and page are lent as arrays: a struct that goes through the loop by value is copied at each token.
 #![tactic(auto)]
+
 mod group;
 
 ghost use Rattle.std.specs.Prelude.{◌≡◌, [], ◌*◌, ◌≤◌, length};

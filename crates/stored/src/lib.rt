@@ -5,6 +5,7 @@
 //
 // `read_list` is total. It reads blocks by `crate::entry::block_at`.
 #![tactic(auto)]
+
 pub mod check;
 mod entry;
 
