@@ -5,6 +5,7 @@
 //
 // After a refusal the rooms may hold anything. `parse` asks that so many whole records are there, at most 65,536.
 #![tactic(auto)]
+
 ghost use Rattle.std.specs.Prelude.{◌≡◌, List, ℕ, ◌*◌, ◌≤◌, length};
 ghost use Rattle.tokens.specs.Items.{tokens_all};
 ghost use Rattle.parser.specs.Parsing.{answer_number, answer_place, answer_counts, sizes, begun as begun_of, headed, placed, walked};

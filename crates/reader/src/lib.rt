@@ -4,6 +4,7 @@
 // `read` is total: every source, every size of room, each of the two readings. What it knows of the cutter and the parser is what
 // they promise.
 #![tactic(auto)]
+
 ghost use Rattle.std.specs.Prelude.{◌≡◌, ◌≤◌, length, replicate};
 ghost use Rattle.cutter.specs.Cutting.{cut_room};
 ghost use Rattle.parser.specs.declared.Counts.{Counts};

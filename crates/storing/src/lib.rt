@@ -7,6 +7,7 @@
 //
 // `write_list` is total. `crate::list::put_list` goes on past a full room and over indents, so that 24 comes before 26 and 25.
 #![tactic(auto)]
+
 mod block;
 mod list;
 mod record;

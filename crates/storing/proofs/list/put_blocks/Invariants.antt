@@ -1,0 +1,14 @@
+-- `put_blocks` meets its contract. The invariant: who writes the blocks of the records left has written all; the words left are
+-- the measure.
+use borrow.Author.Rules.{rules}
+use native.Mathlib.Omega.{arith}
+use lib.ListN.{length, length-take, length-drop}
+use Rattle.storing.proofs.Rows.{Rows, rows_start, rows-stop, rows-over, rows-done, rows_more, row-fit}
+use Rattle.storing.proofs.list.put_blocks.Given as goal
+
+abbrev pub invariant-loop-words : goal.invariant-loop-words
+invariant-loop-words l =
+    Rows l.blocks l.text l.n l.initial.room l.room l.words l.begun l.before l.p l.at
+
+abbrev pub decreases-loop-words : goal.decreases-loop-words
+decreases-loop-words l = length l.words
