@@ -1,9 +1,11 @@
 // The reading that a program is asked for: its first argument is the reading's number, as hosts say it; plain if there is none.
 #![tactic(auto)]
+
 ghost use Rattle.std.specs.Prelude.{◌≡◌};
 ghost use Rattle.asked.specs.Asked.{asked_by};
 
 use readings::Reading;
+use std::env::Env;
 
 // By the argument's first byte.
 fn by_digit(b: u8) -> Reading
@@ -18,11 +20,11 @@ fn by_digit(b: u8) -> Reading
     Reading::Plain
 }
 
-pub fn reading() -> Reading {
+// An argument of more than one byte is plain too.
+pub fn reading(rt: &impl Env) -> Reading {
     let mut word = [0u8; 2];
-    let n = os::arg(1, &mut word);
-    if n != 1 {
-        return Reading::Plain;
+    match rt.arg(1, &mut word) {
+        Ok(1) => by_digit(word[0]),
+        _ => Reading::Plain,
     }
-    by_digit(word[0])
 }

@@ -1,17 +1,19 @@
 // A letter's text for people: the letter comes by standard input, its text by the specification goes to standard output. A
 // refusal is one line on standard error, its number and its place, and no text. Its rooms hold what any letter of up to 65,536 bytes
-// needs, but for a block every second byte.
+// needs, but for a block every second byte. A read or a write that fails ends it with an error.
 #![tactic(auto)]
+
 use answers::Refusal;
 use blocks::BLOCK_WORDS;
 use colours::COLOUR_WORDS;
 use fonts::FONT_WORDS;
-use io::write_all;
-use libc::{STDERR_FILENO, STDIN_FILENO, STDOUT_FILENO};
+use input::fill;
 use lines::number;
 use parser::Answer;
 use reader::read;
 use readings::Reading;
+use std::io;
+use std::io::Input;
 use tokens::TOKEN_WORDS;
 
 // The longest letter, and a byte more, so that a longer one is seen to be longer.
@@ -31,35 +33,38 @@ const TEXT_BYTES: usize = 196608;
 // Two numbers of at most twenty digits, and a byte behind each.
 const LINE_BYTES: usize = 42;
 
-fn refuse(refusal: Refusal) {
+fn refuse(err: &impl Print, refusal: Refusal) -> io::Result<()> {
     let mut line = [0u8; LINE_BYTES];
     let told = number(refusal.number() as u64, b' ', &mut line, 0);
     let end = number(refusal.place as u64, b'\n', &mut line, told);
-    write_all(STDERR_FILENO, &line[..end]);
+    err.write_all(&line[..end])
 }
 
-fn say(answer: Answer, text: &[u8]) {
+fn say(rt: &impl Print, err: &impl Print, answer: Answer, text: &[u8]) -> io::Result<()> {
     match answer {
-        Answer::Refuses(refusal) => refuse(refusal),
+        Answer::Refuses(refusal) => refuse(err, refusal),
         Answer::Read(counts) => {
             let count = counts.text;
             if count <= text.len() {
-                write_all(STDOUT_FILENO, &text[..count]);
+                rt.write_all(&text[..count])?;
             }
+            Ok(())
         }
     }
 }
 
 // Reads the letter, and says its text.
 fn run(
+    rt: &(impl Input + Print),
+    err: &impl Print,
     letter: &mut [u8],
     tokens: &mut [u32],
     fonts: &mut [u32],
     colours: &mut [u32],
     blocks: &mut [u32],
     text: &mut [u8],
-) {
-    let n = io::read_full(STDIN_FILENO, letter);
+) -> io::Result<()> {
+    let n = fill(rt.reader(), letter)?;
     let answer = read(
         &letter[..n],
         Reading::Standard,
@@ -69,21 +74,23 @@ fn run(
         blocks,
         text,
     );
-    say(answer, text);
+    say(rt, err, answer, text)
 }
 
 fn in_rooms(
+    rt: &(impl Input + Print),
+    err: &impl Print,
     letter: &mut [u8; LETTER_BYTES],
     tokens: &mut [u32; TOKEN_ROOM],
     fonts: &mut [u32; FONT_ROOM],
     colours: &mut [u32; COLOUR_ROOM],
     blocks: &mut [u32; BLOCK_ROOM],
     text: &mut [u8; TEXT_BYTES],
-) {
-    run(letter, tokens, fonts, colours, blocks, text);
+) -> io::Result<()> {
+    run(rt, err, letter, tokens, fonts, colours, blocks, text)
 }
 
-fn main() {
+fn main(rt: HostRuntime) -> io::Result<()> {
     let mut letter = [0u8; LETTER_BYTES];
     let mut tokens = [0u32; TOKEN_ROOM];
     let mut fonts = [0u32; FONT_ROOM];
@@ -91,11 +98,13 @@ fn main() {
     let mut blocks = [0u32; BLOCK_ROOM];
     let mut text = [0u8; TEXT_BYTES];
     in_rooms(
+        &rt,
+        &rt.stderr(),
         &mut letter,
         &mut tokens,
         &mut fonts,
         &mut colours,
         &mut blocks,
         &mut text,
-    );
+    )
 }

@@ -6,15 +6,19 @@
 //
 // The letters are in data/listings.bin; data/README.md says what it holds and how it was made.
 #![tactic(auto)]
+
 mod judge;
 mod list;
 mod same;
 mod say;
 
 use extraction::PAGE_BYTES;
+use input::fill;
 use judge::read_and_judge;
 use list::{Front, next};
 use say::{End, Tally};
+use std::fs::Files;
+use std::{fs, io};
 
 // The longest file that is read, and a byte more.
 const FILE_ROOM: usize = 524288;
@@ -23,7 +27,12 @@ const FILE_ROOM: usize = 524288;
 const ANSWERS: usize = 26;
 
 // Every letter of the file, up to its end or to where it is cut short.
-fn replay(file: &[u8], page: &mut [u8; PAGE_BYTES], answers: &mut [u32]) -> Tally {
+fn replay(
+    rt: &impl Print,
+    file: &[u8],
+    page: &mut [u8; PAGE_BYTES],
+    answers: &mut [u32],
+) -> io::Result<Tally> {
     let mut rest = file;
     let mut letters: usize = 0;
     let mut agree: usize = 0;
@@ -32,59 +41,60 @@ fn replay(file: &[u8], page: &mut [u8; PAGE_BYTES], answers: &mut [u32]) -> Tall
         match found {
             Front::Letter(letter) => {
                 let end = letter.end;
-                agree += read_and_judge(rest, letter, page, answers, letters, agree);
+                agree += read_and_judge(rt, rest, letter, page, answers, letters, agree)?;
                 letters += 1;
                 rest = &rest[end..];
             }
             Front::CutShort => {
-                return Tally {
+                return Ok(Tally {
                     letters: letters,
                     agree: agree,
                     end: End::CutShort,
-                };
+                });
             }
         }
     }
-    Tally {
+    Ok(Tally {
         letters: letters,
         agree: agree,
         end: End::Whole,
-    }
+    })
 }
 
 // Reads the file, and judges every letter of it.
-fn run(bytes: &mut [u8], page: &mut [u8; PAGE_BYTES], answers: &mut [u32]) {
-    let file = os::open_read(b"listings.bin");
-    if file < 0 {
-        say::text(b"listings.bin cannot be opened\n");
-        return;
-    }
-    let n = io::read_full(file, bytes);
-    libc::close(file);
+fn run(
+    rt: &(impl Files + Print),
+    bytes: &mut [u8],
+    page: &mut [u8; PAGE_BYTES],
+    answers: &mut [u32],
+) -> io::Result<()> {
+    let Ok(file) = fs::open(rt, "listings.bin") else {
+        return say::text(rt, b"listings.bin cannot be opened\n");
+    };
+    let n = fill(file, bytes)?;
     if n == 0 {
-        say::text(b"listings.bin is empty or cannot be read\n");
-        return;
+        return say::text(rt, b"listings.bin is empty or cannot be read\n");
     }
     if n == bytes.len() {
-        say::text(b"listings.bin is longer than this program reads\n");
-        return;
+        return say::text(rt, b"listings.bin is longer than this program reads\n");
     }
-    let tally = replay(&bytes[..n], page, answers);
-    say::answers(answers);
-    say::last_line(tally);
+    let tally = replay(rt, &bytes[..n], page, answers)?;
+    say::answers(rt, answers)?;
+    say::last_line(rt, tally)
 }
 
 fn in_rooms(
+    rt: &(impl Files + Print),
     bytes: &mut [u8; FILE_ROOM],
     page: &mut [u8; PAGE_BYTES],
     answers: &mut [u32; ANSWERS],
-) {
-    run(bytes, page, answers);
+) -> io::Result<()> {
+    run(rt, bytes, page, answers)
 }
 
-fn main() {
+fn main(rt: HostRuntime) -> io::Result<()> {
     let mut bytes = [0u8; FILE_ROOM];
     let mut page = [0u8; PAGE_BYTES];
     let mut answers = [0u32; ANSWERS];
-    in_rooms(&mut bytes, &mut page, &mut answers);
+    in_rooms(&rt, &mut bytes, &mut page, &mut answers)
 }

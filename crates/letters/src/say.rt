@@ -1,5 +1,5 @@
 // What the program writes to standard output.
-use libc::STDOUT_FILENO;
+use std::io;
 
 // How the file ended.
 #[derive(Clone, Copy)]
@@ -15,53 +15,54 @@ pub struct Tally {
     pub end: End,
 }
 
-pub fn text(bytes: &[u8]) {
-    io::write_all(STDOUT_FILENO, bytes);
+pub fn text(rt: &impl Print, bytes: &[u8]) -> io::Result<()> {
+    rt.write_all(bytes)
 }
 
-pub fn number(n: u64) {
-    io::print_decimal(STDOUT_FILENO, n);
+pub fn number(rt: &impl Print, n: u64) -> io::Result<()> {
+    print!(rt; "{n}")
 }
 
 // A letter, by its index from 0, whose listing is not the expected one.
-pub fn difference(letter: usize, expected: &[u8], ours: &[u8]) {
-    text(b"letter ");
-    number(letter as u64);
-    text(b", expected\n");
-    text(expected);
-    text(b"and got\n");
-    text(ours);
+pub fn difference(rt: &impl Print, letter: usize, expected: &[u8], ours: &[u8]) -> io::Result<()> {
+    text(rt, b"letter ")?;
+    number(rt, letter as u64)?;
+    text(rt, b", expected\n")?;
+    text(rt, expected)?;
+    text(rt, b"and got\n")?;
+    text(rt, ours)
 }
 
-fn answer_line(answer: usize, count: u32) {
-    text(b"answer ");
-    number(answer as u64);
-    text(b": ");
-    number(count as u64);
-    text(b" letters\n");
+fn answer_line(rt: &impl Print, answer: usize, count: u32) -> io::Result<()> {
+    text(rt, b"answer ")?;
+    number(rt, answer as u64)?;
+    text(rt, b": ")?;
+    number(rt, count as u64)?;
+    text(rt, b" letters\n")
 }
 
 // How many letters got each answer, a line for each that was given.
-pub fn answers(counts: &[u32]) {
+pub fn answers(rt: &impl Print, counts: &[u32]) -> io::Result<()> {
     let mut at = 0;
     while at < counts.len() {
         let count = counts[at];
         if 0 < count {
-            answer_line(at, count);
+            answer_line(rt, at, count)?;
         }
         at += 1;
     }
+    Ok(())
 }
 
 // The last line.
-pub fn last_line(tally: Tally) {
-    number(tally.agree as u64);
-    text(b" of ");
-    number(tally.letters as u64);
-    text(b" letters as expected");
+pub fn last_line(rt: &impl Print, tally: Tally) -> io::Result<()> {
+    number(rt, tally.agree as u64)?;
+    text(rt, b" of ")?;
+    number(rt, tally.letters as u64)?;
+    text(rt, b" letters as expected")?;
     let end = tally.end;
     match end {
-        End::Whole => text(b"\n"),
-        End::CutShort => text(b", and then the file is cut short\n"),
+        End::Whole => text(rt, b"\n"),
+        End::CutShort => text(rt, b", and then the file is cut short\n"),
     }
 }

@@ -6,6 +6,7 @@
 //   place_item     a refusal's place, behind its number
 //   records        the records of a room, one a line, each word with its sign
 #![tactic(auto)]
+
 ghost use Rattle.std.specs.Prelude.{◌≡◌, ◌+◌, ◌≤◌, length, [], ◌∷◌, ◌++◌};
 ghost use Rattle.lines.specs.Pages.{Put};
 ghost use Rattle.lines.specs.Lines.{signed as signed_text, mark, line, lines, item, place_item};

@@ -2,10 +2,11 @@
 // number is the first argument.
 //
 // The first line has the answer's number, of a refusal its place, and the count of tokens. Then each token has a line: its words in decimal, with the
-// number as a signed one. A read that fails counts as the letter's end.
+// number as a signed one. A read or a write that fails ends the program with an error.
 //
 // The list goes out part by part, each whole on its page: the first line, then the lines of so many tokens at a time.
 #![tactic(auto)]
+
 ghost use Rattle.std.specs.Prelude.{◌≡◌, ◌++◌, ◌-◌, ◌≤◌, length};
 ghost use Rattle.answers.specs.Answers.{outcome_count};
 ghost use Rattle.lines.specs.Lines.{lines};
@@ -14,9 +15,12 @@ ghost use Rattle.tokens.specs.Tokens.{token_words};
 ghost use Rattle.listing.specs.Tokens.{part_tokens, first_line, token_lines, token_part};
 
 use answers::Outcome;
-use libc::{STDIN_FILENO, STDOUT_FILENO};
+use input::fill;
 use lines::{number, place_item, records};
 use readings::Reading;
+use std::env::Env;
+use std::io;
+use std::io::Input;
 use tokens::TOKEN_WORDS;
 
 // The longest letter, and a byte more, so that a longer one is seen to be longer.
@@ -58,20 +62,29 @@ fn part(room: &[u32], count: usize, page: &mut [u8; PAGE_BYTES]) -> usize
     records(&room[..PART_WORDS], count, TOKEN_WORDS, page, 0)
 }
 
-fn write(page: &[u8], bytes: usize)
+fn write(rt: &impl Print, page: &[u8], bytes: usize) -> io::Result<()>
     requires { bytes ≤ length page.now }
 {
-    io::write_all(STDOUT_FILENO, &page[..bytes]);
+    rt.write_all(&page[..bytes])
 }
 
-fn write_first_line(outcome: Outcome, page: &mut [u8; PAGE_BYTES]) {
+fn write_first_line(
+    rt: &impl Print,
+    outcome: Outcome,
+    page: &mut [u8; PAGE_BYTES],
+) -> io::Result<()> {
     let bytes = whole_first_line(outcome, page);
-    write(page, bytes);
+    write(rt, page, bytes)
 }
 
-fn write_part(room: &[u32], count: usize, page: &mut [u8; PAGE_BYTES]) {
+fn write_part(
+    rt: &impl Print,
+    room: &[u32],
+    count: usize,
+    page: &mut [u8; PAGE_BYTES],
+) -> io::Result<()> {
     let bytes = part(room, count, page);
-    write(page, bytes);
+    write(rt, page, bytes)
 }
 
 // How many tokens are left behind a part.
@@ -85,54 +98,72 @@ fn behind_part(count: usize) -> usize
 }
 
 // Writes the lines of the first `count` tokens of a room, part by part.
-fn write_tokens(room: &[u32], count: usize, page: &mut [u8; PAGE_BYTES]) {
+fn write_tokens(
+    rt: &impl Print,
+    room: &[u32],
+    count: usize,
+    page: &mut [u8; PAGE_BYTES],
+) -> io::Result<()> {
     let mut rest = room;
     let mut left = count;
     while PART_WORDS <= rest.len() {
-        write_part(rest, left, page);
+        write_part(rt, rest, left, page)?;
         rest = &rest[PART_WORDS..];
         left = behind_part(left);
     }
-    write_part(rest, left, page);
+    write_part(rt, rest, left, page)
 }
 
 // Writes a letter's list: that is the answer's line and the lines of the room's tokens. Reading and letter are named for the
 // promise alone.
 fn write_list(
+    rt: &impl Print,
     reading: Reading,
     letter: &[u8],
     outcome: Outcome,
     room: &[u32],
     page: &mut [u8; PAGE_BYTES],
-)
+) -> io::Result<()>
     requires { token_lines reading letter.now (length room.now) ≡ first_line outcome ++ lines token_words (outcome_count outcome) room.now }
 {
-    write_first_line(outcome, page);
-    write_tokens(room, outcome.count(), page);
+    write_first_line(rt, outcome, page)?;
+    write_tokens(rt, room, outcome.count(), page)
 }
 
-fn print(reading: Reading, letter: &[u8], room: &mut [u32], page: &mut [u8; PAGE_BYTES]) {
+fn print(
+    rt: &impl Print,
+    reading: Reading,
+    letter: &[u8],
+    room: &mut [u32],
+    page: &mut [u8; PAGE_BYTES],
+) -> io::Result<()> {
     let outcome = cutter::cut(letter, reading, room);
-    write_list(reading, letter, outcome, room, page);
+    write_list(rt, reading, letter, outcome, room, page)
 }
 
 // Reads the letter, and prints its list.
-fn run(letter: &mut [u8], room: &mut [u32], page: &mut [u8; PAGE_BYTES]) {
-    let n = io::read_full(STDIN_FILENO, letter);
-    print(asked::reading(), &letter[..n], room, page);
+fn run(
+    rt: &(impl Input + Env + Print),
+    letter: &mut [u8],
+    room: &mut [u32],
+    page: &mut [u8; PAGE_BYTES],
+) -> io::Result<()> {
+    let n = fill(rt.reader(), letter)?;
+    print(rt, asked::reading(rt), &letter[..n], room, page)
 }
 
 fn in_rooms(
+    rt: &(impl Input + Env + Print),
     letter: &mut [u8; LETTER_BYTES],
     room: &mut [u32; ROOM_WORDS],
     page: &mut [u8; PAGE_BYTES],
-) {
-    run(letter, room, page);
+) -> io::Result<()> {
+    run(rt, letter, room, page)
 }
 
-fn main() {
+fn main(rt: HostRuntime) -> io::Result<()> {
     let mut letter = [0u8; LETTER_BYTES];
     let mut room = [0u32; ROOM_WORDS];
     let mut page = [0u8; PAGE_BYTES];
-    in_rooms(&mut letter, &mut room, &mut page);
+    in_rooms(&rt, &mut letter, &mut room, &mut page)
 }

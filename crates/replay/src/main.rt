@@ -6,18 +6,22 @@
 //
 // The list is data/letters.bin; data/README.md says what it holds and how it was made.
 #![tactic(auto)]
+
 mod judge;
 mod list;
 mod say;
 
-ghost use Rattle.std.specs.Prelude.{◌≤◌, length};
+ghost use Rattle.std.specs.Prelude.{◌≤◌, length, IfOk};
 ghost use Rattle.cutter.specs.Cutting.{cut_answer, cut_room};
 ghost use Rattle.replay.specs.Listed.{Whole, Judged};
 
+use input::fill;
 use judge::{Verdict, compare};
 use list::{Answer, Front, HEAD_BYTES, ROOM_MOST, next};
 use readings::Reading;
 use say::{End, Tally};
+use std::fs::Files;
+use std::{fs, io};
 
 // What every word of a room holds before the cut: no word that the cutter should leave there.
 const JUNK: u32 = 0xa5a5_5a5a;
@@ -27,9 +31,7 @@ const LIST_ROOM: usize = 524288;
 
 // Cuts a letter in a room, whatever that holds, and compares.
 fn cut_and_compare(letter: &[u8], records: &[u8], answer: Answer, room: &mut [u32]) -> Verdict
-    ensures* { do
-      words ← (⟦room.len()⟧).entry
-      ⌜ Judged (cut_answer Reading.Plain letter.now words) (cut_room Reading.Plain letter.now words) answer records.now result ⌝ }
+    ensures { Judged (cut_answer Reading.Plain letter.now (length room.old)) (cut_room Reading.Plain letter.now (length room.old)) answer records.now result }
 {
     let outcome = cutter::cut(letter, Reading::Plain, room);
     compare(outcome, room, answer, records)
@@ -52,20 +54,20 @@ fn replay_one(list: &[u8], answer: Answer) -> Verdict
 }
 
 // 1 where an answer differs, which is then said, and 0 where it is the same. `answers` and `differ` count those before.
-fn tell(verdict: Verdict, answers: usize, differ: usize) -> usize
-    ensures { result ≤ 1 }
+fn tell(rt: &impl Print, verdict: Verdict, answers: usize, differ: usize) -> io::Result<usize>
+    ensures { IfOk result (λ n. n ≤ 1) }
 {
     match verdict {
-        Verdict::Same => 0,
+        Verdict::Same => Ok(0),
         Verdict::Differs(difference) => {
-            say::line(difference, answers, differ);
-            1
+            say::line(rt, difference, answers, differ)?;
+            Ok(1)
         }
     }
 }
 
 // Every answer of the list, up to its end or to what is no answer.
-fn replay(list: &[u8]) -> Tally {
+fn replay(rt: &impl Print, list: &[u8]) -> io::Result<Tally> {
     let mut rest = list;
     let mut answers: usize = 0;
     let mut differ: usize = 0;
@@ -74,58 +76,53 @@ fn replay(list: &[u8]) -> Tally {
         match found {
             Front::Answer(answer) => {
                 let end = answer.end;
-                differ += tell(replay_one(rest, answer), answers, differ);
+                differ += tell(rt, replay_one(rest, answer), answers, differ)?;
                 answers += 1;
                 rest = &rest[end..];
             }
             Front::CutShort => {
-                return Tally {
+                return Ok(Tally {
                     answers: answers,
                     differ: differ,
                     end: End::CutShort,
-                };
+                });
             }
             Front::Malformed => {
-                return Tally {
+                return Ok(Tally {
                     answers: answers,
                     differ: differ,
                     end: End::Malformed,
-                };
+                });
             }
         }
     }
-    Tally {
+    Ok(Tally {
         answers: answers,
         differ: differ,
         end: End::Whole,
-    }
+    })
 }
 
 // Reads the list and replays it.
-fn run(list: &mut [u8]) {
-    let file = os::open_read(b"letters.bin");
-    if file < 0 {
-        say::text(b"letters.bin cannot be opened\n");
-        return;
-    }
-    let n = io::read_full(file, list);
-    libc::close(file);
+fn run(rt: &(impl Files + Print), list: &mut [u8]) -> io::Result<()> {
+    let Ok(file) = fs::open(rt, "letters.bin") else {
+        return say::text(rt, b"letters.bin cannot be opened\n");
+    };
+    let n = fill(file, list)?;
     if n == 0 {
-        say::text(b"letters.bin is empty or cannot be read\n");
-        return;
+        return say::text(rt, b"letters.bin is empty or cannot be read\n");
     }
     if n == list.len() {
-        say::text(b"letters.bin is longer than this program reads\n");
-        return;
+        return say::text(rt, b"letters.bin is longer than this program reads\n");
     }
-    say::last_line(replay(&list[..n]));
+    say::last_line(rt, replay(rt, &list[..n])?)
 }
 
-fn in_room(list: &mut [u8; LIST_ROOM]) {
-    run(list);
+fn in_room(rt: &(impl Files + Print), list: &mut [u8; LIST_ROOM]) -> io::Result<()> {
+    run(rt, list)
 }
 
-fn main() {
+fn main(rt: HostRuntime) -> io::Result<()> {
     let mut list = [0u8; LIST_ROOM];
-    in_room(&mut list);
+    in_room(&rt, &mut list)
 }

@@ -1,6 +1,6 @@
 // What the program writes to standard output.
 use crate::judge::{Difference, Part};
-use libc::STDOUT_FILENO;
+use std::io;
 
 // At most so many differences are said one by one.
 const LINES_MOST: usize = 10;
@@ -20,48 +20,53 @@ pub struct Tally {
     pub end: End,
 }
 
-pub fn text(bytes: &[u8]) {
-    io::write_all(STDOUT_FILENO, bytes);
+pub fn text(rt: &impl Print, bytes: &[u8]) -> io::Result<()> {
+    rt.write_all(bytes)
 }
 
-fn number(n: u64) {
-    io::print_decimal(STDOUT_FILENO, n);
+fn number(rt: &impl Print, n: u64) -> io::Result<()> {
+    print!(rt; "{n}")
 }
 
 // One line for a difference of the answer at an index, from 0, unless enough were said before.
-pub fn line(difference: Difference, answer: usize, differ: usize) {
+pub fn line(
+    rt: &impl Print,
+    difference: Difference,
+    answer: usize,
+    differ: usize,
+) -> io::Result<()> {
     if LINES_MOST <= differ {
-        return;
+        return Ok(());
     }
-    text(b"answer ");
-    number(answer as u64);
+    text(rt, b"answer ")?;
+    number(rt, answer as u64)?;
     let part = difference.part;
     match part {
-        Part::Refusal => text(b": refusal"),
-        Part::Place => text(b": place"),
-        Part::Count => text(b": count of tokens"),
+        Part::Refusal => text(rt, b": refusal"),
+        Part::Place => text(rt, b": place"),
+        Part::Count => text(rt, b": count of tokens"),
         Part::Word(at) => {
-            text(b": word ");
-            number(at as u64);
-            text(b" of the room");
+            text(rt, b": word ")?;
+            number(rt, at as u64)?;
+            text(rt, b" of the room")
         }
-    }
-    text(b" is ");
-    number(difference.ours);
-    text(b", listed is ");
-    number(difference.listed);
-    text(b"\n");
+    }?;
+    text(rt, b" is ")?;
+    number(rt, difference.ours)?;
+    text(rt, b", listed is ")?;
+    number(rt, difference.listed)?;
+    text(rt, b"\n")
 }
 
 // The last line.
-pub fn last_line(tally: Tally) {
-    number(tally.answers as u64);
-    text(b" answers replayed, ");
-    number(tally.differ as u64);
+pub fn last_line(rt: &impl Print, tally: Tally) -> io::Result<()> {
+    number(rt, tally.answers as u64)?;
+    text(rt, b" answers replayed, ")?;
+    number(rt, tally.differ as u64)?;
     let end = tally.end;
     match end {
-        End::Whole => text(b" differ\n"),
-        End::CutShort => text(b" differ, and then the list is cut short\n"),
-        End::Malformed => text(b" differ, and then the list is malformed\n"),
+        End::Whole => text(rt, b" differ\n"),
+        End::CutShort => text(rt, b" differ, and then the list is cut short\n"),
+        End::Malformed => text(rt, b" differ, and then the list is malformed\n"),
     }
 }

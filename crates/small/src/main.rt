@@ -2,6 +2,7 @@
 // and for the text in bytes; the answer, of a refusal its place, and the counts; the text; and whether all behind the counts is zero,
 // which after a refusal is all of every room.
 #![tactic(auto)]
+
 ghost use Rattle.std.specs.Prelude.{◌≡◌, true, ℕ, ◌*◌, ◌<◌, ◌≤◌, length, get_or};
 ghost use Rattle.tokens.specs.Tokens.{token_words};
 ghost use Rattle.fonts.specs.Rows.{font_words};
@@ -11,9 +12,9 @@ ghost use Rattle.blocks.specs.Pages.{block_words};
 use blocks::BLOCK_WORDS;
 use colours::COLOUR_WORDS;
 use fonts::FONT_WORDS;
-use libc::STDOUT_FILENO;
 use parser::{Answer, Counts};
 use readings::Reading;
+use std::io;
 use tokens::TOKEN_WORDS;
 
 // No word or byte that the reader should leave.
@@ -37,12 +38,12 @@ const THREE: usize = 3 * TOKEN_WORDS;
 
 const FIVE: usize = 5 * TOKEN_WORDS;
 
-fn text(bytes: &[u8]) {
-    io::write_all(STDOUT_FILENO, bytes);
+fn text(rt: &impl Print, bytes: &[u8]) -> io::Result<()> {
+    rt.write_all(bytes)
 }
 
-fn number(n: u64) {
-    io::print_decimal(STDOUT_FILENO, n);
+fn number(rt: &impl Print, n: u64) -> io::Result<()> {
+    print!(rt; "{n}")
 }
 
 // The first word behind so many records, or behind those that the room has whole.
@@ -92,26 +93,27 @@ fn zero_bytes_from(room: &[u8], from: usize) -> bool
 }
 
 // A number behind a space.
-fn item(n: usize) {
-    text(b" ");
-    number(n as u64);
+fn item(rt: &impl Print, n: usize) -> io::Result<()> {
+    text(rt, b" ")?;
+    number(rt, n as u64)
 }
 
-fn byte_item(byte: u8) {
-    item(byte as usize);
+fn byte_item(rt: &impl Print, byte: u8) -> io::Result<()> {
+    item(rt, byte as usize)
 }
 
 // The bytes of a text, as numbers.
-fn bytes(all: &[u8], count: usize) {
+fn bytes(rt: &impl Print, all: &[u8], count: usize) -> io::Result<()> {
     let mut i = 0;
     while i < count {
         if all.len() <= i {
-            return;
+            return Ok(());
         }
         let byte = all[i];
-        byte_item(byte);
+        byte_item(rt, byte)?;
         i += 1;
     }
+    Ok(())
 }
 
 fn reading_of(paragraphs: bool) -> Reading {
@@ -122,6 +124,7 @@ fn reading_of(paragraphs: bool) -> Reading {
 }
 
 fn say_question(
+    rt: &impl Print,
     letter: &[u8],
     paragraphs: bool,
     tokens: usize,
@@ -129,36 +132,37 @@ fn say_question(
     colours: usize,
     blocks: usize,
     room: usize,
-) {
-    text(letter);
+) -> io::Result<()> {
+    text(rt, letter)?;
     if paragraphs {
-        text(b" by paragraphs in");
+        text(rt, b" by paragraphs in")?;
     } else {
-        text(b" in");
+        text(rt, b" in")?;
     }
-    item(tokens);
-    item(fonts);
-    item(colours);
-    item(blocks);
-    item(room);
+    item(rt, tokens)?;
+    item(rt, fonts)?;
+    item(rt, colours)?;
+    item(rt, blocks)?;
+    item(rt, room)
 }
 
 // Answer, of a refusal its place, counts and text.
-fn say_told(told: u32, place: u32, counts: Counts, room: &[u8]) {
-    text(b": ");
-    number(told as u64);
+fn say_told(rt: &impl Print, told: u32, place: u32, counts: Counts, room: &[u8]) -> io::Result<()> {
+    text(rt, b": ")?;
+    number(rt, told as u64)?;
     if told != 0 {
-        item(place as usize);
+        item(rt, place as usize)?;
     }
-    item(counts.tokens);
-    item(counts.fonts);
-    item(counts.colours);
-    item(counts.blocks);
-    item(counts.text);
+    item(rt, counts.tokens)?;
+    item(rt, counts.fonts)?;
+    item(rt, counts.colours)?;
+    item(rt, counts.blocks)?;
+    item(rt, counts.text)?;
     if 0 < counts.text {
-        text(b", text");
-        bytes(room, counts.text);
+        text(rt, b", text")?;
+        bytes(rt, room, counts.text)?;
     }
+    Ok(())
 }
 
 // Whether a room of records is zero behind so many.
@@ -168,28 +172,30 @@ fn rest_zero(room: &[u32], count: usize, width: usize) -> bool {
 }
 
 fn say_answer(
+    rt: &impl Print,
     answer: Answer,
     tokens: &[u32],
     fonts: &[u32],
     colours: &[u32],
     blocks: &[u32],
     room: &[u8],
-) {
+) -> io::Result<()> {
     let counts = answer.counts();
-    say_told(answer.number(), answer.place(), counts, room);
+    say_told(rt, answer.number(), answer.place(), counts, room)?;
     let token_rest = rest_zero(tokens, counts.tokens, TOKEN_WORDS);
     let font_rest = rest_zero(fonts, counts.fonts, FONT_WORDS);
     let colour_rest = rest_zero(colours, counts.colours, COLOUR_WORDS);
     let block_rest = rest_zero(blocks, counts.blocks, BLOCK_WORDS);
     let text_rest = zero_bytes_from(room, counts.text);
     if token_rest & font_rest & colour_rest & block_rest & text_rest {
-        text(b", the rest zero\n");
+        text(rt, b", the rest zero\n")
     } else {
-        text(b", the rest not zero\n");
+        text(rt, b", the rest not zero\n")
     }
 }
 
 fn read_and_say(
+    rt: &impl Print,
     letter: &[u8],
     paragraphs: bool,
     tokens: &mut [u32],
@@ -197,23 +203,33 @@ fn read_and_say(
     colours: &mut [u32],
     blocks: &mut [u32],
     room: &mut [u8],
-) {
+) -> io::Result<()> {
     let reading = reading_of(paragraphs);
     let answer = reader::read(letter, reading, tokens, fonts, colours, blocks, room);
-    say_answer(answer, tokens, fonts, colours, blocks, room);
+    say_answer(rt, answer, tokens, fonts, colours, blocks, room)
 }
 
 // One letter in rooms of so many words and, for the text, bytes.
-fn one(letter: &[u8], paragraphs: bool, t: usize, f: usize, c: usize, b: usize, x: usize)
+fn one(
+    rt: &impl Print,
+    letter: &[u8],
+    paragraphs: bool,
+    t: usize,
+    f: usize,
+    c: usize,
+    b: usize,
+    x: usize,
+) -> io::Result<()>
     requires { (t ≤ 7 * token_words) × (f ≤ 2 * font_words) × (c ≤ 2 * colour_words) × (b ≤ 2 * block_words) × (x ≤ 3) }
 {
-    say_question(letter, paragraphs, t, f, c, b, x);
+    say_question(rt, letter, paragraphs, t, f, c, b, x)?;
     let mut tokens = [JUNK; TOKENS];
     let mut fonts = [JUNK; FONTS];
     let mut colours = [JUNK; COLOURS];
     let mut blocks = [JUNK; BLOCKS];
     let mut room = [JUNK_BYTE; TEXT];
     read_and_say(
+        rt,
         letter,
         paragraphs,
         &mut tokens[..t],
@@ -221,32 +237,60 @@ fn one(letter: &[u8], paragraphs: bool, t: usize, f: usize, c: usize, b: usize, 
         &mut colours[..c],
         &mut blocks[..b],
         &mut room[..x],
-    );
+    )
 }
 
 // Tokens, blocks and text: just enough; no whole number of records; a token, a block, a byte too few. The block is asked for
 // before the text.
-fn one_block() {
-    one(b"{a}", false, THREE, 0, 0, BLOCK_WORDS, 1);
-    one(b"{a}", false, THREE + TOKEN_WORDS - 1, 2, 1, BLOCKS - 1, 2);
-    one(b"{a}", false, THREE - 1, 0, 0, BLOCK_WORDS, 1);
-    one(b"{a}", false, THREE, 0, 0, BLOCK_WORDS - 1, 0);
-    one(b"{a}", false, THREE, 0, 0, BLOCK_WORDS, 0);
+fn one_block(rt: &impl Print) -> io::Result<()> {
+    one(rt, b"{a}", false, THREE, 0, 0, BLOCK_WORDS, 1)?;
+    one(
+        rt,
+        b"{a}",
+        false,
+        THREE + TOKEN_WORDS - 1,
+        2,
+        1,
+        BLOCKS - 1,
+        2,
+    )?;
+    one(rt, b"{a}", false, THREE - 1, 0, 0, BLOCK_WORDS, 1)?;
+    one(rt, b"{a}", false, THREE, 0, 0, BLOCK_WORDS - 1, 0)?;
+    one(rt, b"{a}", false, THREE, 0, 0, BLOCK_WORDS, 0)
 }
 
 // The same for a second block, when one is written already.
-fn two_blocks() {
-    one(b"{a\\b b}", false, FIVE, 0, 0, BLOCKS, 2);
-    one(b"{a\\b b}", false, FIVE, 0, 0, BLOCKS - 1, 2);
-    one(b"{a\\b b}", false, FIVE, 0, 0, BLOCKS, 1);
+fn two_blocks(rt: &impl Print) -> io::Result<()> {
+    one(rt, b"{a\\b b}", false, FIVE, 0, 0, BLOCKS, 2)?;
+    one(rt, b"{a\\b b}", false, FIVE, 0, 0, BLOCKS - 1, 2)?;
+    one(rt, b"{a\\b b}", false, FIVE, 0, 0, BLOCKS, 1)
 }
 
 // A second font, a second colour.
-fn tables() {
-    one(b"{\\fonttbl{\\f1 A;}}", false, TOKENS, FONTS, 0, 0, 0);
-    one(b"{\\fonttbl{\\f1 A;}}", false, TOKENS, FONTS - 1, 0, 0, 0);
-    one(b"{\\colortbl\\blue1\\blue2}", false, FIVE, 0, COLOURS, 0, 0);
+fn tables(rt: &impl Print) -> io::Result<()> {
+    one(rt, b"{\\fonttbl{\\f1 A;}}", false, TOKENS, FONTS, 0, 0, 0)?;
     one(
+        rt,
+        b"{\\fonttbl{\\f1 A;}}",
+        false,
+        TOKENS,
+        FONTS - 1,
+        0,
+        0,
+        0,
+    )?;
+    one(
+        rt,
+        b"{\\colortbl\\blue1\\blue2}",
+        false,
+        FIVE,
+        0,
+        COLOURS,
+        0,
+        0,
+    )?;
+    one(
+        rt,
         b"{\\colortbl\\blue1\\blue2}",
         false,
         FIVE,
@@ -254,19 +298,19 @@ fn tables() {
         COLOURS - 1,
         0,
         0,
-    );
+    )
 }
 
 // Both readings.
-fn readings() {
-    one(b"{a\\par b}", false, FIVE, 0, 0, BLOCK_WORDS, 2);
-    one(b"{a\\par b}", true, FIVE, 0, 0, BLOCK_WORDS, 2);
-    one(b"{a\\par b}", true, FIVE, 0, 0, BLOCK_WORDS, 3);
+fn readings(rt: &impl Print) -> io::Result<()> {
+    one(rt, b"{a\\par b}", false, FIVE, 0, 0, BLOCK_WORDS, 2)?;
+    one(rt, b"{a\\par b}", true, FIVE, 0, 0, BLOCK_WORDS, 2)?;
+    one(rt, b"{a\\par b}", true, FIVE, 0, 0, BLOCK_WORDS, 3)
 }
 
-fn main() {
-    one_block();
-    two_blocks();
-    tables();
-    readings();
+fn main(rt: HostRuntime) -> io::Result<()> {
+    one_block(&rt)?;
+    two_blocks(&rt)?;
+    tables(&rt)?;
+    readings(&rt)
 }
