@@ -5,6 +5,7 @@
 //
 // Both are total.
 #![tactic(auto)]
+
 pub mod listing;
 
 ghost use Rattle.std.specs.Prelude.{◌≡◌};

@@ -32,7 +32,7 @@ use Rattle.veil.specs.Said.{Named, name_in, names_in, Content, Said, refuses, sa
 use Rattle.veil.specs.Said.{unplaced}
 use Rattle.veil.proofs.Steps.{own_names, say_of}
 use Rattle.veil.proofs.Groups.{alike-veil}
-use Rattle.veil.proofs.Hidden.{said-own, hidden-stays-hidden}
+use Rattle.veil.proofs.HiddenStays.{said-own, hidden-stays-hidden}
 
 -- ---- a font table in its room
 

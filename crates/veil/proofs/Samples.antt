@@ -25,7 +25,7 @@ use Rattle.parser.specs.Parsing.{Sizes}
 use Rattle.veil.specs.Veil.{part, parts, pieces, join, shown, mask, veil, behind, own, ends_bare, ends_free, Ignored, Alike, same}
 use Rattle.veil.specs.Veil.{other}
 use Rattle.veil.specs.Said.{said, SameRooms}
-use Rattle.veil.proofs.Hidden.{hidden-stays-hidden}
+use Rattle.veil.proofs.HiddenStays.{hidden-stays-hidden}
 
 -- a letter, and how many tokens it has
 record Sample : Type 0 where

@@ -1,6 +1,6 @@
 -- Demand 3, "Hidden stays hidden: two letters that are the same except inside ignored groups (`\*`, stylesheet) that the header walk
 -- reaches, each closed, give the same refusal or the same text, blocks, colours, font keys and names." This file says it whole: what
--- is asked of two letters, and what is promised. `veil` and `Alike` are defined in Veil, `said` in Said; proofs/Hidden proves both
+-- is asked of two letters, and what is promised. `veil` and `Alike` are defined in Veil, `said` in Said; proofs/HiddenStays proves both
 -- promises, proofs/Needs computes the letters named here, in plain reading where none is said. Assumes nothing: these are definitions.
 use Rattle.std.specs.Prelude.{◌≡◌, List, ℕ}
 use Rattle.answers.specs.declared.Outcome.TheVariants.{Done}

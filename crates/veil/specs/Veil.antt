@@ -124,16 +124,16 @@ behind rd m [] = m
 behind rd m (p ∷ ps) = behind rd (next m (side_of p) (aim (shown rd ps))) ps
 
 -- each bracket among the pieces has its match among them, where d are open
-abbrev pub field_own : Side → ℕ → (ℕ → Bool) → Bool
-field_own up d go = go (suc d)
-field_own down zero go = false
-field_own down (suc d) go = go d
-field_own flat d go = go d
+abbrev pub own_at : Side → ℕ → (ℕ → Bool) → Bool
+own_at up d go = go (suc d)
+own_at down zero go = false
+own_at down (suc d) go = go d
+own_at flat d go = go d
 
 unfoldable pub own : ℕ → List (List ℕ) → Bool
 own zero [] = true
 own (suc d) [] = false
-own d (p ∷ ps) = field_own (side_of p) d (λ e. own e ps)
+own d (p ∷ ps) = own_at (side_of p) d (λ e. own e ps)
 
 -- the last byte, where b stands before them, is no backslash: a special byte that follows starts a new slice
 unfoldable pub ends_bare : ℕ → List ℕ → Bool
