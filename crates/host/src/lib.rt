@@ -7,6 +7,7 @@
 //
 // Every function is total, and says what the crate below says.
 #![tactic(auto)]
+
 pub mod answer;
 
 ghost use Rattle.readings.specs.Readings.{reading_of};

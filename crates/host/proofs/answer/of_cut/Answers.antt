@@ -1,0 +1,7 @@
+-- `of_cut` meets its contract.
+use Rattle.host.proofs.Answers.{cut_as}
+use borrow.Author.Rules.{rules}
+use Rattle.host.proofs.answer.of_cut.Goals as goal
+
+pub returns : goal.returns
+returns c = cut_as c.args.outcome c.number-refusal.ensures c.place-place.ensures c.count-count.ensures

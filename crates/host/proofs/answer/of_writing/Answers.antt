@@ -1,0 +1,7 @@
+-- `of_writing` meets its contract.
+use Rattle.host.proofs.Answers.{write_as}
+use borrow.Author.Rules.{rules}
+use Rattle.host.proofs.answer.of_writing.Goals as goal
+
+pub returns : goal.returns
+returns c = write_as c.args.outcome c.number-refusal.ensures c.count-bytes.ensures

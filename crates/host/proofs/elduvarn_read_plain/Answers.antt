@@ -1,0 +1,8 @@
+-- `elduvarn_read_plain` meets its contract: it says what `read` says.
+use mathlib.Core.Path.{ap, ◌∙◌}
+use Rattle.host.specs.Exports.{read_of}
+use borrow.Author.Rules.{rules}
+use Rattle.host.proofs.elduvarn_read_plain.Goals as goal
+
+pub returns : goal.returns
+returns c = let w = c.read-answer.ensures in record { answer = c.of_reading.ensures ∙ ap read_of w.answer; tokens = w.tokens; fonts = w.fonts; colours = w.colours; blocks = w.blocks; text = w.text }
