@@ -1,6 +1,6 @@
 -- `fill` meets its contract: each read puts what comes next behind what is there.
-use Rattle.std.proofs.Common.{rules, arith}
-use Rattle.input.proofs.Fills.{read_more, kept, full, ended}
+use Rattle.std.proofs.Common.{arith}
+use Rattle.input.proofs.Fills.{read_more, kept}
 use Rattle.input.proofs.fill.Goals as goal
 use Rattle.input.proofs.fill.Goals.{in-Ok, in-Err+else-ne}
 
