@@ -1,23 +1,24 @@
 // What a program is given, in a lent room: the first bytes of a reader, as many as the room holds.
 #![tactic(auto)]
 
-ghost use Rattle.std.specs.Prelude.{◌≤◌, length, IfOk};
+ghost use Rattle.std.specs.Prelude.{◌≡◌, ◌≤◌, length, take, IfOk, IfSome};
 
 use std::io;
-use std::io::{ErrorKind, Read};
+use std::io::{Error, ErrorKind, Read};
 
 // Reads until the room is full or there is no more to read, and answers how many bytes there are. A read that was interrupted is tried
 // again.
 pub fn fill<R: Read + Drop>(mut from: R, room: &mut [u8]) -> io::Result<usize>
-    ensures { IfOk result (λ n. n ≤ length room.new) }
+    ensures within { IfOk result (λ n. n ≤ length room.new) }
+    ensures first { IfOk result (λ n. IfSome (R.remaining from) (λ xs. take n room.new ≡ take (length room.new) xs)) }
 {
     let mut at = 0;
     for _ in 0..u64::MAX {
         if room.len() <= at {
-            break;
+            return Ok(at);
         }
         match from.read(&mut room[at..]) {
-            Ok(0) => break,
+            Ok(0) => return Ok(at),
             Ok(n) => at += n,
             Err(e) => {
                 if e.kind() != ErrorKind::Interrupted {
@@ -26,5 +27,5 @@ pub fn fill<R: Read + Drop>(mut from: R, room: &mut [u8]) -> io::Result<usize>
             }
         }
     }
-    Ok(at)
+    Err(Error::from(ErrorKind::Interrupted))
 }

@@ -1,0 +1,2 @@
+-- Fills: a read behind what was read before.
+pub mod Fills
