@@ -1,7 +1,6 @@
 -- A quoted text as bytes, so that names and letters stand in the definitions as a reader would type them.
 -- Assumes nothing: this is a definition.
 use Rattle.std.specs.Prelude.{ℕ, List, [], ◌∷◌}
-use Prim.Native.String
 use Prim.Native.String.{String}
 use Prim.Native.Char.{code}
 

@@ -7,6 +7,7 @@
 //
 // Every function is total. Tests join by `|` and `&`, which ask no proof by cases.
 #![tactic(auto)]
+
 ghost use Rattle.std.specs.Prelude.{◌≡◌, ◌≤◌, length};
 ghost use Rattle.classes.specs.Bytes.{is_white, ends_word, is_numeral, is_special, is_letter, is_alpha, is_high, in_class, any, lead, body};
 

@@ -8,7 +8,6 @@ use Rattle.answers.specs.declared.Why.TheVariants.{NumberField, ColourRoom}
 use Rattle.answers.specs.Answers.{refusal, refusal_at, Found, found, refused}
 use Rattle.tokens.specs.declared.Property.TheVariants.{None, Value}
 use Rattle.tokens.specs.Tokens.{Shown, Token, token}
-use Rattle.tokens.specs.Tokens
 use Rattle.colours.specs.Colours.{colours, colours_from, colour_token, colour_word_of}
 
 red : ℕ → ℕ → Token

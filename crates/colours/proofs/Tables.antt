@@ -21,7 +21,6 @@ use Rattle.rooms.specs.Rooms.{table_limit}
 use Rattle.rooms.proofs.Rooms.{limit-256}
 use Rattle.tokens.specs.declared.Property.{Property}
 use Rattle.tokens.specs.Tokens.{Shown, Token, slice_of, shown_in, value_of}
-use Rattle.tokens.specs.Tokens
 use Rattle.colours.specs.declared.Colour.{Colour}
 use Rattle.colours.specs.Colours.{Colours, black, no_colours, colour_word, fitting, blued, kept, colour_words}
 use Rattle.colours.specs.Colours.{colour_word_of, colour_token, next_colour, colours_from, table_of, colours}

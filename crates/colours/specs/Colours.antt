@@ -7,7 +7,6 @@ use Rattle.answers.specs.Answers.{Found, found, refused, Fate, becomes, fails, f
 use Rattle.rooms.specs.Rooms.{overlaid}
 use Rattle.tokens.specs.declared.Property.{Property}
 use Rattle.tokens.specs.Tokens.{Shown, Token, slice_of, shown_in, value_of}
-use Rattle.tokens.specs.Tokens
 use Rattle.colours.specs.declared.Colour.{Colour}
 use Rattle.tokens.specs.WordNumbers as words
 

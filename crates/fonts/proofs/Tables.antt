@@ -15,7 +15,6 @@ use Rattle.rooms.proofs.Rooms.{limit-256}
 use Rattle.tokens.specs.declared.Property.{Property}
 use Rattle.tokens.specs.declared.Property.TheVariants.{None, Value}
 use Rattle.tokens.specs.Tokens.{Shown, Token, slice_of, shown_in}
-use Rattle.tokens.specs.Tokens
 use Rattle.fonts.specs.Rows.{Font, Fonts, no_fonts, has_key, inserted, stored, table_of, font_words}
 use Rattle.fonts.proofs.RowTables.{Ascending, Keys, ascending-insert, keys-insert, length-insert, length-kept}
 use Rattle.fonts.specs.Fonts.{named, rekeyed, font_word, font_token, next_font, fonts_from, fonts}

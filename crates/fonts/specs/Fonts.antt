@@ -7,7 +7,6 @@ use Rattle.classes.specs.Bytes.{in_class, body}
 use Rattle.tokens.specs.declared.Property.{Property}
 use Rattle.tokens.specs.declared.Property.TheVariants.{None, Value}
 use Rattle.tokens.specs.Tokens.{Shown, Token, slice_of, shown_in}
-use Rattle.tokens.specs.Tokens
 use Rattle.fonts.specs.Rows.{Font, Fonts, no_fonts, stored, table_of}
 use Rattle.tokens.specs.WordNumbers as words
 

@@ -1,6 +1,7 @@
 // Numbers as a letter writes them (01, Cutting): two hexadecimal digits behind `\'`, the signed decimal that ends a word.
 // `u8::from_str_radix` and `str::parse::<i32>` in the crate. Every public function is total.
 #![tactic(auto)]
+
 ghost use Rattle.std.specs.Prelude.{◌≡◌, ◌≤◌};
 ghost use Rattle.numbers.specs.Numbers.{hex_digit, hex_pair, digits, decimal};
 

@@ -1,6 +1,7 @@
 // How a letter is read (01, Body; 02, A1 and A2): plain, as the crate does, by paragraphs, or by the RTF 1.9.1 specification. Below the
 // cutter, which goes by it too.
 #![tactic(auto)]
+
 ghost use Rattle.std.specs.Prelude.{◌≡◌};
 ghost use Rattle.readings.specs.Readings.{reading_of, is_standard};
 

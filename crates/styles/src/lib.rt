@@ -6,6 +6,7 @@
 //   same_style   whether two are the same
 //   is_flush     whether no indent is set
 #![tactic(auto)]
+
 ghost use Rattle.std.specs.Prelude.{◌≡◌, ◌≤◌, length};
 ghost use Rattle.styles.specs.Styles.{style_width, style_words, style_at, no_style, same_style, flush};
 

@@ -19,7 +19,6 @@ use Rattle.answers.specs.declared.Written.TheVariants.{Done}
 use Rattle.tokens.specs.declared.Property.{Property}
 use Rattle.tokens.specs.declared.Record.{Record}
 use Rattle.tokens.specs.Tokens.{Shown, Token, token_words, record_words, bare_record, text_record, word_record, symbol_record, record_of, shown_layout, token_layout}
-use Rattle.tokens.specs.Tokens
 use Rattle.answers.specs.declared.Why.{Why}
 
 module _ (room : List ℕ) (n : ℕ) (t : Record) where

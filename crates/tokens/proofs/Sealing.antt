@@ -19,7 +19,7 @@ use Rattle.rooms.proofs.Streams.{ended-count, name-apart}
 use Rattle.answers.specs.declared.Why.{Why}
 use Rattle.answers.specs.declared.Written.{Written}
 use Rattle.answers.specs.declared.Written.TheVariants.{Done}
-use Rattle.tokens.specs.Tokens.{Shown, Token, token, shown_words, token_words, record_words, record_of, slice_words, shown_layout, token_layout, sealed, sealed_all}
+use Rattle.tokens.specs.Tokens.{Shown, token, shown_words, token_words, record_words, record_of, slice_words, shown_layout, token_layout, sealed, sealed_all}
 
 -- ---- runs of stores
 

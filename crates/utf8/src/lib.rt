@@ -1,5 +1,6 @@
 // A Unicode scalar value as UTF-8 (RFC 3629, section 3), by shifts and masks. Every public function is total.
 #![tactic(auto)]
+
 ghost use Rattle.std.specs.Prelude.{◌≡◌, [], ◌∷◌, ◌+◌, ◌/◌, ◌≤◌, ◌<◌};
 ghost use Rattle.utf8.specs.Utf8.{is_scalar, tail, utf8, padded, encoded_of};
 

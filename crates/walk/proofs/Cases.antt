@@ -2,12 +2,11 @@
 -- the bracket's, 0, nor the line break's, 1. Assumes nothing.
 use mathlib.Core.Path.{◌≡◌, refl}
 use mathlib.Core.List.{List, [], ◌∷◌}
-use mathlib.Core.Bool.{Bool, true}
-use Prim.Native.Nat.{ℕ}
+use mathlib.Core.Bool.{true}
 use Rattle.tokens.specs.declared.Property.TheVariants.{None}
 use Rattle.tokens.specs.Tokens.{Shown, Token, token, shown_by}
 use Rattle.tokens.specs.WordNumbers as words
-use Rattle.walk.specs.Walk.{Step, font_table, aim_from, extent, table_word, walk_from, walk}
+use Rattle.walk.specs.Walk.{font_table, aim_from, extent, table_word, walk_from, walk}
 
 -- the tokens behind the bracket
 abbrev behind : List Token

@@ -13,7 +13,6 @@ use lib.ListN.{length}
 use lib.Dec.{eqb}
 use Rattle.tokens.specs.declared.Property.{Property}
 use Rattle.tokens.specs.Tokens.{Shown, token_words}
-use Rattle.tokens.specs.Tokens
 use Rattle.tokens.specs.declared.item.Item.{Item}
 use Rattle.tokens.specs.declared.item.Item.TheVariants.{LineBreak, Word}
 use Rattle.tokens.specs.Items.{item_at, shown_of, shown_all, slice_at, tokens_all}

@@ -4,14 +4,13 @@
 --     walk-one        any token, by its step
 --     group-word      a table's word is in its group
 -- Assumes nothing.
-use mathlib.Core.Path.{◌≡◌, refl, ap, ◌∙◌}
+use mathlib.Core.Path.{◌≡◌, refl, ap}
 use mathlib.Core.List.{List, [], ◌∷◌}
 use Prim.Native.Nat.{ℕ, zero, suc}
 use mathlib.Core.Bool.{Bool, true, false, cond, false≢true}
 use lib.ListN.{take, drop}
 use lib.Dec.{eqb}
 use Rattle.tokens.specs.Tokens.{Shown, Token, slice_of, shown_in, shown_by}
-use Rattle.tokens.specs.Tokens
 use Rattle.walk.specs.Walk.{is_break, level, extent, table_word, Step, group, step_of, passed_by, walk_from, walk}
 
 -- tokens that are passed over

@@ -1,6 +1,7 @@
 // Windows-1252: the character of a byte (02, A1), as Microsoft publishes the table. Bytes 128 to 159 are its own; the others are the
 // character of their number. Total: what is no byte, and a byte without a character, is U+FFFD.
 #![tactic(auto)]
+
 ghost use Rattle.std.specs.Prelude.{◌≡◌};
 ghost use Rattle.windows.specs.Windows.{own, windows1252};
 

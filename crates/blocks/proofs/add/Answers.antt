@@ -2,7 +2,6 @@
 use lib.ListN.{length}
 use borrow.Author.Tests.{not-false}
 use Rattle.blocks.proofs.Writing.{add-full, add-long, add-on}
-use borrow.Author.Rules.{rules}
 use Rattle.blocks.proofs.add.Goals as goal
 
 pub returns-then-not-start : goal.returns-then-not-start

@@ -4,7 +4,6 @@ use lib.ListN.{length}
 use native.Mathlib.Omega.{arith}
 use Rattle.blocks.specs.Laying.{page_of}
 use Rattle.blocks.proofs.Writing.{cap-le, append-full, append-more, still-more, page-more, held_more}
-use borrow.Author.Rules.{rules}
 use Rattle.blocks.proofs.append.Goals as goal
 
 pub returns-then-capacity-at : goal.returns-then-capacity-at

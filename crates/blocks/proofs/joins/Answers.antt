@@ -1,6 +1,5 @@
 -- `joins` meets its contract: there is no block, or the last one says.
 use Rattle.blocks.proofs.Writing.{joins-none, joins-last}
-use borrow.Author.Rules.{rules}
 use Rattle.blocks.proofs.joins.Goals as goal
 
 pub returns-then-n-eq0 : goal.returns-then-n-eq0

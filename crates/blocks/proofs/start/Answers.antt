@@ -4,7 +4,6 @@ use lib.ListN.{length}
 use mathlib.Core.Bool.{false≢true}
 use Rattle.blocks.specs.Laying.{page_of}
 use Rattle.blocks.proofs.Writing.{joined, start-same, start-new, start-full, page-new, held_new, begun-new}
-use borrow.Author.Rules.{rules}
 use Rattle.blocks.proofs.start.Goals as goal
 
 pub returns-then-joins : goal.returns-then-joins

@@ -1,9 +1,8 @@
 -- `body_of` meets its contract. The invariant: the count up to e is the whole count. The measure is e.
-use borrow.Author.Rules.{rules}
 use Prim.Native.Nat.{◌≤◌}
 use lib.ListN.{length}
 use Rattle.classes.specs.Bytes.{in_class}
-use Rattle.classes.proofs.Runs.{Body, body-start, body_more, body-stop, body_end}
+use Rattle.classes.proofs.Runs.{Body}
 use Rattle.classes.proofs.body_of.Given as goal
 
 abbrev pub invariant-loop-e : goal.invariant-loop-e

@@ -1,11 +1,9 @@
 -- `has_high` meets its contract. The invariant: a byte above 127 was met, or stands from i on. The measure is what is left.
-use borrow.Author.Rules.{rules}
 use mathlib.Core.Path.{refl}
-use Prim.Native.Nat.{◌≤◌, ◌-◌}
 use native.Mathlib.Omega.{arith}
-use lib.ListN.{length, get_or}
+use lib.ListN.{get_or}
 use Rattle.classes.specs.Bytes.{is_high}
-use Rattle.classes.proofs.Runs.{Any, any-more, any-end}
+use Rattle.classes.proofs.Runs.{any-more, any-end}
 use Rattle.classes.proofs.has_high.Goals as goal
 
 pub loop-i-preserved : goal.loop-i-preserved

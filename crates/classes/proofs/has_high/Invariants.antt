@@ -1,11 +1,8 @@
 -- `has_high` meets its contract. The invariant: a byte above 127 was met, or stands from i on. The measure is what is left.
-use borrow.Author.Rules.{rules}
-use mathlib.Core.Path.{refl}
 use Prim.Native.Nat.{◌≤◌, ◌-◌}
-use native.Mathlib.Omega.{arith}
-use lib.ListN.{length, get_or}
+use lib.ListN.{length}
 use Rattle.classes.specs.Bytes.{is_high}
-use Rattle.classes.proofs.Runs.{Any, any-more, any-end}
+use Rattle.classes.proofs.Runs.{Any}
 use Rattle.classes.proofs.has_high.Given as goal
 
 abbrev pub invariant-loop-i : goal.invariant-loop-i

@@ -1,5 +1,4 @@
 -- `is_alpha` meets its contract: its callee's answer is the test of a to z.
-use borrow.Author.Rules.{rules}
 use Rattle.classes.proofs.is_alpha.Goals as goal
 
 pub returns : goal.returns

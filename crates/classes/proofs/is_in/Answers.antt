@@ -1,5 +1,4 @@
 -- `is_in` meets its contract: each arm's test is that of its class.
-use borrow.Author.Rules.{rules}
 use Rattle.classes.proofs.is_in.Goals as goal
 
 pub returns-in-White : goal.returns-in-White

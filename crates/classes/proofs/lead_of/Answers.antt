@@ -1,9 +1,6 @@
 -- `lead_of` meets its contract. The invariant: what is counted from i on, and i, is the whole count. The measure is what is left.
 use borrow.Author.Rules.{rules}
-use Prim.Native.Nat.{◌≤◌, ◌-◌}
-use lib.ListN.{length}
-use Rattle.classes.specs.Bytes.{in_class}
-use Rattle.classes.proofs.Runs.{Lead, lead-start, lead-more, lead-stop, lead-end}
+use Rattle.classes.proofs.Runs.{lead-start, lead-more, lead-stop, lead-end}
 use Rattle.classes.proofs.lead_of.Goals as goal
 
 pub loop-i-init : goal.loop-i-init

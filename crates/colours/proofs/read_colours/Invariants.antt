@@ -1,8 +1,6 @@
 -- `read_colours` meets its contract. The invariant: what is left, from the colours in the room and the current one, gives the
 -- whole result. The measure is how many tokens are left.
-use borrow.Author.Rules.{rules}
-use native.Mathlib.Omega.{arith}
-use Rattle.colours.proofs.Steps.{Loop, loop-start, loop-set, loop-unfit, stored-small, loop-full, loop-store, loop-end}
+use Rattle.colours.proofs.Steps.{Loop}
 use Rattle.colours.proofs.read_colours.Given as goal
 
 abbrev pub invariant-loop-n : goal.invariant-loop-n

@@ -1,5 +1,4 @@
 -- `step` meets its contract.
-use borrow.Author.Rules.{rules}
 use Rattle.colours.proofs.step.Goals as goal
 
 pub returns-in-Word : goal.returns-in-Word

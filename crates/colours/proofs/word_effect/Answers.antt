@@ -1,6 +1,5 @@
 -- `word_effect` meets its contract: the words are tried in the definition's order.
 use Rattle.colours.proofs.Steps.{word-red, word-green, word-blue, word-other}
-use borrow.Author.Rules.{rules}
 use Rattle.colours.proofs.word_effect.Goals as goal
 
 pub returns-then-w-eq-COLOUR_RED : goal.returns-then-w-eq-COLOUR_RED

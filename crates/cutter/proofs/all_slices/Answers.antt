@@ -23,10 +23,6 @@ cut_slice-one-requires c = (simp length-take (omega (arith, c.loop-t.invariant.f
 pub overflow_cast-p : goal.overflow_cast-p
 overflow_cast-p c = omega (arith, c.loop-t.invariant.fits)
 
--- GONE same-length
--- same_length : tie.Need-same-length invariant-loop decreases-loop
--- same_length c = c.before.before.before.before.before.before.cut-slice.auto.1.1.1.1.0 ∙ c.before.before.before.before.before.before.before.before.before.before.before.loop.invariant.long
-
 pub returns-in-Refused : goal.returns-in-Refused
 returns-in-Refused c = loop-stop _ c.loop-t.invariant (c.slice_end_by-e.ensures.length, (c.slice_end_by-e.ensures.within, c.slice_end_by-e.ensures.some)) c.if-t-e.false c.cut_slice-one.ensures c.in-Refused.is refl c.at.ensures
 
@@ -55,10 +51,6 @@ pub last_by-requires : goal.last_by-requires
 last_by-requires c =
     let l = c.loop-t.invariant in
     (l.fits, omega (arith, l.fits, l.some, l.below), l.below, c.requires.1)
-
--- GONE same-length-2
--- same-length-2 : tie.Need-same-length-2 invariant-loop decreases-loop
--- same-length-2 c = c.before.before.last-by.auto.1.1.1.1.0 ∙ c.before.before.before.before.before.before.loop.invariant.long
 
 pub returns : goal.returns
 returns c = loop-last _ c.loop-t.invariant (c.slice_end_by-e.ensures.length, (c.slice_end_by-e.ensures.within, c.slice_end_by-e.ensures.some)) c.if-t-e.true c.last_by.ensures

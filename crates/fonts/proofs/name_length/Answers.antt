@@ -1,5 +1,5 @@
 -- `name_length` meets its contract: a part of a source is at most as long as was asked for, so its length fits.
-use Rattle.std.proofs.Common.{arith, rules}
+use Rattle.std.proofs.Common.{arith}
 use Rattle.fonts.proofs.Steps.{name-fits, name-told}
 use Rattle.fonts.proofs.name_length.Goals as goal
 

@@ -1,6 +1,5 @@
 -- `named` meets its contract.
 use Rattle.fonts.proofs.Steps.{named-empty, named-full}
-use Rattle.std.proofs.Common.{rules}
 use Rattle.fonts.proofs.named.Goals as goal
 
 pub returns-then-n-eq0 : goal.returns-then-n-eq0

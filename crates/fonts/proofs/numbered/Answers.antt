@@ -1,5 +1,5 @@
 -- `numbered` meets its contract.
-use Rattle.std.proofs.Common.{refl, rules}
+use Rattle.std.proofs.Common.{refl}
 use Rattle.fonts.proofs.numbered.Goals as goal
 
 pub returns-in-Value : goal.returns-in-Value

@@ -1,7 +1,7 @@
 -- `read_fonts` meets its contract. The invariant: what is left, from the table in the room and the current font, gives the whole
 -- result. The measure is how many tokens are left.
-use Rattle.std.proofs.Common.{◌∙◌, arith, rules}
-use Rattle.fonts.proofs.Steps.{Loop, loop-start, loop-ready, loop-set, loop-store, loop-full, loop-unnumbered, loop-end}
+use Rattle.std.proofs.Common.{arith}
+use Rattle.fonts.proofs.Steps.{loop-start, loop-ready, loop-set, loop-store, loop-full, loop-unnumbered, loop-end}
 use Rattle.fonts.proofs.read_fonts.Goals as goal
 
 pub loop-n-init : goal.loop-n-init
@@ -22,10 +22,6 @@ loop-n-preserved c = loop-store c.loop-n.invariant c.loop-n-test.true c.item_at-
 pub refuse-requires : goal.refuse-requires
 refuse-requires c = omega (arith, c.loop-n.invariant.words)
 
--- GONE same-length
--- same_length : tie.Need-same-length invariant-loop decreases-loop
--- same_length c = c.before.before.before.before.before.before.store.auto.0 ∙ c.before.before.before.before.before.before.before.before.before.before.before.before.before.before.before.loop.invariant.long
-
 pub returns-in-Refused : goal.returns-in-Refused
 returns-in-Refused c = loop-full c.loop-n.invariant c.loop-n-test.true c.item_at-i.ensures c.step-e.ensures c.store-o.result _ c.store-o.ensures c.store-o.auto.room _ c.refuse.ensures _ c.in-Store.is c.in-Refused.is
 
@@ -35,16 +31,8 @@ store-last-requires c = loop-ready c.loop-n.invariant
 pub refuse-requires-in-Unnumbered : goal.refuse-requires-in-Unnumbered
 refuse-requires-in-Unnumbered c = omega (arith, c.loop-n.invariant.words)
 
--- GONE same-length-2
--- same-length-2 : tie.Need-same-length-2 invariant-loop decreases-loop
--- same-length-2 c = c.before.before.before.before.store2.auto.0 ∙ c.before.before.before.before.before.before.before.before.before.before.before.before.loop.invariant.long
-
 pub returns-in-Unnumbered : goal.returns-in-Unnumbered
 returns-in-Unnumbered c = loop-unnumbered c.loop-n.invariant c.loop-n-test.true c.item_at-i.ensures c.step-e.ensures c.store-last.result _ c.store-last.ensures c.store-last.auto.room _ c.refuse-in-Unnumbered.ensures c.in-Unnumbered.is c.unnumbered.ensures
-
--- GONE same-length-3
--- same-length-3 : tie.Need-same-length-3 invariant-loop decreases-loop
--- same-length-3 c = c.before.loop.invariant.long
 
 pub returns : goal.returns
 returns c = loop-end c.loop-n.invariant c.loop-n-test.false

@@ -1,7 +1,6 @@
 -- `read_fonts` meets its contract. The invariant: what is left, from the table in the room and the current font, gives the whole
 -- result. The measure is how many tokens are left.
-use Rattle.std.proofs.Common.{◌∙◌, arith, rules}
-use Rattle.fonts.proofs.Steps.{Loop, loop-start, loop-ready, loop-set, loop-store, loop-full, loop-unnumbered, loop-end}
+use Rattle.fonts.proofs.Steps.{Loop}
 use Rattle.fonts.proofs.read_fonts.Given as goal
 
 abbrev pub invariant-loop-n : goal.invariant-loop-n

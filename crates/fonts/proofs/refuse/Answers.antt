@@ -1,5 +1,5 @@
 -- `refuse` meets its contract.
-use Rattle.std.proofs.Common.{refl, rules}
+use Rattle.std.proofs.Common.{refl}
 use Rattle.fonts.proofs.refuse.Goals as goal
 
 pub returns : goal.returns

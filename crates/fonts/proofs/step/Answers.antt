@@ -1,5 +1,5 @@
 -- `step` meets its contract.
-use Rattle.std.proofs.Common.{refl, rules}
+use Rattle.std.proofs.Common.{refl}
 use Rattle.fonts.proofs.step.Goals as goal
 
 pub returns-in-Word : goal.returns-in-Word

@@ -1,5 +1,5 @@
 -- `unnumbered` meets its contract.
-use Rattle.std.proofs.Common.{refl, rules}
+use Rattle.std.proofs.Common.{refl}
 use Rattle.fonts.proofs.unnumbered.Goals as goal
 
 pub returns-in-Done : goal.returns-in-Done

@@ -1,5 +1,5 @@
 -- `word_effect` meets its contract.
-use Rattle.std.proofs.Common.{rules, eq-eqb, ne_eqb}
+use Rattle.std.proofs.Common.{eq-eqb, ne_eqb}
 use Rattle.fonts.proofs.word_effect.Goals as goal
 
 pub returns-then-w-eq-FONT_NUMBER : goal.returns-then-w-eq-FONT_NUMBER

@@ -15,14 +15,6 @@ is_opening-opening-requires c = let w = c.loop-n.invariant.words in omega arith
 pub slice_bounds-t-count : goal.slice_bounds-t-count
 slice_bounds-t-count c = let w = c.loop-n.invariant.words in omega arith
 
--- GONE slice-bounds-t-start
--- part-t-start : tie.Need-slice-bounds-t-start invariant-loop decreases-loop
--- part-t-start c = let w = c.before.before.loop.invariant.words in omega arith
-
--- GONE slice-bounds-t-end
--- part-t-end : tie.Need-slice-bounds-t-end invariant-loop decreases-loop
--- part-t-end c = omega arith
-
 pub enter-e-requires : goal.enter-e-requires
 enter-e-requires c = walking-ready c.loop-n.invariant c.loop-n-test.true c.is_opening-opening.ensures
 
@@ -34,14 +26,6 @@ offset_bounds-t-passed c = let k = on-small c.loop-n.invariant c.loop-n-test.tru
 
 pub slice_bounds-t-count-in-On : goal.slice_bounds-t-count-in-On
 slice_bounds-t-count-in-On c = on-words c.loop-n.invariant c.loop-n-test.true c.is_opening-opening.ensures c.if-opening.true _ _ _ c.enter-e.ensures c.in-On.is
-
--- GONE slice-bounds-t-start-2
--- part-t-start-2 : tie.Need-slice-bounds-t-start-2 invariant-loop decreases-loop
--- part-t-start-2 c = on-words c.before.before.before.before.before.before.before.before.before.before.before.before.before.before.loop.invariant c.before.before.before.before.before.before.before.before.before.before.before.before.before.loop-test.true c.before.before.before.before.before.before.before.before.before.before.before.before.is-opening.ensures c.before.before.before.before.before.before.before.before.before.before.if1.true _ _ _ c.before.before.before.before.before.before.before.enter.ensures c.before.e.given.1
-
--- GONE slice-bounds-t-end-2
--- part-t-end-2 : tie.Need-slice-bounds-t-end-2 invariant-loop decreases-loop
--- part-t-end-2 c = omega arith
 
 pub overflow_sub-n-in-On : goal.overflow_sub-n-in-On
 overflow_sub-n-in-On c = on-within c.loop-n.invariant c.loop-n-test.true c.is_opening-opening.ensures c.if-opening.true _ _ _ c.enter-e.ensures c.in-On.is

@@ -1,10 +1,9 @@
 -- `is_row` meets its contract. The invariant: the word and the name agree if they do from i on. The name ends within the run. The
 -- measure is what is left.
-use borrow.Author.Rules.{rules}
 use Prim.Native.Nat.{◌≤◌, ◌+◌, ◌-◌}
 use Rattle.names.specs.Names.{name_of}
 use Rattle.names.proofs.Contents.{bounds_at}
-use Rattle.names.proofs.Rows.{Same, same_start, row-rises, row_fits, row_other, row_more, row-stop, row-end}
+use Rattle.names.proofs.Rows.{Same}
 use Rattle.names.proofs.is_row.Given as goal
 
 abbrev pub invariant-loop-i : goal.invariant-loop-i

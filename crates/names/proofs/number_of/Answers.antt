@@ -4,10 +4,10 @@ use borrow.Author.Rules.{rules}
 use native.Mathlib.Omega.{arith}
 use Prim.Native.Nat.{ℕ, ◌+◌}
 use mathlib.Core.Path.{◌∙◌, ap}
-use lib.ListN.{length, get_or}
+use lib.ListN.{get_or}
 use Rattle.classes.proofs.Runs.{letter-from, letter-to}
-use Rattle.names.proofs.Contents.{heads_at, chain}
-use Rattle.names.proofs.Chains.{Ahead, ahead-empty, ahead_none, ahead-start, ahead-less, ahead_more, ahead-stop, ahead-end}
+use Rattle.names.proofs.Contents.{heads_at}
+use Rattle.names.proofs.Chains.{ahead-empty, ahead_none, ahead-start, ahead-less, ahead_more, ahead-stop, ahead-end}
 use Rattle.names.proofs.number_of.Goals as goal
 
 pub returns-then-w-eq0 : goal.returns-then-w-eq0

@@ -1,7 +1,7 @@
 -- `digits_of` meets its contract. The invariant: the digits from i on, after v, give the whole value, and v is within the limit.
 -- The measure is what is left.
-use Rattle.std.proofs.Common.{◌-◌, ◌≤◌, length, rules}
-use Rattle.numbers.proofs.Numbers.{Digits, digits-none, digits-start, digits-other, digits_more, digits-over, digits-end}
+use Rattle.std.proofs.Common.{◌-◌, ◌≤◌, length}
+use Rattle.numbers.proofs.Numbers.{Digits}
 use Rattle.numbers.proofs.digits_of.Given as goal
 
 abbrev pub invariant-loop-i : goal.invariant-loop-i

@@ -1,6 +1,5 @@
 -- `hex_digit` meets its contract: each range of bytes has its law.
 use Rattle.numbers.proofs.Numbers.{between-low, hex-digit-figure, hex-digit-upper, hex-digit-lower, hex-digit-none}
-use Rattle.std.proofs.Common.{rules}
 use Rattle.numbers.proofs.hex_digit.Goals as goal
 
 pub overflow_sub-result : goal.overflow_sub-result

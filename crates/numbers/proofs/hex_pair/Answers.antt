@@ -1,6 +1,5 @@
 -- `hex_pair` meets its contract: each way to leave has its law.
 use Rattle.numbers.proofs.Numbers.{hex-pair-bad, hex-pair-plus, hex-pair-worse, hex-pair-both}
-use Rattle.std.proofs.Common.{rules}
 use Rattle.numbers.proofs.hex_pair.Goals as goal
 
 pub returns-then-low-gt15 : goal.returns-then-low-gt15

@@ -1,10 +1,6 @@
 -- `clear` meets its contract. The invariant: zeros up to i, and the room as it was from there on. The measure is what is left.
-use borrow.Author.Rules.{rules}
-use mathlib.Core.Path.{◌≡◌}
-use mathlib.Core.List.{◌++◌}
-use Prim.Native.Nat.{◌≤◌, ◌-◌}
 use native.Mathlib.Omega.{arith}
-use lib.ListN.{length, drop, replicate, length-set}
+use lib.ListN.{length-set}
 use Rattle.rooms.proofs.Clearing.{clear-more, clear-end}
 use Rattle.rooms.proofs.clear.Goals as goal
 

@@ -1,10 +1,6 @@
 -- `clear_bytes` meets its contract, as `clear` does.
-use borrow.Author.Rules.{rules}
-use mathlib.Core.Path.{◌≡◌}
-use mathlib.Core.List.{◌++◌}
-use Prim.Native.Nat.{◌≤◌, ◌-◌}
 use native.Mathlib.Omega.{arith}
-use lib.ListN.{length, drop, replicate, length-set}
+use lib.ListN.{length-set}
 use Rattle.rooms.proofs.Clearing.{clear-more, clear-end}
 use Rattle.rooms.proofs.clear_bytes.Goals as goal
 

@@ -1,11 +1,8 @@
 -- `clear_bytes` meets its contract, as `clear` does.
-use borrow.Author.Rules.{rules}
 use mathlib.Core.Path.{◌≡◌}
 use mathlib.Core.List.{◌++◌}
 use Prim.Native.Nat.{◌≤◌, ◌-◌}
-use native.Mathlib.Omega.{arith}
-use lib.ListN.{length, drop, replicate, length-set}
-use Rattle.rooms.proofs.Clearing.{clear-more, clear-end}
+use lib.ListN.{length, drop, replicate}
 use Rattle.rooms.proofs.clear_bytes.Given as goal
 
 abbrev pub invariant-loop-i : goal.invariant-loop-i

@@ -1,6 +1,5 @@
 -- `clear_bytes_from` meets its contract, as `clear_from` does.
 use Rattle.rooms.proofs.Clearing.{clear_none, clear-part}
-use borrow.Author.Rules.{rules}
 use Rattle.rooms.proofs.clear_bytes_from.Goals as goal
 
 pub returns-then-at-room : goal.returns-then-at-room

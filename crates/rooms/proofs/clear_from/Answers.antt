@@ -1,6 +1,5 @@
 -- `clear_from` meets its contract: the part from `at` on is lent to `clear`; past the end there is none.
 use Rattle.rooms.proofs.Clearing.{clear_none, clear-part}
-use borrow.Author.Rules.{rules}
 use Rattle.rooms.proofs.clear_from.Goals as goal
 
 pub returns-then-at-room : goal.returns-then-at-room

@@ -2,10 +2,8 @@
 use mathlib.Core.Path.{refl, ◌∙◌}
 use mathlib.Core.List.{[]}
 use native.Mathlib.Omega.{arith}
-use Rattle.settings.specs.Fields.{resets}
-use Rattle.settings.specs.Effects.{sets, fitted, spacing, painter_word, paragraph_word, character_word, ending_word, indent_word, effect, meaning}
+use Rattle.settings.specs.Effects.{sets, painter_word, paragraph_word, character_word, ending_word, indent_word, effect, meaning}
 use Rattle.settings.proofs.Effects.{by_word, no-painter, no-paragraph, no-character, no-ending, no-indent, other_word}
-use borrow.Author.Rules.{rules}
 use Rattle.settings.proofs.act_of.Goals as goal
 
 pub returns-in-11 : goal.returns-in-11

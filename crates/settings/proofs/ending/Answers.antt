@@ -1,7 +1,6 @@
 -- `ending` meets its contract: reading by reading.
 use native.Mathlib.Omega.{arith}
 use Rattle.settings.specs.Effects.{meaning}
-use borrow.Author.Rules.{rules}
 use Rattle.settings.proofs.ending.Goals as goal
 
 pub returns-in-Plain : goal.returns-in-Plain

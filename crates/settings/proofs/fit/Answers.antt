@@ -1,5 +1,4 @@
 -- `fit` meets its contract: the number is at most 65,535, or it is not.
-use borrow.Author.Rules.{rules}
 use native.Mathlib.Omega.{arith}
 use borrow.Author.Tests.{le-leb, lt-leb}
 use Rattle.settings.specs.Effects.{fitted, meaning}

@@ -1,5 +1,4 @@
 -- `flag` meets its contract: no number, or one.
-use borrow.Author.Rules.{rules}
 use Rattle.settings.proofs.flag.Goals as goal
 
 pub returns-in-None : goal.returns-in-None

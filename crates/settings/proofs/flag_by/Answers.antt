@@ -1,7 +1,6 @@
 -- `flag_by` meets its contract: reading by reading.
 use mathlib.Core.Path.{◌∙◌}
 use Rattle.settings.proofs.Effects.{flag-on}
-use borrow.Author.Rules.{rules}
 use Rattle.settings.proofs.flag_by.Goals as goal
 
 pub returns-in-Plain : goal.returns-in-Plain

@@ -1,7 +1,6 @@
 -- `indent` meets its contract: reading by reading.
 use native.Mathlib.Omega.{arith}
 use Rattle.settings.specs.Effects.{meaning}
-use borrow.Author.Rules.{rules}
 use Rattle.settings.proofs.indent.Goals as goal
 
 pub returns-in-Plain : goal.returns-in-Plain

@@ -4,7 +4,6 @@ use mathlib.Core.Path.{◌≡◌}
 use Prim.Native.Nat.{◌+◌, ◌-◌}
 use borrow.Author.Tests.{ne_eqb, lt-ltb, le-ltb}
 use Rattle.settings.specs.Effects.{spacing, meaning}
-use borrow.Author.Rules.{rules}
 use Rattle.settings.proofs.space.Goals as goal
 
 pub returns-then-v-eq1000 : goal.returns-then-v-eq1000

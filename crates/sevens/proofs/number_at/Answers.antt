@@ -1,11 +1,9 @@
 -- `number_at` meets its contract. The invariant: i groups have the high bit and are gathered, and what is left gives the rest
 -- of the value. The measure is the groups that may be left. Each way to leave has its law.
 -- Assumes nothing.
-use Prim.Native.Nat.{◌-◌}
 use native.Mathlib.Omega.{arith}
-use Rattle.sevens.proofs.Branches.{no_number, low-number, Gathering, gathering-start, gathering-short, gathering-six}
+use Rattle.sevens.proofs.Branches.{no_number, low-number, gathering-start, gathering-short, gathering-six}
 use Rattle.sevens.proofs.Branches.{gathering-more, gathering-long, gathering-over, gathering-done}
-use borrow.Author.Rules.{rules}
 use Rattle.sevens.proofs.number_at.Goals as goal
 
 pub returns-then-s-eq0 : goal.returns-then-s-eq0

@@ -2,10 +2,7 @@
 -- of the value. The measure is the groups that may be left. Each way to leave has its law.
 -- Assumes nothing.
 use Prim.Native.Nat.{◌-◌}
-use native.Mathlib.Omega.{arith}
-use Rattle.sevens.proofs.Branches.{no_number, low-number, Gathering, gathering-start, gathering-short, gathering-six}
-use Rattle.sevens.proofs.Branches.{gathering-more, gathering-long, gathering-over, gathering-done}
-use borrow.Author.Rules.{rules}
+use Rattle.sevens.proofs.Branches.{Gathering}
 use Rattle.sevens.proofs.number_at.Given as goal
 
 abbrev pub invariant-loop-i : goal.invariant-loop-i

@@ -1,7 +1,6 @@
 -- `put_byte` meets its contract: one store is the byte's record, where the room holds its place; else nothing is stored.
 -- Assumes nothing.
 use Rattle.sevens.proofs.Branches.{put_one, put-past}
-use borrow.Author.Rules.{rules}
 use Rattle.sevens.proofs.put_byte.Goals as goal
 
 pub returns-then-n-room : goal.returns-then-n-room

@@ -2,7 +2,7 @@
 -- what is left.
 -- Assumes nothing.
 use Rattle.sevens.proofs.Bits.{byte_or, byte-and}
-use Rattle.sevens.proofs.Branches.{Putting, putting-start, putting-more, putting-same, putting-done}
+use Rattle.sevens.proofs.Branches.{putting-start, putting-more, putting-same, putting-done}
 use borrow.Author.Rules.{rules}
 use Rattle.sevens.proofs.put_number.Goals as goal
 

@@ -1,9 +1,7 @@
 -- `put_number` meets its contract. The invariant: who writes the groups of what is left has written the number. The measure is
 -- what is left.
 -- Assumes nothing.
-use Rattle.sevens.proofs.Bits.{byte_or, byte-and}
-use Rattle.sevens.proofs.Branches.{Putting, putting-start, putting-more, putting-same, putting-done}
-use borrow.Author.Rules.{rules}
+use Rattle.sevens.proofs.Branches.{Putting}
 use Rattle.sevens.proofs.put_number.Given as goal
 
 abbrev pub invariant-loop-rest : goal.invariant-loop-rest

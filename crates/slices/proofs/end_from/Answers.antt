@@ -1,11 +1,7 @@
 -- `end_from` meets its contract. The invariant: i bytes of the slice are passed. The measure is what is left.
 use mathlib.Core.Path.{refl}
-use Prim.Native.Nat.{◌+◌, ◌-◌}
 use native.Mathlib.Omega.{arith}
-use lib.ListN.{length, get_or, drop}
-use borrow.Author.Rules.{rules}
-use Rattle.slices.specs.Slices.{up_to}
-use Rattle.slices.proofs.Ends.{At, at_more, ends-here, ends_last}
+use Rattle.slices.proofs.Ends.{at_more, ends-here, ends_last}
 use Rattle.slices.proofs.end_from.Goals as goal
 
 pub loop-i-init : goal.loop-i-init

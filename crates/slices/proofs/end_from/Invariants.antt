@@ -1,11 +1,8 @@
 -- `end_from` meets its contract. The invariant: i bytes of the slice are passed. The measure is what is left.
-use mathlib.Core.Path.{refl}
 use Prim.Native.Nat.{◌+◌, ◌-◌}
-use native.Mathlib.Omega.{arith}
 use lib.ListN.{length, get_or, drop}
-use borrow.Author.Rules.{rules}
 use Rattle.slices.specs.Slices.{up_to}
-use Rattle.slices.proofs.Ends.{At, at_more, ends-here, ends_last}
+use Rattle.slices.proofs.Ends.{At}
 use Rattle.slices.proofs.end_from.Given as goal
 
 abbrev pub invariant-loop-i : goal.invariant-loop-i

@@ -1,7 +1,6 @@
 -- `feed_from` meets its contract: by whether a line feed is taken in.
 use native.Mathlib.Omega.{arith}
 use Rattle.slices.proofs.Feeds.{from-alone, from-feed, from_some}
-use borrow.Author.Rules.{rules}
 use Rattle.slices.proofs.feed_from.Goals as goal
 
 pub returns-then-takes_feed : goal.returns-then-takes_feed

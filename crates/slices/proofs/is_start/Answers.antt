@@ -1,5 +1,4 @@
 -- `is_start` meets its contract: its callee tells whether the byte is special.
-use borrow.Author.Rules.{rules}
 use Rattle.slices.proofs.is_start.Goals as goal
 
 pub returns : goal.returns

@@ -1,11 +1,8 @@
 -- `slice_end` meets its contract. The loop's invariant: i bytes of the first slice are passed. The measure is what is left of all.
-use mathlib.Core.Path.{◌≡◌, sym, ◌∙◌}
-use Prim.Native.Nat.{◌+◌, ◌-◌, ◌≤◌, ◌<◌}
+use mathlib.Core.Path.{sym, ◌∙◌}
 use native.Mathlib.Omega.{arith}
-use lib.ListN.{length}
 use borrow.Author.Rules.{rules}
-use Rattle.slices.specs.Slices.{slice_length}
-use Rattle.slices.proofs.Ends.{end_short, ends-here, At, at-start, at_more, passed, found, found-ends, found-more}
+use Rattle.slices.proofs.Ends.{end_short, ends-here, at-start, at_more, passed, found, found-ends, found-more}
 use Rattle.slices.proofs.Slices.{slice-within}
 use Rattle.slices.proofs.slice_end.Goals as goal
 
@@ -24,10 +21,6 @@ loop-i-init c = at_more _ _ _ c.starts_slice.ensures (at-start _ (omega arith)) 
 
 pub overflow_sub-s : goal.overflow_sub-s
 overflow_sub-s c = c.loop-i.invariant.within
-
--- GONE slice-bounds-marks-of-end
--- part-marks-of-end : tie.Need-slice-bounds-marks-of-end invariant-loop decreases-loop
--- part-marks-of-end c = omega (arith, c.before.loop.invariant.within)
 
 pub loop-i-smaller-then-marks-eq0 : goal.loop-i-smaller-then-marks-eq0
 loop-i-smaller-then-marks-eq0 c = omega (arith, c.loop-i.invariant.within)

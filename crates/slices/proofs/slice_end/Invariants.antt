@@ -1,12 +1,8 @@
 -- `slice_end` meets its contract. The loop's invariant: i bytes of the first slice are passed. The measure is what is left of all.
-use mathlib.Core.Path.{◌≡◌, sym, ◌∙◌}
-use Prim.Native.Nat.{◌+◌, ◌-◌, ◌≤◌, ◌<◌}
-use native.Mathlib.Omega.{arith}
+use Prim.Native.Nat.{◌-◌}
 use lib.ListN.{length}
-use borrow.Author.Rules.{rules}
 use Rattle.slices.specs.Slices.{slice_length}
-use Rattle.slices.proofs.Ends.{end_short, ends-here, At, at-start, at_more, passed, found, found-ends, found-more}
-use Rattle.slices.proofs.Slices.{slice-within}
+use Rattle.slices.proofs.Ends.{At}
 use Rattle.slices.proofs.slice_end.Given as goal
 
 abbrev pub invariant-loop-i : goal.invariant-loop-i

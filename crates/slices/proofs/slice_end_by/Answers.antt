@@ -1,7 +1,6 @@
 -- `slice_end_by` meets its contract: in standard reading by its callee; else what is searched is the slice from that place on.
 use native.Mathlib.Omega.{arith}
 use lib.ListN.{length-take, length-drop}
-use borrow.Author.Rules.{rules}
 use Rattle.slices.proofs.Feeds.{From, from-plain, from-paragraphs, length_from, length-standard}
 use Rattle.slices.proofs.slice_end_by.Goals as goal
 use Rattle.slices.proofs.slice_end_by.Goals.{in-Plain, in-Paragraphs}

@@ -1,11 +1,7 @@
 -- `standard_end` meets its contract. The invariant: no byte ends the slice before i. The measure is what is left.
 use mathlib.Core.Path.{sym, ◌∙◌}
-use Prim.Native.Nat.{◌-◌}
 use native.Mathlib.Omega.{arith}
-use lib.ListN.{length}
-use borrow.Author.Rules.{rules}
-use Rattle.slices.specs.Slices.{is_start, standard_length}
-use Rattle.slices.proofs.Searches.{Goes, goes-eight, goes-few, goes-found}
+use Rattle.slices.proofs.Searches.{goes-eight, goes-few, goes-found}
 use Rattle.slices.proofs.Standard.{standard-within, standard-some}
 use Rattle.slices.proofs.standard_end.Goals as goal
 
@@ -14,10 +10,6 @@ loop-i-init c = record { within = c.standard_from-i.ensures.within; ends = sym c
 
 pub overflow_sub-s : goal.overflow_sub-s
 overflow_sub-s c = c.loop-i.invariant.within
-
--- GONE slice-bounds-starts-of-end
--- part-starts-of-end : tie.Need-slice-bounds-starts-of-end invariant-loop decreases-loop
--- part-starts-of-end c = omega (arith, c.before.loop.invariant.within)
 
 pub overflow_add-result : goal.overflow_add-result
 overflow_add-result c =

@@ -1,12 +1,8 @@
 -- `standard_end` meets its contract. The invariant: no byte ends the slice before i. The measure is what is left.
-use mathlib.Core.Path.{sym, ◌∙◌}
 use Prim.Native.Nat.{◌-◌}
-use native.Mathlib.Omega.{arith}
 use lib.ListN.{length}
-use borrow.Author.Rules.{rules}
 use Rattle.slices.specs.Slices.{is_start, standard_length}
-use Rattle.slices.proofs.Searches.{Goes, goes-eight, goes-few, goes-found}
-use Rattle.slices.proofs.Standard.{standard-within, standard-some}
+use Rattle.slices.proofs.Searches.{Goes}
 use Rattle.slices.proofs.standard_end.Given as goal
 
 abbrev pub invariant-loop-i : goal.invariant-loop-i

@@ -1,6 +1,5 @@
 -- `standard_from` meets its contract: by the bytes in front.
 use native.Mathlib.Omega.{arith}
-use borrow.Author.Rules.{rules}
 use Rattle.slices.proofs.Feeds.{from_some}
 use Rattle.slices.proofs.Standard.{standard-short, standard-other, standard-feed, standard-escape}
 use Rattle.slices.proofs.standard_from.Goals as goal

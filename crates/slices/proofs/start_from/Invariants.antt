@@ -1,12 +1,10 @@
 -- `start_from` meets its contract. The invariant: no byte that starts a slice stands between `from` and i. The measure is what is left.
-use mathlib.Core.Path.{refl}
 use Prim.Native.Nat.{◌+◌, ◌-◌}
 use lib.ListN.{length, drop}
-use borrow.Author.Rules.{rules}
 use Rattle.classes.specs.Bytes.{lead}
 use Rattle.slices.specs.Eights.{outside}
 use Rattle.slices.specs.Slices.{is_start}
-use Rattle.slices.proofs.Searches.{Goes, goes-more, goes-here, goes_last}
+use Rattle.slices.proofs.Searches.{Goes}
 use Rattle.slices.proofs.start_from.Given as goal
 
 abbrev pub invariant-loop-i : goal.invariant-loop-i

@@ -1,5 +1,4 @@
 -- `starts_slice` meets its contract: its callee tells whether the byte is special.
-use borrow.Author.Rules.{rules}
 use Rattle.slices.proofs.starts_slice.Goals as goal
 
 pub returns : goal.returns

@@ -1,6 +1,5 @@
 -- `takes_feed` meets its contract: by the bytes that there are.
 use Rattle.slices.proofs.Feeds.{feed-end, feed-three}
-use borrow.Author.Rules.{rules}
 use Rattle.slices.proofs.takes_feed.Goals as goal
 
 pub returns-then-s-lt3 : goal.returns-then-s-lt3

@@ -10,14 +10,6 @@ use Rattle.stored.proofs.lay_blocks.Goals as goal
 pub loop-n-init : goal.loop-n-init
 loop-n-init c = going_start _ _ _ _ _
 
--- GONE same-length
--- same_length : tie.Need-same-length invariant-loop decreases-loop
--- same_length c = c.before.before.before.before.before.loop.invariant.wide
-
--- GONE same-length-2
--- same-length-2 : tie.Need-same-length-2 invariant-loop decreases-loop
--- same-length-2 c = c.before.before.before.before.before.loop.invariant.long
-
 pub returns-in-Bad : goal.returns-in-Bad
 returns-in-Bad c =
     let at-block-at = c in
@@ -47,20 +39,6 @@ add-laid-requires c =
     let inv = c.loop-n.invariant in
     rw (inv.wide, inv.long) inv.held
 
--- GONE same-length-3
--- same-length-3 : tie.Need-same-length-3 invariant-loop decreases-loop
--- same-length-3 c =
---     let at-add = c.before.before.before.before.before.before.before in
---     let at-loop = at-add.before.before.before.before.before.before.before.before.before.before.before in
---     at-add.add.auto.1.1.1.0 ∙ at-loop.loop.invariant.wide
-
--- GONE same-length-4
--- same-length-4 : tie.Need-same-length-4 invariant-loop decreases-loop
--- same-length-4 c =
---     let at-add = c.before.before.before.before.before.before.before in
---     let at-loop = at-add.before.before.before.before.before.before.before.before.before.before.before in
---     at-add.add.auto.1.1.1.1.0 ∙ at-loop.loop.invariant.long
-
 pub returns-in-NoBlock : goal.returns-in-NoBlock
 returns-in-NoBlock c =
     let at-add = c in
@@ -72,20 +50,6 @@ returns-in-NoBlock c =
           c.of.ensures full;
       still = omega arith;
     }
-
--- GONE same-length-5
--- same-length-5 : tie.Need-same-length-5 invariant-loop decreases-loop
--- same-length-5 c =
---     let at-add = c.before.before.before.before.before.before.before in
---     let at-loop = at-add.before.before.before.before.before.before.before.before.before.before.before in
---     at-add.add.auto.1.1.1.0 ∙ at-loop.loop.invariant.wide
-
--- GONE same-length-6
--- same-length-6 : tie.Need-same-length-6 invariant-loop decreases-loop
--- same-length-6 c =
---     let at-add = c.before.before.before.before.before.before.before in
---     let at-loop = at-add.before.before.before.before.before.before.before.before.before.before.before in
---     at-add.add.auto.1.1.1.1.0 ∙ at-loop.loop.invariant.long
 
 pub returns-in-NoText : goal.returns-in-NoText
 returns-in-NoText c =
@@ -121,14 +85,6 @@ loop-n-preserved c =
     at-add.add-laid.result _ _ _ at-add.add-laid.ensures.laid c.in-Fits.is at-add.add-laid.ensures.held
     at-add.add-laid.auto.blocks at-add.add-laid.auto.text
 
--- GONE same-length-7
--- same-length-7 : tie.Need-same-length-7 invariant-loop decreases-loop
--- same-length-7 c = c.before.before.before.loop.invariant.wide
-
--- GONE same-length-8
--- same-length-8 : tie.Need-same-length-8 invariant-loop decreases-loop
--- same-length-8 c = c.before.before.before.loop.invariant.long
-
 pub returns-then-t-gt0 : goal.returns-then-t-gt0
 returns-then-t-gt0 c = record { laid = going-left c.loop-n.invariant (omega arith) (omega arith) c.of-then-t-gt0.ensures; still = omega arith }
 
@@ -140,14 +96,6 @@ bounds-page-1 c = omega (arith, c.loop-n.invariant.held.words)
 
 pub bounds-page-2 : goal.bounds-page-2
 bounds-page-2 c = omega (arith, c.loop-n.invariant.held.words)
-
--- GONE same-length-9
--- same-length-9 : tie.Need-same-length-9 invariant-loop decreases-loop
--- same-length-9 c = c.before.before.loop.invariant.wide
-
--- GONE same-length-10
--- same-length-10 : tie.Need-same-length-10 invariant-loop decreases-loop
--- same-length-10 c = c.before.before.loop.invariant.long
 
 pub returns : goal.returns
 returns c = record { laid = going_end c.loop-n.invariant (omega arith) (omega arith); still = c.loop-n.invariant.held.ready }

@@ -1,5 +1,4 @@
 -- `is_flush` meets its contract: indent by indent, and behind the last one nothing is left to compare.
-use borrow.Author.Rules.{rules}
 use mathlib.Core.Bool.{and-true}
 use Rattle.styles.proofs.is_flush.Goals as goal
 

@@ -1,5 +1,4 @@
 -- `same_style` meets its contract: word by word, and behind the last word nothing is left to compare.
-use borrow.Author.Rules.{rules}
 use mathlib.Core.Bool.{and-true}
 use Rattle.styles.proofs.same_style.Goals as goal
 

@@ -3,7 +3,6 @@ use native.Mathlib.Omega.{arith}
 use lib.ListN.{length-set}
 use Rattle.rooms.proofs.Rooms.{put-out}
 use Rattle.tokens.proofs.Records.{put_six}
-use borrow.Author.Rules.{rules}
 use Rattle.tokens.proofs.put.Goals as goal
 
 pub bounds-room-at-then-n-room : goal.bounds-room-at-then-n-room

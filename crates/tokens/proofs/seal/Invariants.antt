@@ -1,9 +1,6 @@
 -- `seal` meets its contract. The invariant: whoever seals the records from i on has sealed all.
-use borrow.Author.Rules.{rules}
-use mathlib.Core.Path.{◌∙◌}
 use Prim.Native.Nat.{◌-◌}
-use native.Mathlib.Omega.{arith}
-use Rattle.tokens.proofs.Sealing.{Loop, loop-start, loop-next, loop-end}
+use Rattle.tokens.proofs.Sealing.{Loop}
 use Rattle.tokens.proofs.seal.Given as goal
 
 abbrev pub invariant-loop-i : goal.invariant-loop-i

@@ -2,7 +2,6 @@
 use native.Mathlib.Omega.{arith}
 use lib.ListN.{length-set}
 use Rattle.tokens.proofs.Sealing.{seal-in, seal-out}
-use borrow.Author.Rules.{rules}
 use Rattle.tokens.proofs.seal_one.Goals as goal
 
 pub bounds-room-at : goal.bounds-room-at

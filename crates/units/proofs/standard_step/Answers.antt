@@ -1,6 +1,5 @@
 -- `standard_step` meets its contract: no number, or one by its range.
 use Rattle.units.proofs.Branches.{standard-absent, standard-small, standard-negative, standard-outside}
-use borrow.Author.Rules.{rules}
 use Rattle.units.proofs.standard_step.Goals as goal
 
 pub returns-then-v-lt65536 : goal.returns-then-v-lt65536

@@ -1,6 +1,5 @@
 -- `step` meets its contract: no number, or one by its range. Assumes nothing.
 use Rattle.units.proofs.Branches.{step-absent, step_small, step-negative, step-outside}
-use borrow.Author.Rules.{rules}
 use Rattle.units.proofs.step.Goals as goal
 
 pub returns-then-v-lt65536 : goal.returns-then-v-lt65536

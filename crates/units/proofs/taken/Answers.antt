@@ -1,6 +1,5 @@
 -- `taken` meets its contract: a pair, a high surrogate that waits, or a value. Assumes nothing.
 use Rattle.units.proofs.Branches.{taken-pair, taken-high, taken-value}
-use borrow.Author.Rules.{rules}
 use Rattle.units.proofs.taken.Goals as goal
 
 pub returns-then-lost-is_low : goal.returns-then-lost-is_low

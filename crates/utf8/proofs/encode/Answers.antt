@@ -1,5 +1,4 @@
 -- `encode` meets its contract, by the two answers of `is_scalar`. Assumes nothing.
-use borrow.Author.Rules.{rules}
 use Rattle.utf8.proofs.Utf8.{low_scalar, encoded-scalar, encoded-other}
 use Rattle.utf8.proofs.encode.Goals as goal
 

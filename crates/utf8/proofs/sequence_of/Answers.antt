@@ -1,5 +1,4 @@
 -- `sequence_of` meets its contract: each range of the table has its law. Assumes nothing.
-use borrow.Author.Rules.{rules}
 use native.Mathlib.Omega.{arith}
 use Rattle.utf8.specs.Utf8.{padded}
 use Rattle.utf8.proofs.Utf8.{one_byte, two_bytes, three-bytes, four_bytes}

@@ -1,6 +1,5 @@
 -- `aim_at` meets its contract: case by case.
 use Rattle.walk.proofs.Looks.{aim-word}
-use borrow.Author.Rules.{rules}
 use Rattle.walk.proofs.aim_at.Goals as goal
 
 pub returns-in-Word : goal.returns-in-Word

@@ -1,8 +1,5 @@
 -- `aim_of` meets its contract: what the tokens that are left make of the group, the whole makes of it.
-use borrow.Author.Rules.{rules}
-use native.Mathlib.Omega.{arith}
-use mathlib.Core.Logic.{⊎_elim}
-use Rattle.walk.proofs.Looks.{Looking, look-start, look_none, look-found, look-more}
+use Rattle.walk.proofs.Looks.{Looking}
 use Rattle.walk.proofs.aim_of.Given as goal
 
 abbrev pub invariant-loop-n : goal.invariant-loop-n

@@ -1,6 +1,6 @@
 -- `extent` meets its contract: the tokens that were measured and those that are left make the whole.
 use native.Mathlib.Omega.{arith}
-use Rattle.walk.proofs.Looks.{Measuring, measure-start, measure-more, measure-end, measure-none}
+use Rattle.walk.proofs.Looks.{measure-start, measure-more, measure-end, measure-none}
 use Rattle.walk.proofs.extent.Goals as goal
 
 pub loop-n-init : goal.loop-n-init
@@ -14,14 +14,6 @@ level-d-requires c = (c.loop-n.invariant.some, (let a = c.loop-n.invariant.deep 
 
 pub slice_bounds-t-count : goal.slice_bounds-t-count
 slice_bounds-t-count c = let w = c.loop-n.invariant.words in omega arith
-
--- GONE slice-bounds-t-start
--- part-t-start : tie.Need-slice-bounds-t-start invariant-loop decreases-loop
--- part-t-start c = let w = c.before.before.before.loop.invariant.words in omega arith
-
--- GONE slice-bounds-t-end
--- part-t-end : tie.Need-slice-bounds-t-end invariant-loop decreases-loop
--- part-t-end c = omega arith
 
 pub overflow_sub-result : goal.overflow_sub-result
 overflow_sub-result c = let b = c.loop-n.invariant.few in omega arith

@@ -1,6 +1,5 @@
 -- `extent` meets its contract: the tokens that were measured and those that are left make the whole.
-use native.Mathlib.Omega.{arith}
-use Rattle.walk.proofs.Looks.{Measuring, measure-start, measure-more, measure-end, measure-none}
+use Rattle.walk.proofs.Looks.{Measuring}
 use Rattle.walk.proofs.extent.Given as goal
 
 abbrev pub invariant-loop-n : goal.invariant-loop-n

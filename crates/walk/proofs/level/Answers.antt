@@ -1,6 +1,5 @@
 -- `level` meets its contract: case by case.
 use native.Mathlib.Omega.{arith}
-use borrow.Author.Rules.{rules}
 use Rattle.walk.proofs.level.Goals as goal
 
 pub returns-in-Opening : goal.returns-in-Opening

@@ -1,7 +1,6 @@
 -- `table_word` meets its contract: the word that the tokens that are left have is that of all.
-use borrow.Author.Rules.{rules}
 use native.Mathlib.Omega.{arith}
-use Rattle.walk.proofs.Looks.{Seeking, seek-start, seek-none, seek_found, seek-more}
+use Rattle.walk.proofs.Looks.{seek-start, seek-none, seek_found, seek-more}
 use Rattle.walk.proofs.table_word.Goals as goal
 
 pub loop-n-init : goal.loop-n-init
@@ -18,14 +17,6 @@ returns-then-not-is_break c = seek_found c.loop-n.invariant c.loop-n-test.true c
 
 pub slice_bounds-t-count : goal.slice_bounds-t-count
 slice_bounds-t-count c = let w = c.loop-n.invariant.words in let z = c.loop-n-test.true in omega arith
-
--- GONE slice-bounds-t-start
--- part-t-start : tie.Need-slice-bounds-t-start invariant-loop decreases-loop
--- part-t-start c = let w = c.before.before.before.before.loop.invariant.words in let z = c.before.before.before.loop-test.true in omega arith
-
--- GONE slice-bounds-t-end
--- part-t-end : tie.Need-slice-bounds-t-end invariant-loop decreases-loop
--- part-t-end c = omega arith
 
 pub loop-n-smaller : goal.loop-n-smaller
 loop-n-smaller c = let z = c.loop-n-test.true in omega arith

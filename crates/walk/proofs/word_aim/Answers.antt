@@ -1,6 +1,5 @@
 -- `word_aim` meets its contract: the words in the order of `word_aim`.
 use borrow.Author.Tests.{eq-eqb, ne_eqb}
-use borrow.Author.Rules.{rules}
 use Rattle.walk.proofs.word_aim.Goals as goal
 
 pub returns-then-w-eq-STYLE_SHEET : goal.returns-then-w-eq-STYLE_SHEET

@@ -1,7 +1,6 @@
 -- `character` meets its contract: by the range of the byte.
 use borrow.Author.Tests.{lt-ltb, le-ltb}
 use Rattle.windows.specs.Windows.{windows1252}
-use borrow.Author.Rules.{rules}
 use Rattle.windows.proofs.character.Goals as goal
 
 pub returns-then-b-lt128 : goal.returns-then-b-lt128

@@ -1,5 +1,4 @@
 -- `own_characters` meets its contract: the rows are those of the table.
-use borrow.Author.Rules.{rules}
 use mathlib.Core.Path.{refl}
 use Rattle.windows.specs.Windows.{own}
 use Rattle.windows.proofs.own_characters.Goals as goal

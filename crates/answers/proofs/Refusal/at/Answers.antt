@@ -1,6 +1,5 @@
 -- `Refusal::at` meets its contract: a number that carries its place, or one that does not.
 use Rattle.answers.proofs.Refusals.{at_carried, at_bare}
-use borrow.Author.Rules.{rules}
 use Rattle.answers.proofs.Refusal.at.Goals as goal
 
 pub returns-then-n : goal.returns-then-n

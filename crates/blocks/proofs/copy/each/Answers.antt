@@ -1,10 +1,8 @@
 -- `each` meets its contract: byte by byte.
 use borrow.Author.Rules.{rules}
-use Prim.Native.Nat.{◌≤◌, ◌-◌}
-use mathlib.Core.Path.{◌≡◌}
 use native.Mathlib.Omega.{arith}
-use lib.ListN.{length, length-set}
-use lib.Seq.{paste, paste-zero}
+use lib.ListN.{length-set}
+use lib.Seq.{paste-zero}
 use Rattle.blocks.proofs.Copying.{byte_more, copy-end}
 use Rattle.blocks.proofs.copy.each.Goals as goal
 
@@ -19,10 +17,6 @@ loop-i-smaller c = omega arith
 
 pub loop-i-preserved : goal.loop-i-preserved
 loop-i-preserved c = (omega arith, simp length-set c.loop-i.invariant.1, byte_more _ _ _ c.requires _ (omega arith) c.loop-i.invariant.2)
-
--- GONE same-length
--- same_length : tie.Need-same-length invariant-loop decreases-loop
--- same_length c = c.before.loop.invariant.1
 
 pub returns : goal.returns
 returns c = copy-end _ _ _ c.requires c.loop-i.i (omega arith) c.loop-i.invariant.2

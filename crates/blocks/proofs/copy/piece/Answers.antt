@@ -2,7 +2,6 @@
 use mathlib.Core.Path.{sym}
 use native.Mathlib.Omega.{arith}
 use Rattle.blocks.proofs.Copying.{held-length, piece-held}
-use borrow.Author.Rules.{rules}
 use Rattle.blocks.proofs.copy.piece.Goals as goal
 
 pub slice_bounds-each-end-3 : goal.slice_bounds-each-end-3

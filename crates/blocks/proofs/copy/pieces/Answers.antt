@@ -1,10 +1,9 @@
 -- `pieces` meets its contract. The invariant: the bytes before i are copied. The measure: what is left before the last piece.
 use borrow.Author.Rules.{rules}
-use Prim.Native.Nat.{◌+◌, ◌-◌, ◌≤◌}
-use mathlib.Core.Path.{◌≡◌}
+use Prim.Native.Nat.{◌+◌, ◌-◌}
 use native.Mathlib.Omega.{arith}
 use lib.ListN.{length}
-use lib.Seq.{paste, paste-zero}
+use lib.Seq.{paste-zero}
 use Rattle.blocks.proofs.Copying.{piece-more, copy-end}
 use Rattle.blocks.proofs.copy.pieces.Goals as goal
 

@@ -1,11 +1,8 @@
 -- `pieces` meets its contract. The invariant: the bytes before i are copied. The measure: what is left before the last piece.
-use borrow.Author.Rules.{rules}
-use Prim.Native.Nat.{◌+◌, ◌-◌, ◌≤◌}
+use Prim.Native.Nat.{◌-◌, ◌≤◌}
 use mathlib.Core.Path.{◌≡◌}
-use native.Mathlib.Omega.{arith}
 use lib.ListN.{length}
-use lib.Seq.{paste, paste-zero}
-use Rattle.blocks.proofs.Copying.{piece-more, copy-end}
+use lib.Seq.{paste}
 use Rattle.blocks.proofs.copy.pieces.Given as goal
 
 abbrev pub invariant-loop-i : goal.invariant-loop-i

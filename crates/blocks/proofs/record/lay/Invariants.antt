@@ -1,11 +1,8 @@
 -- `lay` meets its contract: word by word.
-use borrow.Author.Rules.{rules}
 use Prim.Native.Nat.{◌≤◌, ◌-◌}
 use mathlib.Core.Path.{◌≡◌}
-use native.Mathlib.Omega.{arith}
-use lib.ListN.{length, length-set}
-use lib.Seq.{paste, paste-zero}
-use Rattle.blocks.proofs.Copying.{byte_more, copy-end}
+use lib.ListN.{length}
+use lib.Seq.{paste}
 use Rattle.blocks.proofs.record.lay.Given as goal
 
 abbrev pub invariant-loop-i : goal.invariant-loop-i

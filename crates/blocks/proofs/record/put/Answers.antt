@@ -5,7 +5,6 @@ use lib.ListN.{length-set}
 use lib.Seq.{sets}
 use Rattle.rooms.proofs.Rooms.{put-out}
 use Rattle.blocks.proofs.Records.{put_record}
-use borrow.Author.Rules.{rules}
 use Rattle.blocks.proofs.record.put.Goals as goal
 
 pub bounds-room-at-then-n-room : goal.bounds-room-at-then-n-room

@@ -1,7 +1,6 @@
 -- `style_in` meets its contract: the words from the record on say it.
 use mathlib.Core.Path.{◌∙◌}
 use Rattle.blocks.proofs.Records.{style-part}
-use borrow.Author.Rules.{rules}
 use Rattle.blocks.proofs.record.style_in.Goals as goal
 
 pub returns : goal.returns

@@ -1,6 +1,6 @@
 -- `put` meets its contract: three stores are the record's words.
 use native.Mathlib.Numerals.{towards_suc}
-use Rattle.std.proofs.Common.{arith, length-set, rules}
+use Rattle.std.proofs.Common.{arith, length-set}
 use Rattle.fonts.proofs.rows.put.Goals as goal
 
 pub bounds-room-at-2 : goal.bounds-room-at-2

@@ -1,7 +1,7 @@
 -- `rank` meets its contract. The invariant: the records before `low` have smaller keys, those from `high` on do not. The measure is
 -- what lies between.
-use Rattle.std.proofs.Common.{◌-◌, arith}
-use Rattle.fonts.proofs.Searches.{Half, half-start, half-low, half_high, half-end}
+use Rattle.std.proofs.Common.{arith}
+use Rattle.fonts.proofs.Searches.{half-start, half-low, half_high, half-end}
 use Rattle.fonts.proofs.rows.rank.Goals as goal
 
 pub loop-low-init : goal.loop-low-init

@@ -1,6 +1,6 @@
 -- `shift` meets its contract. The invariant: the words from i on have moved. The measure is i.
-use Rattle.std.proofs.Common.{arith, rules}
-use Rattle.fonts.proofs.Shifts.{Shifting, shift-start, shift-more, shift-end}
+use Rattle.std.proofs.Common.{arith}
+use Rattle.fonts.proofs.Shifts.{shift-start, shift-more, shift-end}
 use Rattle.fonts.proofs.rows.shift.Goals as goal
 
 pub loop-i-init : goal.loop-i-init
@@ -17,10 +17,6 @@ bounds-room-next c = omega (arith, c.loop-i.invariant, c.loop-i.invariant.fits)
 
 pub loop-i-preserved : goal.loop-i-preserved
 loop-i-preserved c = shift-more c.loop-i.invariant c.loop-i-test.true
-
--- GONE same-length
--- same_length : tie.Need-same-length invariant-loop decreases-loop
--- same_length c = c.before.loop.invariant.long
 
 pub returns : goal.returns
 returns c = shift-end c.loop-i.invariant c.loop-i-test.false

@@ -1,6 +1,5 @@
 -- `shift` meets its contract. The invariant: the words from i on have moved. The measure is i.
-use Rattle.std.proofs.Common.{arith, rules}
-use Rattle.fonts.proofs.Shifts.{Shifting, shift-start, shift-more, shift-end}
+use Rattle.fonts.proofs.Shifts.{Shifting}
 use Rattle.fonts.proofs.rows.shift.Given as goal
 
 abbrev pub invariant-loop-i : goal.invariant-loop-i

@@ -1,5 +1,5 @@
 -- `stands` meets its contract.
-use Rattle.std.proofs.Common.{rules, le-ltb, lt-ltb}
+use Rattle.std.proofs.Common.{le-ltb, lt-ltb}
 use Rattle.fonts.proofs.rows.stands.Goals as goal
 
 pub returns-then-r-n : goal.returns-then-r-n

@@ -1,6 +1,5 @@
 -- `store` meets its contract: the record of the key is written over; or there is none, and no room; or the later ones move on.
 use Rattle.fonts.proofs.Inserts.{store-over, store-full, store-new, over-fits}
-use Rattle.std.proofs.Common.{rules}
 use Rattle.fonts.proofs.rows.store.Goals as goal
 
 pub put-requires : goal.put-requires

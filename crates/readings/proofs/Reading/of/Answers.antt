@@ -1,5 +1,4 @@
 -- `of` meets its contract: by whether the number is 1, or 2.
-use borrow.Author.Rules.{rules}
 use borrow.Author.Tests.{eq-eqb, ne_eqb}
 use Rattle.readings.proofs.Reading.of.Goals as goal
 

@@ -1,5 +1,4 @@
 -- `fresh` meets its contract.
-use borrow.Author.Rules.{rules}
 use Rattle.settings.proofs.State.fresh.Goals as goal
 
 pub returns : goal.returns

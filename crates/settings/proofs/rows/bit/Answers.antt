@@ -1,5 +1,4 @@
 -- `bit` meets its contract: on, or not.
-use borrow.Author.Rules.{rules}
 use native.Mathlib.Omega.{arith}
 use borrow.Author.Tests.{ne_eqb}
 use Rattle.settings.proofs.rows.bit.Goals as goal

@@ -1,6 +1,5 @@
 -- `flags` meets its contract: the sum of its bits.
 use Rattle.settings.specs.Fields.{flags_of}
-use borrow.Author.Rules.{rules}
 use Rattle.settings.proofs.rows.flags.Goals as goal
 
 pub returns : goal.returns

@@ -2,7 +2,6 @@
 use mathlib.Core.Path.{refl}
 use Rattle.settings.specs.Fields.{resets}
 use Rattle.settings.specs.Rows.{settled, settle_at}
-use borrow.Author.Rules.{rules}
 use Rattle.settings.proofs.rows.reset_paragraph.Goals as goal
 
 pub returns : goal.returns

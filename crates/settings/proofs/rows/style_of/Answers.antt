@@ -1,6 +1,5 @@
 -- `style_of` meets its contract: field by field.
 use Rattle.settings.specs.Fields.{style_of}
-use borrow.Author.Rules.{rules}
 use Rattle.settings.proofs.rows.style_of.Goals as goal
 
 pub returns : goal.returns

@@ -2,7 +2,6 @@
 use mathlib.Core.Path.{sym, ◌∙◌}
 use native.Mathlib.Omega.{arith}
 use lib.Bits.{bit_and, and_le_r, xor_lt}
-use borrow.Author.Rules.{rules}
 use Rattle.slices.proofs.Bitwise.{done, marks-right, starts-right}
 use Rattle.slices.proofs.eights.starts.Goals as goal
 

@@ -1,6 +1,5 @@
 -- `starts_of` meets its contract: the number is that of the bytes. Assumes nothing.
 use native.Mathlib.Omega.{arith}
-use borrow.Author.Rules.{rules}
 use Rattle.slices.proofs.eights.starts_of.Goals as goal
 
 pub word_of-w-requires : goal.word_of-w-requires

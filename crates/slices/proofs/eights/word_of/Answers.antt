@@ -1,8 +1,7 @@
 -- `word_of` meets its contract. The invariant: w is the number of the bytes from i on. The measure is i.
 use Prim.Native.Nat.{◌-◌}
 use native.Mathlib.Omega.{arith}
-use borrow.Author.Rules.{rules}
-use Rattle.slices.proofs.Packed.{From, from_start, from-room, from_more, from_all}
+use Rattle.slices.proofs.Packed.{from_start, from-room, from_more, from_all}
 use Rattle.slices.proofs.eights.word_of.Goals as goal
 
 pub loop-i-init : goal.loop-i-init
@@ -13,10 +12,6 @@ overflow_mul-w c = let r = from-room c.loop-i.invariant c.requires c.loop-i-test
 
 pub bounds-s-i : goal.bounds-s-i
 bounds-s-i c = omega (arith, c.loop-i.invariant.within)
-
--- GONE cast-w
--- cast-w : tie.Need-overflow-cast-w invariant-loop decreases-loop
--- cast-w c = let b = c.shared-slice-known.given in omega (arith, b (c.before.before.loop.i - 1))
 
 pub overflow_add-w : goal.overflow_add-w
 overflow_add-w c = let r = from-room c.loop-i.invariant c.requires c.loop-i-test.true in let b = c.type_inv.s (c.loop-i.i - 1) in omega (arith, r, b)

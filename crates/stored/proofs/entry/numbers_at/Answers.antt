@@ -31,20 +31,12 @@ loop-i-preserved c =
     let at-loop = at-number-at in
     reading-more at-loop.loop-i.invariant (omega arith) at-number-at.number_at-n.ensures at_n.in-Is.is
 
--- GONE same-length
--- same_length : tie.Need-same-length invariant-loop decreases-loop
--- same_length c = c.before.before.before.before.before.loop.invariant.wide
-
 pub returns-in-Bad : goal.returns-in-Bad
 returns-in-Bad c =
     let at-number-at = c in
     let at-loop = at-number-at in
     reading-bad at-loop.loop-i.invariant (omega arith) _ _ at-number-at.number_at-n.ensures c.in-Bad.is
     c.of.ensures
-
--- GONE same-length-2
--- same-length-2 : tie.Need-same-length-2 invariant-loop decreases-loop
--- same-length-2 c = c.before.before.before.before.before.loop.invariant.wide
 
 pub returns-in-Short : goal.returns-in-Short
 returns-in-Short c =
@@ -55,10 +47,6 @@ returns-in-Short c =
 
 pub overflow_sub-result : goal.overflow_sub-result
 overflow_sub-result c = let w = c.loop-i.invariant.left in omega arith
-
--- GONE same-length-3
--- same-length-3 : tie.Need-same-length-3 invariant-loop decreases-loop
--- same-length-3 c = c.before.loop.invariant.wide
 
 pub returns : goal.returns
 returns c = reading-end c.loop-i.invariant (omega arith)

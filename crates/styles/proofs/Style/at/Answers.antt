@@ -1,7 +1,6 @@
 -- `at` meets its contract: word by word.
 use Rattle.styles.specs.Styles.{style_at}
 use mathlib.Core.Path.{refl}
-use borrow.Author.Rules.{rules}
 use Rattle.styles.proofs.Style.at.Goals as goal
 
 pub returns : goal.returns

@@ -1,6 +1,5 @@
 -- `blank` meets its contract: each of fourteen zeros is zero.
 use Rattle.styles.specs.Styles.{style_at, no_style}
-use borrow.Author.Rules.{rules}
 use Rattle.styles.proofs.Style.blank.Goals as goal
 
 pub returns : goal.returns

@@ -1,5 +1,4 @@
 -- `Record::symbol` meets its contract: its fields are what its two callees answer.
-use borrow.Author.Rules.{rules}
 use Rattle.tokens.proofs.Record.symbol.Goals as goal
 
 pub returns : goal.returns

@@ -1,7 +1,6 @@
 -- `item_at` meets its contract: the kinds are tried in the order of `item_of`.
 use Rattle.tokens.proofs.Items.{item-opening, item-closing, item-break, item-ignorable, item-word, item-symbol, item-text}
 use mathlib.Core.Path.{refl}
-use borrow.Author.Rules.{rules}
 use Rattle.tokens.proofs.item.item_at.Goals as goal
 
 pub returns-then-kind-eq1 : goal.returns-then-kind-eq1

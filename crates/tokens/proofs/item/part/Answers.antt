@@ -2,7 +2,6 @@
 use native.Mathlib.Omega.{arith}
 use lib.ListN.{length-take, length-drop}
 use Rattle.tokens.proofs.Items.{part_none, part-short, part-whole}
-use borrow.Author.Rules.{rules}
 use Rattle.tokens.proofs.item.part.Goals as goal
 
 pub returns-then-source-from : goal.returns-then-source-from

@@ -17,14 +17,6 @@ overflow_sub-s c = let w = c.loop-at.invariant.high in omega arith
 pub overflow_add-next : goal.overflow_add-next
 overflow_add-next c = let w = c.loop-at.invariant.high in let f = c.well_formed in omega arith
 
--- GONE slice-bounds-has-high-start
--- part-has-high-start : tie.Need-slice-bounds-has-high-start invariant-loop decreases-loop
--- part-has-high-start c = let w = c.before.loop.invariant.high in omega arith
-
--- GONE slice-bounds-has-high-end
--- part-has-high-end : tie.Need-slice-bounds-has-high-end invariant-loop decreases-loop
--- part-has-high-end c = let w = c.before.loop.invariant.high in omega arith
-
 pub returns-then-has_high : goal.returns-then-has_high
 returns-then-has_high c = c.loop-at.invariant
 

@@ -16,14 +16,6 @@ overflow_sub-s c = let w = c.loop-at.invariant.high in omega arith
 pub overflow_add-next : goal.overflow_add-next
 overflow_add-next c = let w = c.loop-at.invariant.high in let f = c.well_formed in omega arith
 
--- GONE slice-bounds-highs-of-start
--- part-highs-of-start : tie.Need-slice-bounds-highs-of-start invariant-loop decreases-loop
--- part-highs-of-start c = let w = c.before.loop.invariant.high in omega arith
-
--- GONE slice-bounds-highs-of-end
--- part-highs-of-end : tie.Need-slice-bounds-highs-of-end invariant-loop decreases-loop
--- part-highs-of-end c = let w = c.before.loop.invariant.high in omega arith
-
 pub highs_of-bits-requires : goal.highs_of-bits-requires
 highs_of-bits-requires c = simp (length-take, length-drop) (omega arith)
 

@@ -14,10 +14,6 @@ overflow_mul-w c = let r = from-room c.loop-i.invariant c.requires c.loop-i-test
 pub bounds-s-i : goal.bounds-s-i
 bounds-s-i c = omega (arith, c.loop-i.invariant.within)
 
--- GONE cast-w
--- cast-w : tie.Need-overflow-cast-w invariant-loop decreases-loop
--- cast-w c = let b = c.shared-slice-known.given in omega (arith, b (c.before.before.loop.i - 1))
-
 pub overflow_add-w : goal.overflow_add-w
 overflow_add-w c =
     let at-loop = c in
