@@ -14,7 +14,6 @@ use lib.Dec.{eqb, ltb}
 use Rattle.readings.specs.declared.Reading.{Reading}
 use Rattle.tokens.specs.declared.item.Item.TheVariants.{Text, Closing, LineBreak, Ignorable, Word, Unknown, Symbol}
 use Rattle.tokens.specs.Tokens.{Shown, Token, slice_of, shown_in, token_words, shown_by}
-use Rattle.tokens.specs.Tokens
 use Rattle.tokens.specs.Items.{item_at, item_of, number_at, shown_of, shown_all, slice_at, token_at}
 use Rattle.tokens.proofs.Items.{rest, shown-some}
 use Rattle.walk.specs.declared.Aim.{Aim}

@@ -21,7 +21,6 @@ use Rattle.rooms.proofs.Streams.{Each}
 use Rattle.tokens.specs.declared.Property.{Property}
 use Rattle.tokens.specs.declared.Property.TheVariants.{Value}
 use Rattle.tokens.specs.Tokens.{Shown, value_of}
-use Rattle.tokens.specs.Tokens
 use Rattle.controls.specs.Controls.{shown_word, numbered}
 
 -- the bytes bs stand at source place q, where s stands at p

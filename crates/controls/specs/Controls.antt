@@ -9,7 +9,6 @@ use Rattle.rooms.specs.Streams.{Stream, end, stop, ◌▸◌}
 use Rattle.tokens.specs.declared.Property.{Property}
 use Rattle.tokens.specs.declared.Property.TheVariants.{Value}
 use Rattle.tokens.specs.Tokens.{Shown}
-use Rattle.tokens.specs.Tokens
 use Rattle.tokens.specs.WordNumbers as words
 
 -- a word by its name: "49 is unknown", and shows "its backslash, without its number"

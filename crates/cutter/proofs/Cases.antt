@@ -10,7 +10,7 @@ use Rattle.classes.specs.Bytes.{lead, body, any}
 use Rattle.classes.specs.Texts.{bytes_of}
 use Rattle.names.specs.Names.{same_bytes, place_in, word_number}
 use Rattle.numbers.specs.Numbers.{hex_digit, hex_pair, digits_from, digits, decimal}
-use Rattle.rooms.specs.Streams.{and_then, each, answer, ended}
+use Rattle.rooms.specs.Streams.{and_then, each, ended}
 use Rattle.rooms.specs.Rooms.{encode, settled, content}
 use Rattle.readings.specs.declared.Reading.{Reading}
 use Rattle.readings.specs.declared.Reading.TheVariants.{Plain, Paragraphs}

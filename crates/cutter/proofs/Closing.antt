@@ -3,9 +3,9 @@
 --     cut_all    the tokens of a trimmed source's slices are those of `all_slices`
 -- Assumes nothing.
 use mathlib.Core.Path.{◌≡◌, refl, sym, ap, ◌∙◌}
-use mathlib.Core.List.{List, [], ◌∷◌, ◌++◌}
+use mathlib.Core.List.{List, [], ◌∷◌}
 use mathlib.Core.Bool.{Bool, true, false, cond, true≢false, false≢true}
-use Prim.Native.Nat.{ℕ, zero, suc, ◌+◌, ◌-◌, ◌≤◌, ◌<◌}
+use Prim.Native.Nat.{ℕ, zero, suc, ◌+◌, ◌-◌, ◌<◌}
 use native.Mathlib.Omega.{arith}
 use lib.ListN.{length, get_or, take, drop}
 use Rattle.answers.specs.declared.Why.{Why}
@@ -18,9 +18,9 @@ use Rattle.readings.specs.declared.Reading.{Reading}
 use Rattle.readings.specs.declared.Reading.TheVariants.{Plain, Paragraphs, Standard}
 use Rattle.rooms.specs.Streams.{Stream, end, stop, ◌▸◌, and_then, each}
 use Rattle.slices.specs.Slices.{Behind, anything, starts_standard, behind, onto, split_standard, standard_slices, slices_by}
-use Rattle.tokens.specs.Tokens.{Shown, Token, token, slice_of, shown_in}
+use Rattle.tokens.specs.Tokens.{Shown, Token, token}
 use Rattle.standard.specs.Standard.{tokens as standard_tokens}
-use Rattle.standard.specs.Closing.{is_closing, closed, is_bracket}
+use Rattle.standard.specs.Closing.{is_closing, closed}
 use Rattle.standard.proofs.Closing.{whole, last_byte, closed-tokens, closed-check}
 use Rattle.cutter.specs.Cutting.{located, last_by, all_slices, every, closed_behind, closing, cut_by, trim_start, trimmed}
 

@@ -17,11 +17,10 @@ use Rattle.readings.specs.declared.Reading.{Reading}
 use Rattle.rooms.specs.Streams.{Stream, end, stop, ◌▸◌, and_then, count, answer}
 use Rattle.rooms.specs.Rooms.{capacity, settled}
 use Rattle.rooms.proofs.Streams.{count-then, count-each, answer-count}
-use Rattle.slices.specs.Slices.{slices_by, slices}
+use Rattle.slices.specs.Slices.{slices_by}
 use Rattle.slices.proofs.Slices.{joined}
 use Rattle.slices.proofs.Feeds.{joined-slices_by}
 use Rattle.tokens.specs.Tokens.{Shown, Token, token, token_layout, token_words}
-use Rattle.tokens.specs.Tokens
 use Rattle.readings.specs.declared.Reading.TheVariants.{Plain, Paragraphs, Standard}
 use Rattle.answers.specs.declared.Refusal.{Refusal}
 use Rattle.standard.specs.Closing.{is_bracket}

@@ -18,11 +18,10 @@ use Rattle.classes.specs.Bytes.{in_class, body, is_high, any}
 use Rattle.classes.proofs.Runs.{lead-length}
 use Rattle.readings.specs.declared.Reading.{Reading}
 use Rattle.rooms.specs.Streams.{end, stop, ◌▸◌}
-use Rattle.slices.specs.Slices.{slices_by, slices}
+use Rattle.slices.specs.Slices.{slices_by}
 use Rattle.slices.proofs.Slices.{joined}
 use Rattle.slices.proofs.Feeds.{joined-slices_by}
 use Rattle.tokens.specs.Tokens.{Shown, Token, token, slice_of, slice_length_of, shown_in}
-use Rattle.tokens.specs.Tokens
 use Rattle.readings.specs.declared.Reading.TheVariants.{Plain, Paragraphs, Standard}
 use Rattle.standard.specs.Closing.{is_bracket}
 use Rattle.rooms.proofs.Streams.{Each, Each-then, Each-each, Each-weaken}

@@ -22,10 +22,9 @@ use Rattle.rooms.specs.Streams.{Stream, end, stop, ◌▸◌, count, each, by_re
 use Rattle.rooms.specs.Rooms.{capacity, put, put_all, Wrote, encode, settled, content}
 use Rattle.rooms.proofs.Streams.{answer-count}
 use Rattle.rooms.proofs.Rooms.{wrote_one, length-encode, put_all-front, settled-fits, settled-over}
-use Rattle.slices.specs.Slices.{slices_by, slices}
+use Rattle.slices.specs.Slices.{slices_by}
 use Rattle.tokens.specs.declared.Record.{Record}
 use Rattle.tokens.specs.Tokens.{Shown, Token, token, token_words, record_words, bare_record, shown_layout, token_layout, sealed_all}
-use Rattle.tokens.specs.Tokens
 use Rattle.tokens.proofs.Records.{token-sized, closing-record, wrote-token}
 use Rattle.tokens.proofs.Sealing.{sealed-wrote}
 use Rattle.standard.specs.Closing.{is_bracket}

@@ -2,7 +2,7 @@
 --     stream-slices   the slices of a source's tokens
 --     stream-stops    a refusal
 -- Assumes nothing.
-use mathlib.Core.Path.{◌≡◌, refl, sym, ap, ◌∙◌}
+use mathlib.Core.Path.{◌≡◌, refl, ap}
 use mathlib.Core.List.{List, [], ◌∷◌, ◌++◌}
 use mathlib.Core.Bool.{Bool, true, false, cond, ◌&&◌, ◌||◌, false≢true}
 use Prim.Native.Nat.{ℕ, ◌+◌, ◌≤◌, ◌<◌}
@@ -28,7 +28,6 @@ use Rattle.slices.specs.Slices.{Behind, anything, starts_standard, behind, split
 use Rattle.slices.proofs.Slices.{joined}
 use Rattle.slices.proofs.Feeds.{joined-slices_by}
 use Rattle.tokens.specs.Tokens.{Shown, Token, token, slice_of}
-use Rattle.tokens.specs.Tokens
 use Rattle.standard.specs.Closing.{is_bracket}
 use Rattle.cutter.specs.Cutting.{tokens_by, located, last, last_by, all_slices, cut_by, trim_start, trimmed, token_stream, starts_from, SliceAt, SlicesIn}
 use Rattle.cutter.proofs.Closing.{cut_all}

@@ -25,13 +25,11 @@ use Rattle.rooms.proofs.Streams.{Each, answer-count, done_refused}
 use Rattle.tokens.specs.declared.Property.{Property}
 use Rattle.tokens.specs.declared.Property.TheVariants.{None, Value}
 use Rattle.tokens.specs.Tokens.{Shown, Token, token, has_of, value_of, record_of, record_words, slice_words, token_layout, token_words}
-use Rattle.tokens.specs.Tokens
 use Rattle.tokenize.proofs.Places.{At, Stands}
 use Rattle.cutter.specs.Cutting.{token_stream, cut_answer, cut_room, Cuts}
 use Rattle.cutter.proofs.Places.{Placed, stream-places}
 use Rattle.cutter.proofs.Starts.{stream-slices}
 use Rattle.cutter.proofs.Counts.{count-stream}
-use Rattle.tokens.specs.declared.item.Item.{Item}
 use Rattle.tokens.specs.declared.item.Item.TheVariants.{Unknown, Word}
 use Rattle.tokens.specs.Items.{property_of, item_of, item_at, part, shown_of, token_at, tokens_all}
 use Rattle.answers.specs.declared.Refusal.{Refusal}

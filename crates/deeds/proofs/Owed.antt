@@ -3,16 +3,16 @@
 --     still-brace, still-none, still-some    how many are owed behind it, where some were
 --     owed-word, owed-other                  and where none were
 -- Assumes nothing.
-use mathlib.Core.Path.{◌≡◌, refl, sym, ap, ◌∙◌}
+use mathlib.Core.Path.{◌≡◌, refl, sym, ◌∙◌}
 use mathlib.Core.List.{List}
-use mathlib.Core.Bool.{Bool, true, false, cond, not, ◌&&◌, true≢false}
+use mathlib.Core.Bool.{Bool, true, false, ◌&&◌}
 use Prim.Native.Nat.{ℕ, zero, suc, ◌-◌, ◌≤◌, ◌<◌}
 use native.Mathlib.Omega.{arith}
 use lib.ListN.{get_or}
 use lib.Dec.{eqb, leb}
 use Rattle.readings.specs.declared.Reading.{Reading}
 use Rattle.settings.specs.Fields.{Setting}
-use Rattle.machine.specs.Machine.{Deed, is_brace, counts, left, is_passed, owing, owed_behind}
+use Rattle.machine.specs.Machine.{Deed, is_brace, counts, left, is_passed, owed_behind}
 use Rattle.machine.proofs.Left.{passed-count}
 use Rattle.deeds.specs.Turns.{deed_at}
 use Rattle.deeds.proofs.Words.{unit-at, owes-other, never-passed}

@@ -17,7 +17,6 @@ use Rattle.readings.specs.declared.Reading.{Reading}
 use Rattle.tokens.specs.declared.Property.{Property}
 use Rattle.tokens.specs.declared.item.Item.TheVariants.{Text, Opening, Closing, LineBreak, Ignorable, Word, Unknown, Symbol}
 use Rattle.tokens.specs.Tokens.{Shown}
-use Rattle.tokens.specs.Tokens
 use Rattle.tokens.specs.Items.{item_at, item_of, word_item, number_at, shown_of, part}
 use Rattle.settings.specs.Fields.{Setting}
 use Rattle.settings.specs.Effects.{Effect, effect, painter_word, paragraph_word, character_word, ending_word, indent_word}

@@ -4,7 +4,6 @@ use Rattle.answers.specs.declared.Why.TheVariants.{IgnorableInBody}
 use Rattle.readings.specs.declared.Reading.{Reading}
 use Rattle.tokens.specs.declared.Property.{Property}
 use Rattle.tokens.specs.Tokens.{Shown, value_of}
-use Rattle.tokens.specs.Tokens
 use Rattle.tokens.specs.WordNumbers as words
 use Rattle.utf8.specs.Utf8.{written}
 use Rattle.windows.specs.Windows.{windows1252}

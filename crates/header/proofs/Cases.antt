@@ -8,7 +8,6 @@ use Rattle.classes.specs.Bytes.{body}
 use Rattle.classes.specs.Texts.{bytes_of}
 use Rattle.tokens.specs.declared.Property.TheVariants.{None, Value}
 use Rattle.tokens.specs.Tokens.{Shown, Token, token, shown_by}
-use Rattle.tokens.specs.Tokens
 use Rattle.fonts.specs.Rows.{Font, has_key, inserted, stored}
 use Rattle.fonts.specs.Fonts.{named, font_word, font_token, fonts_from, fonts}
 use Rattle.colours.specs.Colours.{colours, colours_from, colour_token, colour_word_of}

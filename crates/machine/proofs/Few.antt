@@ -5,7 +5,7 @@
 --     ended-few                what ends a run
 --     machine-few              all tokens, if each `u` token says no more than it may
 -- Assumes nothing.
-use mathlib.Core.Path.{◌≡◌, refl, ap, ◌∙◌}
+use mathlib.Core.Path.{◌≡◌, refl, ap}
 use mathlib.Core.List.{List, [], ◌∷◌, ◌++◌}
 use mathlib.Core.Bool.{Bool, true, false, cond, ◌&&◌}
 use Prim.Native.Nat.{ℕ, suc, ◌+◌, ◌≤◌}
@@ -18,7 +18,7 @@ use Rattle.rooms.specs.Streams.{Stream, end, items}
 use Rattle.tokens.specs.declared.Property.{Property}
 use Rattle.units.specs.declared.Run.{Run}
 use Rattle.units.specs.declared.Gave.{Gave}
-use Rattle.units.specs.Units.{before, unit_of, is_high, is_low, alone, pair, skip_count, nothing, taken, taken_any, met, met_any, step, standard_step, values}
+use Rattle.units.specs.Units.{unit_of, is_high, is_low, alone, pair, skip_count, nothing, taken, taken_any, met, met_any, step, standard_step, values}
 use Rattle.machine.specs.Stack.{moved, stack_of}
 use Rattle.machine.specs.Machine.{States, Steps, Deed, opens, closes, sets, says, tells, unit, refuses, parts, stops, passes, Act, at}
 use Rattle.machine.specs.Machine.{ended, gave, texts_of, left, owed_behind, written_all, ◌▸▸◌, onward, move_of, spoken, said, step_of, owes_of, machine}

@@ -4,10 +4,10 @@
 --     blocks-few                       nor do the blocks
 --     letter-few                       so it is with a letter
 -- Assumes nothing.
-use mathlib.Core.Path.{◌≡◌, refl, sym, ap, ◌∙◌}
+use mathlib.Core.Path.{◌≡◌, refl, ap}
 use mathlib.Core.List.{List, [], ◌∷◌, ◌++◌}
 use mathlib.Core.Bool.{Bool, true, false, cond, ◌&&◌}
-use Prim.Native.Nat.{ℕ, zero, suc, ◌+◌, ◌-◌, ◌≤◌}
+use Prim.Native.Nat.{ℕ, zero, suc, ◌-◌, ◌≤◌}
 use native.Mathlib.Omega.{arith}
 use borrow.Author.Tests.{ltb-true, ltb-false}
 use lib.ListN.{length, length-append}
@@ -20,7 +20,6 @@ use Rattle.answers.specs.Answers.{refusal, Found, found, refused}
 use Rattle.rooms.specs.Streams.{Stream, end, stop, ◌▸◌, items, answer}
 use Rattle.rooms.specs.Rooms.{capacity, table_limit}
 use Rattle.tokens.specs.Tokens.{Shown, Token, token, shown_in, shown_by}
-use Rattle.tokens.specs.Tokens
 use Rattle.readings.specs.declared.Reading.{Reading}
 use Rattle.styles.specs.declared.Style.{Style}
 use Rattle.styles.specs.Styles.{same_style}
@@ -37,7 +36,7 @@ use Rattle.blocks.specs.Pages.{Piece, piece, blocks_from, blocks, text_of, block
 use Rattle.runs.specs.Runs.{rows, steps_by}
 use Rattle.runs.proofs.Saying.{steps-few}
 use Rattle.body.specs.Body.{acts, body}
-use Rattle.parser.specs.Parsing.{begun, Sizes, Letter, letter_from, placed, bodied, headed, walked, FewIn}
+use Rattle.parser.specs.Parsing.{begun, Sizes, letter_from, placed, bodied, headed, walked, FewIn}
 
 walk-few : (w : ℕ) (ts : List Token) → length (walk_from w ts) ≤ length ts
 unfolding walk_from

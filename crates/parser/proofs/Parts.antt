@@ -7,10 +7,10 @@
 use mathlib.Core.Path.{◌≡◌, refl, sym, ap, ◌∙◌}
 use mathlib.Core.List.{List, [], ◌∷◌, ◌++◌}
 use mathlib.Core.Bool.{Bool, true, false, not, true≢false, false≢true}
-use Prim.Native.Nat.{ℕ, ◌+◌, ◌-◌, ◌*◌, ◌≤◌}
+use Prim.Native.Nat.{ℕ, ◌-◌, ◌*◌}
 use native.Mathlib.Omega.{arith}
 use borrow.Author.Tests.{not-true, not-false}
-use lib.ListN.{length, take, replicate, length-take}
+use lib.ListN.{length, take, replicate}
 use Rattle.answers.specs.declared.Refusal.{Refusal}
 use Rattle.answers.specs.declared.Why.TheVariants.{NoTokens, FirstToken}
 use Rattle.answers.specs.declared.Outcome.{Outcome}
@@ -19,7 +19,6 @@ use Rattle.answers.specs.Answers.{refusal, refusal_at, Found, found, refused}
 use Rattle.rooms.specs.Streams.{Stream, items, answer}
 use Rattle.rooms.proofs.Streams.{done_refused}
 use Rattle.tokens.specs.Tokens.{Shown, Token, token}
-use Rattle.tokens.specs.Tokens
 use Rattle.tokens.specs.declared.item.Item.{Item}
 use Rattle.tokens.specs.declared.item.Item.TheVariants.{Text, Opening, Closing, LineBreak, Ignorable, Word, Unknown, Symbol}
 use Rattle.tokens.specs.Items.{item_at, shown_of, slice_at, tokens_all}
@@ -29,14 +28,12 @@ use Rattle.blocks.specs.declared.Page.{Page}
 use Rattle.blocks.specs.declared.Laid.{Laid}
 use Rattle.blocks.specs.declared.Laid.TheVariants.{On, Full}
 use Rattle.rooms.specs.Rooms.{filled, table_limit}
-use Rattle.rooms.proofs.Clearing.{filled-front}
 use Rattle.blocks.specs.Pages.{Piece, blocks, block_words}
 use Rattle.blocks.specs.Laying.{on, told, blank, lay_all}
 use Rattle.blocks.proofs.Settling.{lay-refuses, lay-joins, Joined, Filled, joined-filled}
 use Rattle.walk.specs.Walk.{walk}
 use Rattle.body.specs.Body.{body}
 use Rattle.fonts.specs.Rows.{table_words, font_words}
-use Rattle.fonts.proofs.RowTables.{length-table}
 use Rattle.header.specs.declared.Header.{Header}
 use Rattle.header.specs.declared.Header.TheVariants.{Read as Headed, Refused as Unheaded}
 use Rattle.header.specs.Entering.{Tables, opens}

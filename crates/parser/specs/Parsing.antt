@@ -7,7 +7,6 @@ use Rattle.answers.specs.Answers.{refusal, refusal_at, why_number, Found, found,
 use Rattle.rooms.specs.Streams.{Stream, items, answer}
 use Rattle.rooms.specs.Rooms.{table_limit, capacity}
 use Rattle.tokens.specs.Tokens.{Shown, Token, token}
-use Rattle.tokens.specs.Tokens
 use Rattle.walk.specs.Walk.{walk}
 use Rattle.header.specs.Entering.{Tables}
 use Rattle.header.specs.Header.{tables}

@@ -3,7 +3,7 @@
 use mathlib.Core.Path.{◌≡◌, refl, sym, ap, subst, ◌∙◌}
 use mathlib.Core.List.{List, [], ◌∷◌, ◌++◌, append_assoc}
 use mathlib.Core.Bool.{Bool, true, false, cond, ◌&&◌}
-use Prim.Native.Nat.{ℕ, zero, suc, ◌+◌, ◌-◌, ◌≤◌, ◌<◌}
+use Prim.Native.Nat.{ℕ, zero, suc, ◌+◌, ◌≤◌, ◌<◌}
 use native.Mathlib.Omega.{arith}
 use borrow.Author.Tests.{le-leb, lt-ltb}
 use lib.ListN.{length, take, drop, get_or, length-append, length-drop}
@@ -17,7 +17,6 @@ use Rattle.styles.specs.Styles.{bare_width, style_words, flush}
 use Rattle.blocks.specs.Pages.{Piece, piece, Last, starts}
 use Rattle.fields.specs.Fields.{in_range, by_place, style_numbers, style_from, block_numbers}
 use Rattle.fields.proofs.Styles.{style-there, style-back, style-flush, numbers-small, style-small}
-use Rattle.stored.specs.declared.entry.Entry.{Entry}
 use Rattle.stored.specs.declared.entry.Entry.TheVariants.{Is, Bad}
 use Rattle.stored.specs.Entries.{Numbers, numbers_from, ruled, entry_of, entry}
 use Rattle.stored.proofs.Entries.{Entered, entry-is, Sized, numbers-sized}

@@ -19,7 +19,7 @@ use Rattle.rooms.specs.Streams.{Stream, items, answer}
 use Rattle.rooms.specs.Rooms.{capacity, filled, content}
 use Rattle.sevens.specs.Sevens.{byte_layout, streamed}
 use Rattle.sevens.proofs.Streamed.{answer-streamed, encode-streamed}
-use Rattle.blocks.specs.Pages.{Piece, none, blocks, text_of, records, block_words, roomy, text_capacity}
+use Rattle.blocks.specs.Pages.{Piece, none, text_of, records, block_words, roomy, text_capacity}
 use Rattle.blocks.proofs.Blocks.{length-records}
 use Rattle.stored.specs.declared.Counts.{Counts}
 use Rattle.stored.specs.declared.Answer.TheVariants.{Read}

@@ -12,7 +12,6 @@ use Rattle.numbers.specs.Numbers.{hex_digit, hex_pair, digits_from, digits, deci
 use Rattle.rooms.specs.Streams.{Stream, end, stop, ◌▸◌, and_then}
 use Rattle.tokens.specs.declared.Property.TheVariants.{None, Value}
 use Rattle.tokens.specs.Tokens.{Shown}
-use Rattle.tokens.specs.Tokens
 use Rattle.tokens.specs.WordNumbers as words
 use Rattle.controls.specs.Controls.{shown_word, numbered}
 use Rattle.standard.specs.Standard.{leads, tail, number_length, named, word, hex_value, hex_escape, break_length, line_break_and, escaped, tokens}

@@ -6,7 +6,7 @@ use mathlib.Core.Bool.{Bool, true, false, cond, ◌||◌, false≢true}
 use Prim.Native.Nat.{ℕ, zero, suc, ◌+◌, ◌-◌, ◌≤◌, ◌<◌}
 use native.Mathlib.Omega.{arith}
 use borrow.Author.Tests.{eq-eqb, ne_eqb}
-use lib.ListN.{length, get_or, take, drop, length-take, length-drop}
+use lib.ListN.{length, get_or, take, drop, length-drop}
 use lib.Seq.{take_all}
 use lib.Dec.{eqb}
 use Rattle.answers.specs.declared.Why.{Why}
@@ -21,7 +21,6 @@ use Rattle.rooms.specs.Streams.{Stream, end, stop, ◌▸◌, and_then}
 use Rattle.tokens.specs.declared.Property.TheVariants.{None, Value}
 use Rattle.tokens.specs.declared.Record.{Record}
 use Rattle.tokens.specs.Tokens.{Shown, bare_record, symbol_record, record_of}
-use Rattle.tokens.specs.Tokens
 use Rattle.tokens.proofs.Records.{symbol-record, ignorable-record, opening-record, closing-record}
 use Rattle.controls.specs.Controls.{shown_word, numbered}
 use Rattle.standard.specs.Standard.{leads, tail, is_escape, number_from, number_length, named, word, hex_value, hex_escape, break_length, line_break_and, symbol_of, bracket_of, escaped, tokens}

@@ -2,7 +2,6 @@
 use Rattle.std.specs.Prelude.{ℕ, List, [], ◌∷◌, Bool, true, false, eqb}
 use Rattle.rooms.specs.Streams.{Stream, end, stop, ◌▸◌}
 use Rattle.tokens.specs.Tokens.{Shown}
-use Rattle.tokens.specs.Tokens
 
 abbrev pub is_closing : Shown → Bool
 is_closing (Shown.text p bs) = false

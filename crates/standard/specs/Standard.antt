@@ -9,10 +9,8 @@ use Rattle.numbers.specs.declared.Number.{Number}
 use Rattle.numbers.specs.declared.Number.TheVariants.{Is, Bad}
 use Rattle.numbers.specs.Numbers.{hex_pair, decimal}
 use Rattle.rooms.specs.Streams.{Stream, end, stop, ◌▸◌, and_then}
-use Rattle.tokens.specs.declared.Property.{Property}
 use Rattle.tokens.specs.declared.Property.TheVariants.{None, Value}
 use Rattle.tokens.specs.Tokens.{Shown}
-use Rattle.tokens.specs.Tokens
 use Rattle.controls.specs.Controls.{shown_word, numbered}
 
 -- 1 if a byte stands in front, else 0

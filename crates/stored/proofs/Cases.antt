@@ -6,7 +6,7 @@ use mathlib.Core.Bool.{Bool, true, false, cond, ◌&&◌}
 use Prim.Native.Nat.{ℕ}
 use lib.Dec.{eqb}
 use Rattle.answers.specs.Answers.{outcome_number}
-use Rattle.rooms.specs.Streams.{items, answer, ended}
+use Rattle.rooms.specs.Streams.{items, ended}
 use Rattle.sevens.specs.Sevens.{high, sum_from, value_of, is_long, number_of}
 use Rattle.wellformed.specs.WellFormed.{behind, goes_on}
 use Rattle.fields.specs.Fields.{unfolded, by_place, in_range}

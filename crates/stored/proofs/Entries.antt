@@ -24,7 +24,6 @@ use Rattle.styles.specs.declared.Style.{Style}
 use Rattle.styles.specs.Styles.{bare_width}
 use Rattle.blocks.specs.Pages.{Last, starts}
 use Rattle.fields.specs.Fields.{in_range, style_from, block_numbers}
-use Rattle.stored.specs.declared.entry.Entry.{Entry}
 use Rattle.stored.specs.declared.entry.Entry.TheVariants.{Is, Bad}
 use Rattle.stored.specs.Entries.{Numbers, behind, and_more, numbers_from, ruled, entry_of, entry}
 

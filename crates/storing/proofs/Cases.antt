@@ -6,7 +6,7 @@ use Prim.Native.Nat.{ℕ}
 use lib.Dec.{eqb}
 use lib.ListN.{length}
 use Rattle.answers.specs.Answers.{outcome_number, outcome_count}
-use Rattle.rooms.specs.Streams.{and_then, answer, ended}
+use Rattle.rooms.specs.Streams.{and_then, ended}
 use Rattle.rooms.specs.Rooms.{filled, encode, settled, content}
 use Rattle.sevens.specs.Sevens.{groups, streamed}
 use Rattle.wellformed.specs.WellFormed.{behind, goes_on}

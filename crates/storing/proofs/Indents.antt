@@ -2,7 +2,7 @@
 --     indent-here, indent-later, indent-none      the first record has one; it has none; there is no record
 --     unless-found, unless-none, unless-refused   what is left of an answer
 -- Assumes nothing.
-use mathlib.Core.Path.{◌≡◌, refl, sym, ◌∙◌}
+use mathlib.Core.Path.{◌≡◌, ◌∙◌}
 use mathlib.Core.List.{List}
 use mathlib.Core.Bool.{Bool, true, false, not}
 use Prim.Native.Nat.{ℕ, suc, ◌-◌, ◌/◌, ◌≤◌, ◌<◌}

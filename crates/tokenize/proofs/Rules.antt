@@ -20,7 +20,6 @@ use Rattle.readings.specs.declared.Reading.TheVariants.{Plain, Paragraphs, Stand
 use Rattle.rooms.specs.Streams.{Stream, end, stop, ◌▸◌, and_then}
 use Rattle.tokens.specs.declared.Property.TheVariants.{None, Value}
 use Rattle.tokens.specs.Tokens.{Shown}
-use Rattle.tokens.specs.Tokens
 use Rattle.controls.specs.Controls.{shown_word, numbered}
 use Rattle.tokenize.specs.Tokenize.{is_mark, is_escape, mark, plain, hex_value, hex_escape, line_break_and, named, bare_length, word_tail, word, other, behind_feed, returned, other_by, escaped, tokens}
 use Rattle.answers.specs.declared.Why.{Why}

@@ -12,7 +12,6 @@ use Rattle.numbers.specs.Numbers.{hex_pair, decimal}
 use Rattle.rooms.specs.Streams.{Stream, end, stop, ◌▸◌, and_then}
 use Rattle.tokens.specs.declared.Property.TheVariants.{None, Value}
 use Rattle.tokens.specs.Tokens.{Shown}
-use Rattle.tokens.specs.Tokens
 use Rattle.tokens.specs.WordNumbers as words
 use Rattle.controls.specs.Controls.{shown_word, numbered}
 use Rattle.answers.specs.declared.Why.{Why}

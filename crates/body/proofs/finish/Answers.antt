@@ -2,7 +2,6 @@
 use mathlib.Core.Path.{◌∙◌, ap}
 use Rattle.blocks.specs.Laying.{off}
 use native.Mathlib.Omega.{arith}
-use borrow.Author.Rules.{rules}
 use Rattle.body.proofs.finish.Goals as goal
 
 pub returns-in-NoBlock : goal.returns-in-NoBlock

@@ -1,12 +1,10 @@
 -- `lay_body` meets its contract. The invariant is `Loop`: what is left, from the present states, run and page, leads where the whole
 -- leads. The measure is how many tokens are left.
-use borrow.Author.Rules.{rules}
 use mathlib.Core.Path.{refl, ap, ◌∙◌}
-use Prim.Native.Nat.{◌-◌}
 use native.Mathlib.Omega.{arith}
 use Rattle.settings.specs.Fields.{row_of}
 use Rattle.body.proofs.Groups.{passed-open}
-use Rattle.body.proofs.Turns.{Loop, loop-start, loop-end, turn-refused, turn_on}
+use Rattle.body.proofs.Turns.{loop-start, loop-end, turn-refused, turn_on}
 use Rattle.body.proofs.lay_body.Goals as goal
 
 pub loop-n-init : goal.loop-n-init

@@ -4,7 +4,6 @@ use Rattle.rooms.proofs.Rooms.{wrote-stop}
 use Rattle.tokens.specs.Tokens.{shown_layout}
 use Rattle.tokens.proofs.Records.{wrote-token}
 use Rattle.controls.proofs.Words.{numbered-bad, numbered_is}
-use borrow.Author.Rules.{rules}
 use Rattle.controls.proofs.numbered_word.Goals as goal
 
 pub returns-in-Bad : goal.returns-in-Bad

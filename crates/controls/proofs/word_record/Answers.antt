@@ -1,6 +1,5 @@
 -- `word_record` meets its contract: the word's number is below 49, or it is unknown.
 use Rattle.controls.proofs.Words.{record-known, record-unknown}
-use borrow.Author.Rules.{rules}
 use Rattle.controls.proofs.word_record.Goals as goal
 
 pub returns-then-w-lt-UNKNOWN : goal.returns-then-w-lt-UNKNOWN

@@ -1,11 +1,6 @@
 -- `all_slices` meets its contract. The invariant: whoever cuts what is left has cut all; the bytes left are the measure.
-use borrow.Author.Rules.{rules}
-use mathlib.Core.Path.{refl, ◌∙◌}
-use native.Mathlib.Omega.{arith}
-use lib.ListN.{length, length-take}
-use Rattle.rooms.proofs.Rooms.{wrote_none}
-use Rattle.tokens.specs.Tokens.{token_layout}
-use Rattle.cutter.proofs.Loop.{Loop, all_none, loop-start, loop-falls, loop-stop, next-above, loop-next, loop-last}
+use lib.ListN.{length}
+use Rattle.cutter.proofs.Loop.{Loop}
 use Rattle.cutter.proofs.all_slices.Given as goal
 
 abbrev pub invariant-loop-t : goal.invariant-loop-t

@@ -2,7 +2,6 @@
 use mathlib.Core.Path.{◌∙◌}
 use Rattle.cutter.proofs.Tokens.{cuts}
 use Rattle.cutter.proofs.Source.{settle-refused, settle-fits, settle-over, room-refused, room_fits}
-use borrow.Author.Rules.{rules}
 use Rattle.cutter.proofs.cut.Goals as goal
 
 pub returns-then-n-room : goal.returns-then-n-room

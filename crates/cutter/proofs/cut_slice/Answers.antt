@@ -1,6 +1,5 @@
 -- `cut_slice` meets its contract: by whether the reading is the specification's.
 use Rattle.cutter.proofs.ByReading.{slice-standard, slice-other}
-use borrow.Author.Rules.{rules}
 use Rattle.cutter.proofs.cut_slice.Goals as goal
 
 pub returns-then-is_standard : goal.returns-then-is_standard

@@ -1,6 +1,5 @@
 -- `is_bracket` meets its contract: not one byte, or one.
 use Rattle.cutter.proofs.Source.{bracket-not, bracket-one}
-use borrow.Author.Rules.{rules}
 use Rattle.cutter.proofs.is_bracket.Goals as goal
 
 pub returns-then-s-ne1 : goal.returns-then-s-ne1

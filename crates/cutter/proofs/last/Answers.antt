@@ -3,7 +3,6 @@ use native.Mathlib.Omega.{arith}
 use Rattle.rooms.proofs.Rooms.{wrote-stop}
 use Rattle.tokens.specs.Tokens.{token_layout}
 use Rattle.cutter.proofs.Source.{last-long, last-other, last-close, last-wrote}
-use borrow.Author.Rules.{rules}
 use Rattle.cutter.proofs.last.Goals as goal
 
 pub overflow_cast-p : goal.overflow_cast-p

@@ -1,6 +1,5 @@
 -- `last_by` meets its contract: by whether the reading is the specification's.
 use Rattle.cutter.proofs.ByReading.{last-standard, last-other}
-use borrow.Author.Rules.{rules}
 use Rattle.cutter.proofs.last_by.Goals as goal
 
 pub returns-then-is_standard : goal.returns-then-is_standard

@@ -1,7 +1,6 @@
 -- `refuse` meets its contract: all words from the first on are set to zero.
 use mathlib.Core.Path.{refl}
 use Rattle.rooms.proofs.Clearing.{cleared}
-use borrow.Author.Rules.{rules}
 use Rattle.cutter.proofs.refuse.Goals as goal
 
 pub returns : goal.returns

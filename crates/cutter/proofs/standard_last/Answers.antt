@@ -2,7 +2,6 @@
 use mathlib.Core.Path.{refl}
 use Rattle.readings.specs.declared.Reading.TheVariants.{Standard}
 use Rattle.cutter.proofs.Loop.{slice-above, last-stop, last-open, last-closed}
-use borrow.Author.Rules.{rules}
 use Rattle.cutter.proofs.standard_last.Goals as goal
 
 pub seal-requires : goal.seal-requires

@@ -4,7 +4,6 @@ use lib.ListN.{length-take, length-drop}
 use Rattle.rooms.proofs.Rooms.{wrote-stop, wrote_as}
 use Rattle.tokens.specs.Tokens.{token_layout}
 use Rattle.cutter.proofs.Source.{stream-long, stream-high, stream-slices}
-use borrow.Author.Rules.{rules}
 use Rattle.cutter.proofs.whole.Goals as goal
 
 pub returns-then-source-gt65536 : goal.returns-then-source-gt65536

@@ -2,11 +2,9 @@
 use mathlib.Core.Path.{ap, refl}
 use native.Mathlib.Omega.{arith}
 use Rattle.settings.specs.Effects.{meaning}
-use Rattle.deeds.specs.Deeds.{doing}
 use Rattle.deeds.proofs.Moves.{took-act-none, took-sets, took-nothing, took-refuses}
 use Rattle.runs.proofs.Saying.{ne-pos}
 use Rattle.deeds.proofs.Turning.{turns-bare, turns-act, turns-says}
-use borrow.Author.Rules.{rules}
 use Rattle.deeds.proofs.act.Goals as goal
 
 pub returns-then-depth-eq0 : goal.returns-then-depth-eq0

@@ -2,7 +2,6 @@
 use mathlib.Core.Path.{◌∙◌}
 use borrow.Author.Tests.{eq-eqb, ne_eqb}
 use Rattle.deeds.specs.Turns.{effect_at}
-use borrow.Author.Rules.{rules}
 use Rattle.deeds.proofs.act_at.Goals as goal
 
 pub returns-then-t-eq5 : goal.returns-then-t-eq5

@@ -4,7 +4,6 @@ use Rattle.deeds.proofs.Moves.{took-none}
 use Rattle.runs.proofs.Saying.{ne-pos}
 use Rattle.deeds.proofs.Turning.{turns-bare, turns-break}
 use mathlib.Core.Path.{refl}
-use borrow.Author.Rules.{rules}
 use Rattle.deeds.proofs.break_token.Goals as goal
 
 pub returns-then-depth-eq0 : goal.returns-then-depth-eq0

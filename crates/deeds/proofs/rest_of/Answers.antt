@@ -6,7 +6,6 @@ use Prim.Native.Nat.{ℕ, ◌-◌}
 use native.Mathlib.Omega.{arith}
 use lib.ListN.{length, drop, length-drop, drop_of_length-le}
 use lib.Seq.{take_all}
-use borrow.Author.Rules.{rules}
 use Rattle.deeds.proofs.rest_of.Goals as goal
 
 pub returns-then-bytes-owed : goal.returns-then-bytes-owed

@@ -1,5 +1,4 @@
 -- `stays` meets its contract, case by case.
-use borrow.Author.Rules.{rules}
 use Rattle.deeds.proofs.stays.Goals as goal
 
 pub returns-in-NoBlock : goal.returns-in-NoBlock

@@ -1,10 +1,8 @@
 -- `symbol` meets its contract: symbol by symbol.
-use mathlib.Core.Path.{◌∙◌}
 use native.Mathlib.Omega.{arith}
 use borrow.Author.Tests.{ne_eqb}
 use Rattle.settings.specs.Effects.{meaning}
 use Rattle.deeds.specs.Deeds.{symbol_effect}
-use borrow.Author.Rules.{rules}
 use Rattle.deeds.proofs.symbol.Goals as goal
 
 pub returns-in-39 : goal.returns-in-39

@@ -7,7 +7,6 @@ use Rattle.machine.proofs.Left.{left-read}
 use Rattle.deeds.proofs.Words.{at-group, at-token, kind-open, kind-close, kind-break, kind-mark, kind-rest}
 use Rattle.deeds.proofs.Moves.{took-parts, took-stops}
 use Rattle.deeds.proofs.Turning.{turns-quiet, turns_as, turns-act-at}
-use borrow.Author.Rules.{rules}
 use Rattle.deeds.proofs.token.Goals as goal
 
 pub returns-then-h-gt0 : goal.returns-then-h-gt0

@@ -4,7 +4,6 @@ use Rattle.answers.specs.declared.Why.TheVariants.{BlockRoom, TextRoom}
 use Rattle.runs.specs.Runs.{run_of}
 use Rattle.deeds.proofs.Words.{gave-ended}
 use Rattle.deeds.proofs.Turning.{turns-passed, turns-step, turns-full, turns-behind}
-use borrow.Author.Rules.{rules}
 use Rattle.deeds.proofs.turn.Goals as goal
 
 pub returns-then-passed_over : goal.returns-then-passed_over

@@ -2,7 +2,6 @@
 use Rattle.runs.specs.Runs.{run_of}
 use Rattle.runs.proofs.Saying.{ne-pos}
 use Rattle.deeds.proofs.Turning.{turns_stopped, turns-unit}
-use borrow.Author.Rules.{rules}
 use Rattle.deeds.proofs.unit_token.Goals as goal
 
 pub returns-then-depth-eq0 : goal.returns-then-depth-eq0

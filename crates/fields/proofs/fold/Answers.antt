@@ -1,5 +1,4 @@
 -- `fold` meets its contract.
-use borrow.Author.Rules.{rules}
 use native.Mathlib.Omega.{arith}
 use Rattle.fields.proofs.Folds.{fold-low, fold-high}
 use Rattle.fields.proofs.fold.Goals as goal

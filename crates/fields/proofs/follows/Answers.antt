@@ -1,5 +1,4 @@
 -- `follows` meets its contract: by whether a block came before.
-use borrow.Author.Rules.{rules}
 use Rattle.fields.proofs.Styles.{follows-as}
 use Rattle.fields.proofs.follows.Goals as goal
 

@@ -1,13 +1,10 @@
 -- `numbers_of` meets its contract. The invariant: the words before the i-th are numbers, the others stand as they were.
-use borrow.Author.Rules.{rules}
-use mathlib.Core.Path.{◌≡◌, refl}
+use mathlib.Core.Path.{◌≡◌}
 use mathlib.Core.List.{◌++◌}
 use Prim.Native.Nat.{◌≤◌, ◌-◌}
-use native.Mathlib.Omega.{arith}
-use lib.ListN.{length, take, drop, length-set}
+use lib.ListN.{length, take, drop}
 use Rattle.styles.specs.Styles.{style_width}
 use Rattle.fields.specs.Fields.{number_at, by_place}
-use Rattle.fields.proofs.Styles.{by_place-over, numbers-done}
 use Rattle.fields.proofs.numbers_of.Given as goal
 
 abbrev pub invariant-loop-i : goal.invariant-loop-i

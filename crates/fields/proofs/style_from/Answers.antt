@@ -1,10 +1,9 @@
 -- `style_from` meets its contract. The invariant: the words of the numbers before the i-th are there, and zeros behind them.
 use borrow.Author.Rules.{rules}
-use mathlib.Core.Path.{◌≡◌, refl, ◌∙◌}
-use mathlib.Core.List.{◌++◌}
-use Prim.Native.Nat.{◌≤◌, ◌-◌}
+use mathlib.Core.Path.{refl, ◌∙◌}
+use Prim.Native.Nat.{◌-◌}
 use native.Mathlib.Omega.{arith}
-use lib.ListN.{length, take, replicate, length-set}
+use lib.ListN.{length-set}
 use Rattle.styles.specs.Styles.{style_width}
 use Rattle.fields.specs.Fields.{word_at, by_place}
 use Rattle.fields.proofs.Styles.{by_place-zeros, words-done}

@@ -1,5 +1,4 @@
 -- `unfold` meets its contract.
-use borrow.Author.Rules.{rules}
 use native.Mathlib.Omega.{arith}
 use Rattle.fields.proofs.Folds.{unfold-even, unfold-odd}
 use Rattle.fields.proofs.unfold.Goals as goal

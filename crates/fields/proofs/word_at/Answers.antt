@@ -1,7 +1,5 @@
 -- `word_at` meets its contract: unfolded, where the word is signed.
-use mathlib.Core.Path.{◌≡◌, sym, ◌∙◌}
-use mathlib.Core.Bool.{true, false}
-use borrow.Author.Rules.{rules}
+use mathlib.Core.Path.{sym, ◌∙◌}
 use Rattle.fields.proofs.word_at.Goals as goal
 
 pub returns-then-is_signed : goal.returns-then-is_signed

@@ -8,7 +8,6 @@ use Rattle.fonts.specs.Rows.{font_words}
 use Rattle.colours.specs.Colours.{colour_words}
 use Rattle.header.specs.Header.{tables}
 use Rattle.header.proofs.Clearing.{header-fits, header_refused, header_read}
-use borrow.Author.Rules.{rules}
 use Rattle.header.proofs.read_header.Goals as goal
 
 pub overflow_mul-f : goal.overflow_mul-f

@@ -1,9 +1,6 @@
 -- `walk_tables` meets its contract. The invariant: what is left, from the tables in the rooms, gives the whole result. The
 -- measure is how many tokens are left.
-use borrow.Author.Rules.{rules}
-use native.Mathlib.Omega.{arith}
-use mathlib.Core.Path.{◌∙◌}
-use Rattle.header.proofs.Walking.{Walking, walking_start, walking-stay, walking_on, walking-bad, walking-end, walking-ready, on-within, on-small, on-words}
+use Rattle.header.proofs.Walking.{Walking}
 use Rattle.header.proofs.walk_tables.Given as goal
 
 abbrev pub invariant-loop-n : goal.invariant-loop-n

@@ -1,12 +1,10 @@
 -- `letter` meets its contract: the header refuses, or the body's answer is the letter's.
-use native.Mathlib.Omega.{arith}
 use lib.ListN.{length}
 use Rattle.rooms.specs.Rooms.{table_limit}
 use Rattle.tokens.specs.Items.{tokens_all}
 use Rattle.walk.specs.Walk.{walk}
 use Rattle.header.specs.Header.{tables}
 use Rattle.parser.proofs.Parts.{letter-refused, letter-read}
-use borrow.Author.Rules.{rules}
 use Rattle.fonts.specs.Rows.{font_words}
 use Rattle.colours.specs.Colours.{colour_words}
 use Rattle.parser.proofs.letter.Goals as goal

@@ -2,7 +2,6 @@
 use Rattle.tokens.specs.Items.{tokens_all}
 use Rattle.parser.specs.Parsing.{sizes}
 use Rattle.parser.proofs.Parts.{parse-refused, parse-read}
-use borrow.Author.Rules.{rules}
 use Rattle.parser.proofs.parse.Goals as goal
 
 pub returns-in-Refused : goal.returns-in-Refused

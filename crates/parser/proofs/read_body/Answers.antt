@@ -3,7 +3,6 @@ use native.Mathlib.Omega.{arith}
 use lib.ListN.{length}
 use Rattle.blocks.proofs.Settling.{count-words}
 use Rattle.parser.proofs.Parts.{body-full, body-laid}
-use borrow.Author.Rules.{rules}
 use Rattle.parser.proofs.read_body.Goals as goal
 
 pub overflow_mul-count : goal.overflow_mul-count

@@ -1,7 +1,6 @@
 -- `start` meets its contract: no token, another one, or an opening bracket.
 use native.Mathlib.Omega.{arith}
 use Rattle.parser.proofs.Parts.{start_none, start-other, start-opening}
-use borrow.Author.Rules.{rules}
 use Rattle.parser.proofs.start.Goals as goal
 
 pub returns-then-n-eq0 : goal.returns-then-n-eq0

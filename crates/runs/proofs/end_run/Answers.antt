@@ -1,9 +1,7 @@
 -- `end_run` meets its contract: no surrogate waits, no state is held, or one is lost.
-use native.Mathlib.Omega.{arith}
 use Rattle.runs.specs.Runs.{run_of}
 use Rattle.runs.proofs.Saying.{ne-pos}
 use Rattle.runs.proofs.Saying.{run_none, lost-none, lost-bare, lost-some}
-use borrow.Author.Rules.{rules}
 use Rattle.runs.proofs.end_run.Goals as goal
 
 pub returns-then-high-eq0 : goal.returns-then-high-eq0

@@ -1,6 +1,5 @@
 -- `lay_value` meets its contract: the value, or none.
 use Rattle.runs.proofs.Saying.{value-some, value_none}
-use borrow.Author.Rules.{rules}
 use Rattle.runs.proofs.lay_value.Goals as goal
 
 pub returns-then-some : goal.returns-then-some

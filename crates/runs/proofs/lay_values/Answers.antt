@@ -1,6 +1,5 @@
 -- `lay_values` meets its contract: no room for the first, or the second behind it.
 use Rattle.runs.proofs.Saying.{values-full, values-more}
-use borrow.Author.Rules.{rules}
 use Rattle.runs.proofs.lay_values.Goals as goal
 
 pub lay_value-requires : goal.lay_value-requires

@@ -1,6 +1,5 @@
 -- `owed_by` meets its contract: a count in the specification's reading, or none.
 use Rattle.runs.proofs.Saying.{owed_none, owed-some}
-use borrow.Author.Rules.{rules}
 use Rattle.runs.proofs.owed_by.Goals as goal
 
 pub returns-then-is_standard-skip : goal.returns-then-is_standard-skip

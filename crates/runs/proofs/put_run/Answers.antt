@@ -1,6 +1,5 @@
 -- `put_run` meets its contract: three stores.
 use Rattle.runs.proofs.Saying.{run-put}
-use borrow.Author.Rules.{rules}
 use Rattle.runs.proofs.put_run.Goals as goal
 
 pub returns : goal.returns

@@ -1,6 +1,5 @@
 -- `step_by` meets its contract: by whether the reading is the specification's.
 use Rattle.runs.proofs.Saying.{step-standard, step_other}
-use borrow.Author.Rules.{rules}
 use Rattle.runs.proofs.step_by.Goals as goal
 
 pub returns-then-is_standard : goal.returns-then-is_standard

@@ -1,7 +1,6 @@
 -- `unit` meets its contract: the run goes on by a step, and what it gave is laid.
 use Rattle.blocks.specs.Laying.{page_of}
 use Rattle.runs.proofs.Saying.{unit-laid, unit-run}
-use borrow.Author.Rules.{rules}
 use Rattle.runs.proofs.unit.Goals as goal
 
 pub returns : goal.returns

@@ -1,6 +1,5 @@
 -- `bracket` meets its contract: the opening one, or the other.
 use Rattle.standard.proofs.Rules.{bracket-opening, bracket-closing}
-use borrow.Author.Rules.{rules}
 use Rattle.standard.proofs.bracket.Goals as goal
 
 pub returns-then-b-eq123 : goal.returns-then-b-eq123

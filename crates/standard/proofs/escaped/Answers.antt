@@ -3,7 +3,6 @@ use Rattle.rooms.proofs.Rooms.{wrote_as}
 use Rattle.tokens.specs.Tokens.{shown_layout}
 use Rattle.tokens.proofs.Records.{wrote-token, wrote-token-and, symbol-record}
 use Rattle.standard.proofs.Rules.{escaped-none, escaped-word, escaped-text, escaped-hex, escaped-break, escaped-symbol}
-use borrow.Author.Rules.{rules}
 use Rattle.standard.proofs.escaped.Goals as goal
 
 pub returns-then-s-eq0 : goal.returns-then-s-eq0

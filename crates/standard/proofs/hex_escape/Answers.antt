@@ -4,7 +4,6 @@ use Rattle.rooms.proofs.Rooms.{wrote-stop}
 use Rattle.tokens.specs.Tokens.{shown_layout}
 use Rattle.tokens.proofs.Records.{wrote-token-and, symbol-record}
 use Rattle.standard.proofs.Rules.{hex-short, hex-bad, hex-is}
-use borrow.Author.Rules.{rules}
 use Rattle.standard.proofs.hex_escape.Goals as goal
 
 pub returns-then-s-lt2 : goal.returns-then-s-lt2

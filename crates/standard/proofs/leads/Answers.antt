@@ -1,7 +1,6 @@
 -- `leads` meets its contract: no byte, that byte, or another.
 use native.Mathlib.Omega.{arith}
 use Rattle.standard.proofs.Rules.{leads-none, leads_one, leads-other}
-use borrow.Author.Rules.{rules}
 use Rattle.standard.proofs.leads.Goals as goal
 
 pub returns-then-s-eq0 : goal.returns-then-s-eq0

@@ -1,11 +1,8 @@
 -- `letters_of` meets its contract. The invariant: i letters stand in front, and the rest is counted from i on. The measure is what
 -- is left.
-use borrow.Author.Rules.{rules}
-use Prim.Native.Nat.{◌≤◌, ◌-◌}
 use native.Mathlib.Omega.{arith}
-use lib.ListN.{length}
 use Rattle.classes.specs.Bytes.{is_alpha}
-use Rattle.classes.proofs.Runs.{Lead, lead-start, lead-more, lead-stop, lead-end}
+use Rattle.classes.proofs.Runs.{lead-start, lead-more, lead-stop, lead-end}
 use Rattle.standard.proofs.letters_of.Goals as goal
 
 pub loop-i-init : goal.loop-i-init

@@ -1,7 +1,6 @@
 -- `line_break` meets its contract: a line feed behind a carriage return belongs to it.
 use Rattle.tokens.proofs.Records.{wrote-token-and, break-record}
 use Rattle.standard.proofs.Rules.{break-return, break-feed}
-use borrow.Author.Rules.{rules}
 use Rattle.standard.proofs.line_break.Goals as goal
 
 pub returns-then-b-eq13 : goal.returns-then-b-eq13

@@ -3,7 +3,6 @@ use Rattle.rooms.proofs.Rooms.{wrote_as}
 use Rattle.tokens.specs.Tokens.{shown_layout}
 use Rattle.tokens.proofs.Records.{wrote-token}
 use Rattle.standard.proofs.Rules.{named-bare, named-numbered}
-use borrow.Author.Rules.{rules}
 use Rattle.standard.proofs.named.Goals as goal
 
 pub returns-then-digits-eq0 : goal.returns-then-digits-eq0

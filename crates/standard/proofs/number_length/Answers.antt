@@ -2,7 +2,6 @@
 use native.Mathlib.Omega.{arith}
 use lib.ListN.{length-take, length-drop}
 use Rattle.standard.proofs.Rules.{number-none, number-some}
-use borrow.Author.Rules.{rules}
 use Rattle.standard.proofs.number_length.Goals as goal
 
 pub returns-then-d-eq0 : goal.returns-then-d-eq0

@@ -3,7 +3,6 @@ use Rattle.rooms.proofs.Rooms.{wrote_none, wrote_as}
 use Rattle.tokens.specs.Tokens.{shown_layout}
 use Rattle.tokens.proofs.Records.{wrote-token-and}
 use Rattle.standard.proofs.Rules.{tokens_none, tokens-escaped, tokens-bracket, tokens-raw, tokens-text}
-use borrow.Author.Rules.{rules}
 use Rattle.standard.proofs.slice_tokens.Goals as goal
 
 pub returns-then-s-eq0 : goal.returns-then-s-eq0

@@ -1,6 +1,5 @@
 -- `symbol` meets its contract: the mark, or any other.
 use Rattle.standard.proofs.Rules.{symbol-mark, symbol-other}
-use borrow.Author.Rules.{rules}
 use Rattle.standard.proofs.symbol.Goals as goal
 
 pub returns-then-b-eq42 : goal.returns-then-b-eq42

@@ -4,7 +4,6 @@ use Rattle.rooms.proofs.Rooms.{wrote_none}
 use Rattle.tokens.specs.Tokens.{shown_layout}
 use Rattle.tokens.proofs.Records.{wrote-token, text-record}
 use Rattle.standard.proofs.Rules.{tail_none, tail-text}
-use borrow.Author.Rules.{rules}
 use Rattle.standard.proofs.tail.Goals as goal
 
 pub returns-then-s-eq0 : goal.returns-then-s-eq0

@@ -1,5 +1,4 @@
 -- `read_list` meets its contract: all blocks find room, or both rooms are cleared.
-use borrow.Author.Rules.{rules}
 use native.Mathlib.Omega.{arith}
 use lib.ListN.{length}
 use Rattle.blocks.proofs.Settling.{count-words}

@@ -1,5 +1,4 @@
 -- `refuse` meets its contract: both rooms are cleared.
-use borrow.Author.Rules.{rules}
 use mathlib.Core.Path.{refl}
 use Rattle.rooms.proofs.Clearing.{cleared}
 use Rattle.stored.proofs.refuse.Goals as goal

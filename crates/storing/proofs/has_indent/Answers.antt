@@ -1,11 +1,7 @@
 -- `has_indent` meets its contract. The invariant: the records left have an indent just if all have. The measure is the words left.
-use borrow.Author.Rules.{rules}
-use mathlib.Core.Path.{◌≡◌, refl, sym, ◌∙◌}
-use Prim.Native.Nat.{◌/◌}
+use mathlib.Core.Path.{refl, sym, ◌∙◌}
 use native.Mathlib.Omega.{arith}
-use lib.ListN.{length, length-take, length-drop}
-use Rattle.blocks.specs.Pages.{block_words}
-use Rattle.storing.specs.Storing.{indented}
+use lib.ListN.{length-take, length-drop}
 use Rattle.storing.proofs.Indents.{indent-here, indent-later, indent-none}
 use Rattle.storing.proofs.has_indent.Goals as goal
 

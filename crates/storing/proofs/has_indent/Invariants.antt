@@ -1,12 +1,9 @@
 -- `has_indent` meets its contract. The invariant: the records left have an indent just if all have. The measure is the words left.
-use borrow.Author.Rules.{rules}
-use mathlib.Core.Path.{◌≡◌, refl, sym, ◌∙◌}
+use mathlib.Core.Path.{◌≡◌}
 use Prim.Native.Nat.{◌/◌}
-use native.Mathlib.Omega.{arith}
-use lib.ListN.{length, length-take, length-drop}
+use lib.ListN.{length}
 use Rattle.blocks.specs.Pages.{block_words}
 use Rattle.storing.specs.Storing.{indented}
-use Rattle.storing.proofs.Indents.{indent-here, indent-later, indent-none}
 use Rattle.storing.proofs.has_indent.Given as goal
 
 abbrev pub invariant-loop-words : goal.invariant-loop-words

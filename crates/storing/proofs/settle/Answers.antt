@@ -1,7 +1,6 @@
 -- `settle` meets its contract: a count within the total, or one beyond.
 use native.Mathlib.Omega.{arith}
 use Rattle.storing.proofs.Settling.{settle-fits, settle-over}
-use borrow.Author.Rules.{rules}
 use Rattle.storing.proofs.settle.Goals as goal
 
 pub returns-then-count-total : goal.returns-then-count-total

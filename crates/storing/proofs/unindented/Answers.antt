@@ -4,7 +4,6 @@ use lib.ListN.{length}
 use Rattle.blocks.specs.Pages.{block_words}
 use Rattle.storing.specs.Storing.{indented}
 use Rattle.storing.proofs.Indents.{unless-found, unless-none, unless-refused}
-use borrow.Author.Rules.{rules}
 use Rattle.storing.proofs.unindented.Goals as goal
 
 pub returns-then-has_indent : goal.returns-then-has_indent

@@ -1,6 +1,5 @@
 -- `write_list` meets its contract: what was written is looked through for indents and settled, and the room behind it cleared.
 use Rattle.storing.proofs.Settling.{settle-answer, settle-room}
-use borrow.Author.Rules.{rules}
 use Rattle.storing.proofs.write_list.Goals as goal
 
 pub returns : goal.returns

@@ -1,7 +1,6 @@
 -- `bare_length` meets its contract: the last byte is a semicolon, or not.
 use native.Mathlib.Omega.{arith}
 use Rattle.tokenize.proofs.Rules.{bare-none, bare-semicolon, bare-other}
-use borrow.Author.Rules.{rules}
 use Rattle.tokenize.proofs.bare_length.Goals as goal
 
 pub returns-then-k-eq0 : goal.returns-then-k-eq0

@@ -1,9 +1,7 @@
 -- `behind_feed` meets its contract: by the first byte, if there is one.
-use mathlib.Core.Path.{refl}
 use Rattle.rooms.proofs.Rooms.{wrote_as}
 use Rattle.tokens.specs.Tokens.{shown_layout}
 use Rattle.tokenize.proofs.Rules.{feed-none, feed-some, feed-other}
-use borrow.Author.Rules.{rules}
 use Rattle.tokenize.proofs.behind_feed.Goals as goal
 
 pub returns-then-s-eq0 : goal.returns-then-s-eq0

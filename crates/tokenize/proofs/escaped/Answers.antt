@@ -4,7 +4,6 @@ use Rattle.rooms.proofs.Rooms.{wrote_as}
 use Rattle.tokens.specs.Tokens.{shown_layout}
 use Rattle.tokens.proofs.Records.{wrote-token, text-record, ignorable-record}
 use Rattle.tokenize.proofs.Rules.{escaped-none, escaped-word, escaped-text, escaped-hex, escaped-break, escaped-mark, escaped-other}
-use borrow.Author.Rules.{rules}
 use Rattle.tokenize.proofs.escaped.Goals as goal
 
 pub returns-then-s-eq0 : goal.returns-then-s-eq0

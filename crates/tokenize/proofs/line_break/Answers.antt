@@ -1,7 +1,6 @@
 -- `line_break` meets its contract: the line break, and a plain tail.
 use Rattle.tokens.proofs.Records.{wrote-token-and, break-record}
 use Rattle.tokenize.proofs.Rules.{break-at}
-use borrow.Author.Rules.{rules}
 use Rattle.tokenize.proofs.line_break.Goals as goal
 
 pub returns : goal.returns

@@ -3,7 +3,6 @@ use Rattle.rooms.proofs.Rooms.{wrote_none}
 use Rattle.tokens.specs.Tokens.{shown_layout}
 use Rattle.tokens.proofs.Records.{wrote-token, opening-record, closing-record}
 use Rattle.tokenize.proofs.Rules.{mark-open, mark-close, mark-none}
-use borrow.Author.Rules.{rules}
 use Rattle.tokenize.proofs.mark.Goals as goal
 
 pub returns-then-b-eq123 : goal.returns-then-b-eq123

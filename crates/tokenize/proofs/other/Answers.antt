@@ -3,7 +3,6 @@ use native.Mathlib.Omega.{arith}
 use Rattle.rooms.proofs.Rooms.{wrote_none}
 use Rattle.tokens.proofs.Records.{wrote-token, text-record}
 use Rattle.tokenize.proofs.Rules.{other_none, other_text}
-use borrow.Author.Rules.{rules}
 use Rattle.tokenize.proofs.other.Goals as goal
 
 pub returns-then-k-s : goal.returns-then-k-s

@@ -2,7 +2,6 @@
 use Rattle.rooms.proofs.Rooms.{wrote_as}
 use Rattle.tokens.specs.Tokens.{shown_layout}
 use Rattle.tokenize.proofs.Rules.{other-plain, other-paragraphs, other-standard}
-use borrow.Author.Rules.{rules}
 use Rattle.tokenize.proofs.other_by.Goals as goal
 
 pub returns-in-Plain : goal.returns-in-Plain

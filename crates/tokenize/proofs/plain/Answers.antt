@@ -3,7 +3,6 @@ use mathlib.Core.Path.{refl}
 use Rattle.rooms.proofs.Rooms.{wrote_none}
 use Rattle.tokens.proofs.Records.{wrote-token, text-record}
 use Rattle.tokenize.proofs.Rules.{plain-white, plain-text}
-use borrow.Author.Rules.{rules}
 use Rattle.tokenize.proofs.plain.Goals as goal
 
 pub returns-then-k-s : goal.returns-then-k-s

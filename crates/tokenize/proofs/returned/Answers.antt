@@ -1,10 +1,8 @@
 -- `returned` meets its contract: by the first byte, if there is one; a carriage return is a line break, and then what is behind it.
-use mathlib.Core.Path.{refl}
 use Rattle.rooms.proofs.Rooms.{wrote_as}
 use Rattle.tokens.specs.Tokens.{shown_layout}
 use Rattle.tokens.proofs.Records.{wrote-token-and, break-record}
 use Rattle.tokenize.proofs.Rules.{return-none, return-other, return-break}
-use borrow.Author.Rules.{rules}
 use Rattle.tokenize.proofs.returned.Goals as goal
 
 pub returns-then-s-eq0 : goal.returns-then-s-eq0

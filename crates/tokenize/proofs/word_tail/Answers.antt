@@ -4,7 +4,6 @@ use Rattle.rooms.proofs.Rooms.{wrote_none, wrote_as}
 use Rattle.tokens.specs.Tokens.{shown_layout}
 use Rattle.tokens.proofs.Records.{wrote-token, text-record}
 use Rattle.tokenize.proofs.Rules.{tail_none, tail-plain, tail-text}
-use borrow.Author.Rules.{rules}
 use Rattle.tokenize.proofs.word_tail.Goals as goal
 
 pub returns-then-s-eq0 : goal.returns-then-s-eq0

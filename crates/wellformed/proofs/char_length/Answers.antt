@@ -1,7 +1,6 @@
 -- `char_length` meets its contract: the first byte says what is owed, and that is there or not.
 use mathlib.Core.Path.{sym, ◌∙◌}
 use native.Mathlib.Omega.{arith}
-use borrow.Author.Rules.{rules}
 use borrow.Author.Tests.{not-false}
 use lib.ListN.{length, length-drop}
 use Prim.Native.Nat.{◌+◌, ◌-◌}

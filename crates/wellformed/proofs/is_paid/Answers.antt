@@ -1,6 +1,5 @@
 -- `is_paid` meets its contract: a law for each count of bytes that are owed.
 use native.Mathlib.Omega.{arith}
-use borrow.Author.Rules.{rules}
 use Rattle.wellformed.proofs.Lengths.{pays-short, pays-0, pays-1, pays-2, pays-3}
 use Rattle.wellformed.proofs.is_paid.Goals as goal
 

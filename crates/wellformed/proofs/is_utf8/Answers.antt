@@ -1,10 +1,6 @@
 -- `is_utf8` meets its contract: what is passed over is UTF-8 by itself, so that what is left gives the whole answer. The measure
 -- is what is left.
 use native.Mathlib.Omega.{arith}
-use borrow.Author.Rules.{rules}
-use Prim.Native.Nat.{◌-◌}
-use lib.ListN.{length}
-use Rattle.wellformed.specs.Ascii.{Passed}
 use Rattle.wellformed.proofs.Passing.{passed_none, passed_on, passed-char, passed-end, no_char}
 use Rattle.wellformed.proofs.is_utf8.Goals as goal
 

@@ -1,6 +1,5 @@
 -- `owed_behind` meets its contract: each range of the table has its law.
 use mathlib.Core.Path.{◌∙◌, sym}
-use borrow.Author.Rules.{rules}
 use Rattle.wellformed.specs.Owed.{owed}
 use Rattle.wellformed.proofs.Firsts.{first-low, behind-1, behind-2, behind-3, behind-4}
 use Rattle.wellformed.proofs.Firsts.{behind-5, behind-6, behind-7, behind-8, behind-9}

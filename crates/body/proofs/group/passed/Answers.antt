@@ -1,7 +1,6 @@
 -- `passed` meets its contract: another token than an opening bracket, or the group behind it.
 use native.Mathlib.Omega.{arith}
 use Rattle.body.proofs.Groups.{passed_none, passed-group}
-use borrow.Author.Rules.{rules}
 use Rattle.body.proofs.group.passed.Goals as goal
 
 pub returns-then-t-ne1 : goal.returns-then-t-ne1

@@ -2,7 +2,6 @@
 use mathlib.Core.Path.{ap, ◌∙◌}
 use lib.ListN.{length}
 use Rattle.deeds.proofs.Words.{count-one, count-text}
-use borrow.Author.Rules.{rules}
 use Rattle.deeds.proofs.passing.count_of.Goals as goal
 
 pub returns-then-kind : goal.returns-then-kind

@@ -1,6 +1,5 @@
 -- `is_brace` meets its contract: by the kind.
 use Rattle.deeds.proofs.Words.{brace-at}
-use borrow.Author.Rules.{rules}
 use Rattle.deeds.proofs.passing.is_brace.Goals as goal
 
 pub returns : goal.returns

@@ -1,8 +1,6 @@
 -- `owed_behind` meets its contract: some are owed already; a `u` word; another token.
 use mathlib.Core.Path.{◌∙◌}
-use Rattle.machine.specs.Stack.{held}
 use Rattle.deeds.proofs.Owed.{owed-word, owed-other}
-use borrow.Author.Rules.{rules}
 use Rattle.deeds.proofs.passing.owed_behind.Goals as goal
 
 pub returns-then-owed-gt0 : goal.returns-then-owed-gt0

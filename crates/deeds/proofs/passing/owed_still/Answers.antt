@@ -2,7 +2,6 @@
 use mathlib.Core.Path.{sym, ◌∙◌}
 use Rattle.deeds.specs.Turns.{deed_at}
 use Rattle.deeds.proofs.Owed.{still-brace, still-left, still-none}
-use borrow.Author.Rules.{rules}
 use Rattle.deeds.proofs.passing.owed_still.Goals as goal
 
 pub returns-then-is_brace : goal.returns-then-is_brace

@@ -4,7 +4,6 @@ use mathlib.Core.Path.{◌∙◌}
 use Rattle.machine.specs.Stack.{held}
 use Rattle.machine.proofs.Stack.{held-top}
 use Rattle.runs.proofs.Saying.{ne-pos}
-use borrow.Author.Rules.{rules}
 use Rattle.deeds.proofs.passing.owes_at.Goals as goal
 
 pub returns-then-depth-eq0 : goal.returns-then-depth-eq0

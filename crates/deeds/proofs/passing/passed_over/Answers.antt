@@ -3,7 +3,6 @@ use mathlib.Core.Path.{sym, ◌∙◌}
 use Rattle.runs.proofs.Saying.{ne-pos}
 use Rattle.deeds.specs.Turns.{deed_at}
 use Rattle.deeds.proofs.Owed.{passed_none, passed-brace, passed-by}
-use borrow.Author.Rules.{rules}
 use Rattle.deeds.proofs.passing.passed_over.Goals as goal
 
 pub returns-then-owed-eq0 : goal.returns-then-owed-eq0

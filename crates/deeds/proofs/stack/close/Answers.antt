@@ -1,7 +1,6 @@
 -- `close` meets its contract: no state, or the top dropped.
 use Rattle.deeds.proofs.Moves.{took-close-none, took-close-top}
 use Rattle.runs.proofs.Saying.{ne-pos}
-use borrow.Author.Rules.{rules}
 use Rattle.deeds.proofs.stack.close.Goals as goal
 
 pub returns-then-depth-eq0 : goal.returns-then-depth-eq0

@@ -3,7 +3,6 @@ use mathlib.Core.Path.{ap, ◌∙◌}
 use Rattle.settings.specs.Fields.{row_of}
 use Rattle.deeds.proofs.Moves.{took-open-none, took-open-full, took-open-more}
 use Rattle.runs.proofs.Saying.{ne-pos}
-use borrow.Author.Rules.{rules}
 use Rattle.deeds.proofs.stack.open.Goals as goal
 
 pub returns-then-depth-eq0 : goal.returns-then-depth-eq0

@@ -2,7 +2,6 @@
 use native.Mathlib.Omega.{arith}
 use lib.ListN.{length-take}
 use Rattle.header.proofs.Entering.{late-colours, colours-read, colours-bad}
-use borrow.Author.Rules.{rules}
 use Rattle.header.proofs.group.colour_table.Goals as goal
 
 pub returns-then-late : goal.returns-then-late

@@ -1,6 +1,5 @@
 -- `enter` meets its contract, by what the bracket begins.
 use Rattle.header.proofs.Entering.{enter-nothing, enter-hide, enter-fonts, enter-colours}
-use borrow.Author.Rules.{rules}
 use Rattle.header.proofs.group.enter.Goals as goal
 
 pub returns-in-Nothing : goal.returns-in-Nothing

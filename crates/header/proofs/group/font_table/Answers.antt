@@ -2,7 +2,6 @@
 use native.Mathlib.Omega.{arith}
 use lib.ListN.{length-take}
 use Rattle.header.proofs.Entering.{late-fonts, fonts-read, fonts-bad}
-use borrow.Author.Rules.{rules}
 use Rattle.header.proofs.group.font_table.Goals as goal
 
 pub returns-then-late : goal.returns-then-late

@@ -1,6 +1,5 @@
 -- `is_opening` meets its contract: kind 1 is the opening bracket.
 use Rattle.header.proofs.Entering.{opens-yes, opens-no}
-use borrow.Author.Rules.{rules}
 use Rattle.header.proofs.group.is_opening.Goals as goal
 
 pub returns-then-kind-eq1 : goal.returns-then-kind-eq1

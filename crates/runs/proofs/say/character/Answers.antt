@@ -1,6 +1,5 @@
 -- `character` meets its contract: the bytes of the value.
 use Rattle.runs.proofs.Saying.{encoded-count, encoded-within, encoded-text}
-use borrow.Author.Rules.{rules}
 use Rattle.runs.proofs.say.character.Goals as goal
 
 pub slice_bounds-bytes-end : goal.slice_bounds-bytes-end

@@ -2,7 +2,6 @@
 use borrow.Author.Tests.{not-false}
 use lib.ListN.{length}
 use Rattle.blocks.proofs.Writing.{add-full, add-long, add-on}
-use borrow.Author.Rules.{rules}
 use Rattle.runs.proofs.say.lay.Goals as goal
 
 pub returns-then-not-start : goal.returns-then-not-start

@@ -1,5 +1,4 @@
 -- `check` meets its contract: the count, and then the blocks.
-use borrow.Author.Rules.{rules}
 use native.Mathlib.Omega.{arith}
 use mathlib.Core.Path.{sym, ◌∙◌}
 use Rattle.sevens.proofs.Sevens.{number-within}

@@ -1,5 +1,4 @@
 -- `block_at` meets its contract: the numbers, and then the rules.
-use borrow.Author.Rules.{rules}
 use native.Mathlib.Omega.{arith}
 use lib.ListN.{length-take}
 use mathlib.Core.Path.{refl}

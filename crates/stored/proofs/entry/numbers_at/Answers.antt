@@ -1,11 +1,9 @@
 -- `numbers_at` meets its contract: the numbers that are left, behind those in the words, are all of them.
-use borrow.Author.Rules.{rules}
 use native.Mathlib.Omega.{arith}
 use mathlib.Core.Path.{sym, ◌∙◌}
-use Prim.Native.Nat.{◌-◌}
-use lib.ListN.{length, length-set}
+use lib.ListN.{length-set}
 use Rattle.sevens.proofs.Sevens.{number-within}
-use Rattle.stored.proofs.Reading.{Reading, reading-start, reading-more, reading-bad, reading-short, reading-end}
+use Rattle.stored.proofs.Reading.{reading-start, reading-more, reading-bad, reading-short, reading-end}
 use Rattle.stored.proofs.entry.numbers_at.Goals as goal
 
 pub loop-i-init : goal.loop-i-init

@@ -1,11 +1,7 @@
 -- `numbers_at` meets its contract: the numbers that are left, behind those in the words, are all of them.
-use borrow.Author.Rules.{rules}
-use native.Mathlib.Omega.{arith}
-use mathlib.Core.Path.{sym, ◌∙◌}
 use Prim.Native.Nat.{◌-◌}
-use lib.ListN.{length, length-set}
-use Rattle.sevens.proofs.Sevens.{number-within}
-use Rattle.stored.proofs.Reading.{Reading, reading-start, reading-more, reading-bad, reading-short, reading-end}
+use lib.ListN.{length}
+use Rattle.stored.proofs.Reading.{Reading}
 use Rattle.stored.proofs.entry.numbers_at.Given as goal
 
 abbrev pub invariant-loop-i : goal.invariant-loop-i

@@ -1,5 +1,4 @@
 -- `ruled` meets its contract: the rules in their order.
-use borrow.Author.Rules.{rules}
 use native.Mathlib.Omega.{arith}
 use lib.ListN.{length-take}
 use Rattle.fields.specs.Fields.{last_of}

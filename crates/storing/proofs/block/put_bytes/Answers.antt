@@ -1,8 +1,5 @@
 -- `put_bytes` meets its contract: byte by byte. The bytes left are the measure.
-use borrow.Author.Rules.{rules}
-use Prim.Native.Nat.{◌-◌}
-use lib.ListN.{length}
-use Rattle.storing.proofs.Putting.{Bytes, bytes-start, bytes-more, bytes-done}
+use Rattle.storing.proofs.Putting.{bytes-start, bytes-more, bytes-done}
 use Rattle.storing.proofs.block.put_bytes.Goals as goal
 
 pub loop-i-init : goal.loop-i-init

@@ -1,8 +1,7 @@
 -- `put_bytes` meets its contract: byte by byte. The bytes left are the measure.
-use borrow.Author.Rules.{rules}
 use Prim.Native.Nat.{◌-◌}
 use lib.ListN.{length}
-use Rattle.storing.proofs.Putting.{Bytes, bytes-start, bytes-more, bytes-done}
+use Rattle.storing.proofs.Putting.{Bytes}
 use Rattle.storing.proofs.block.put_bytes.Given as goal
 
 abbrev pub invariant-loop-i : goal.invariant-loop-i

@@ -1,8 +1,7 @@
 -- `put_numbers` meets its contract: number by number. The numbers left are the measure.
-use borrow.Author.Rules.{rules}
 use Prim.Native.Nat.{◌-◌}
 use lib.ListN.{length}
-use Rattle.storing.proofs.Putting.{Numbers, numbers-start, numbers_more, numbers-done}
+use Rattle.storing.proofs.Putting.{Numbers}
 use Rattle.storing.proofs.block.put_numbers.Given as goal
 
 abbrev pub invariant-loop-i : goal.invariant-loop-i

@@ -1,9 +1,8 @@
 -- `put_blocks` meets its contract. The invariant: who writes the blocks of the records left has written all; the words left are
 -- the measure.
-use borrow.Author.Rules.{rules}
 use native.Mathlib.Omega.{arith}
-use lib.ListN.{length, length-take, length-drop}
-use Rattle.storing.proofs.Rows.{Rows, rows_start, rows-stop, rows-over, rows-done, rows_more, row-fit}
+use lib.ListN.{length-take, length-drop}
+use Rattle.storing.proofs.Rows.{rows_start, rows-stop, rows-over, rows-done, rows_more, row-fit}
 use Rattle.storing.proofs.list.put_blocks.Goals as goal
 
 pub loop-words-init : goal.loop-words-init

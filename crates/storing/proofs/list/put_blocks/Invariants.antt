@@ -1,9 +1,7 @@
 -- `put_blocks` meets its contract. The invariant: who writes the blocks of the records left has written all; the words left are
 -- the measure.
-use borrow.Author.Rules.{rules}
-use native.Mathlib.Omega.{arith}
-use lib.ListN.{length, length-take, length-drop}
-use Rattle.storing.proofs.Rows.{Rows, rows_start, rows-stop, rows-over, rows-done, rows_more, row-fit}
+use lib.ListN.{length}
+use Rattle.storing.proofs.Rows.{Rows}
 use Rattle.storing.proofs.list.put_blocks.Given as goal
 
 abbrev pub invariant-loop-words : goal.invariant-loop-words

@@ -1,7 +1,6 @@
 -- `fits` meets its contract: a law for each way through it.
 use Rattle.fields.specs.Fields.{last_of}
 use Rattle.storing.proofs.Fitting.{no_says, no-rest, text-decides}
-use borrow.Author.Rules.{rules}
 use Rattle.storing.proofs.record.fits.Goals as goal
 
 pub returns-then-not-in_range-signs : goal.returns-then-not-in_range-signs

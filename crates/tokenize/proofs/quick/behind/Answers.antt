@@ -1,7 +1,6 @@
 -- `behind` meets its contract. Assumes nothing.
 use native.Mathlib.Omega.{arith}
 use lib.ListN.{length-drop}
-use borrow.Author.Rules.{rules}
 use Rattle.rooms.proofs.Rooms.{wrote_none}
 use Rattle.tokens.specs.Tokens.{shown_layout}
 use Rattle.tokenize.proofs.Rules.{part-drop, tail_none}

@@ -1,6 +1,5 @@
 -- `ends_at` meets its contract. Assumes nothing.
 use mathlib.Core.Path.{sym}
-use borrow.Author.Rules.{rules}
 use borrow.Author.Tests.{eq-eqb, ne_eqb}
 use Rattle.tokenize.proofs.quick.ends_at.Goals as goal
 

@@ -1,6 +1,5 @@
 -- `escaped` meets its contract. Assumes nothing.
 use mathlib.Core.Path.{sym}
-use borrow.Author.Rules.{rules}
 use Rattle.rooms.proofs.Rooms.{wrote_as}
 use Rattle.tokens.specs.Tokens.{shown_layout}
 use Rattle.tokenize.proofs.Shapes.{word_slice}

@@ -1,11 +1,9 @@
 -- `letters_of` meets its contract. The invariant: i letters stand in front, and the rest is counted from i on. The measure is what
 -- is left. Assumes nothing.
 use Prim.Native.Nat.{◌≤◌, ◌-◌}
-use native.Mathlib.Omega.{arith}
 use lib.ListN.{length}
-use borrow.Author.Rules.{rules}
 use Rattle.classes.specs.Bytes.{is_letter}
-use Rattle.classes.proofs.Runs.{Lead, lead-start, lead-more, lead-stop, lead-end}
+use Rattle.classes.proofs.Runs.{Lead}
 use Rattle.tokenize.proofs.quick.letters_of.Given as goal
 
 abbrev pub invariant-loop-i : goal.invariant-loop-i

@@ -1,13 +1,9 @@
 -- `marked` meets its contract: the mark's token, and then what follows it. Plain text is what cutting it again gives. Assumes nothing.
 use mathlib.Core.Path.{refl, sym}
 use native.Mathlib.Omega.{arith}
-use lib.ListN.{length-take, length-drop}
-use borrow.Author.Rules.{rules}
-use Rattle.rooms.proofs.Rooms.{wrote_none, wrote_then, wrote_as}
+use Rattle.rooms.proofs.Rooms.{wrote_none, wrote_then}
 use Rattle.tokens.specs.Tokens.{shown_layout}
-use Rattle.tokenize.proofs.Rules.{tokens-mark, tokens-alone}
-use Rattle.tokenize.proofs.Sizes.{mark-next}
-use Rattle.tokenize.proofs.Shapes.{tail-plain}
+use Rattle.tokenize.proofs.Rules.{tokens-alone}
 use Rattle.rooms.proofs.Streams.{name-apart}
 use Rattle.tokenize.proofs.quick.marked.Goals as goal
 

@@ -1,7 +1,6 @@
 -- `slice_tokens` meets its contract. Assumes nothing.
 use mathlib.Core.Path.{sym, ◌∙◌}
 use native.Mathlib.Omega.{arith}
-use borrow.Author.Rules.{rules}
 use Rattle.rooms.proofs.Rooms.{wrote_none, wrote_as}
 use Rattle.tokens.specs.Tokens.{shown_layout}
 use Rattle.tokenize.proofs.Rules.{tokens_none, tokens-plain}

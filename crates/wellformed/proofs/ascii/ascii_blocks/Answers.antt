@@ -1,10 +1,6 @@
 -- `ascii_blocks` meets its contract: each block that is passed over is ASCII.
-use borrow.Author.Rules.{rules}
 use native.Mathlib.Omega.{arith}
 use mathlib.Core.Path.{sym, ◌∙◌}
-use lib.ListN.{length}
-use Prim.Native.Nat.{◌-◌}
-use Rattle.wellformed.specs.Ascii.{Passed}
 use Rattle.wellformed.proofs.Passing.{passed_none, passed-more, as-part}
 use Rattle.wellformed.proofs.ascii.ascii_blocks.Goals as goal
 

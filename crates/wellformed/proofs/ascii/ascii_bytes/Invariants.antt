@@ -1,10 +1,7 @@
 -- `ascii_bytes` meets its contract: each byte that is passed over is ASCII. The measure is what is left.
-use native.Mathlib.Omega.{arith}
-use borrow.Author.Rules.{rules}
 use Prim.Native.Nat.{◌-◌}
 use lib.ListN.{length}
 use Rattle.wellformed.specs.Ascii.{Passed}
-use Rattle.wellformed.proofs.Passing.{passed_none, passed-low}
 use Rattle.wellformed.proofs.ascii.ascii_bytes.Given as goal
 
 abbrev pub invariant-loop-i : goal.invariant-loop-i

@@ -1,9 +1,6 @@
 -- `ascii_eights` meets its contract: what is passed over is ASCII. The measure is what is left.
 use native.Mathlib.Omega.{arith}
-use borrow.Author.Rules.{rules}
-use Prim.Native.Nat.{◌-◌}
-use lib.ListN.{length, length-take, length-drop}
-use Rattle.wellformed.specs.Ascii.{Passed}
+use lib.ListN.{length-take, length-drop}
 use Rattle.wellformed.proofs.Passing.{passed_none, passed_on, passed_first, passed-eight}
 use Rattle.wellformed.proofs.ascii.ascii_eights.Goals as goal
 

@@ -1,10 +1,7 @@
 -- `ascii_eights` meets its contract: what is passed over is ASCII. The measure is what is left.
-use native.Mathlib.Omega.{arith}
-use borrow.Author.Rules.{rules}
 use Prim.Native.Nat.{◌-◌}
-use lib.ListN.{length, length-take, length-drop}
+use lib.ListN.{length}
 use Rattle.wellformed.specs.Ascii.{Passed}
-use Rattle.wellformed.proofs.Passing.{passed_none, passed_on, passed_first, passed-eight}
 use Rattle.wellformed.proofs.ascii.ascii_eights.Given as goal
 
 abbrev pub invariant-loop-at : goal.invariant-loop-at

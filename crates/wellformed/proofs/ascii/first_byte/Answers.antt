@@ -1,7 +1,6 @@
 -- `first_byte` meets its contract: at most 64 digits are counted.
 use native.Mathlib.Omega.{arith}
 use lib.Count.{trailing_le}
-use borrow.Author.Rules.{rules}
 use Rattle.wellformed.proofs.ascii.first_byte.Goals as goal
 
 pub overflow_cast-result : goal.overflow_cast-result

@@ -1,7 +1,6 @@
 -- `highs_of` meets its contract: the number is that of the bytes, and the mask has the high bit of each.
 use native.Mathlib.Omega.{arith}
 use Rattle.wellformed.proofs.Eights.{highs-right}
-use borrow.Author.Rules.{rules}
 use Rattle.wellformed.proofs.ascii.highs_of.Goals as goal
 
 pub word_of-requires : goal.word_of-requires

@@ -1,8 +1,5 @@
 -- `word_of` meets its contract. The invariant: w is the number of the bytes from i on. The measure is i.
-use Prim.Native.Nat.{◌-◌}
-use native.Mathlib.Omega.{arith}
-use borrow.Author.Rules.{rules}
-use Rattle.wellformed.proofs.Eights.{From, from_start, from-room, from_more, from_all}
+use Rattle.wellformed.proofs.Eights.{From}
 use Rattle.wellformed.proofs.ascii.word_of.Given as goal
 
 abbrev pub invariant-loop-i : goal.invariant-loop-i
