@@ -1,7 +1,7 @@
 /* Elduvarn for hosts in C and C++: RTF letters are cut and read, lists of blocks are stored.
  *
- * Link one archive, `rt staticlib host` writes it: target/staticlib/libhost.a, for x86-64. Of the C
- * library it calls memcpy and memset alone.
+ * Link one archive, `rt lib` in crates/host writes it: crates/host/out/libhost.a, for x86-64. Of the
+ * C library it calls memcpy and memset alone.
  *
  * Every slice is a pointer and then a length, counted in elements: bytes of a uint8_t, words of a
  * uint32_t. No pointer may be null, that of an empty slice neither; each is aligned for its

@@ -37,77 +37,75 @@ keep() {
 }
 
 need_rt() {
-    command -v rt >/dev/null || stop 3 "rt, of the Rattle kit, is not on the path: it is needed to $1 the program"
+    command -v rt >/dev/null || stop 3 "rt, of the Rattle kit, is not on the path: it is needed to prove and build the program"
 }
 
-# How many crates of the repository $1 needs, itself counted. A name without a line in crates.txt is a library of the kit.
-count_crates() {
+# The crates of the repository that $1 needs, itself the last, a line each, in the order in which rt proves them. A name without a
+# line in crates.txt is a library of the kit.
+list_crates() {
     awk -v top="$1" '
         function reach(name, words, count, i) {
             if (!(name in needs) || name in seen)
                 return
             seen[name] = 1
-            total++
             count = split(needs[name], words, " ")
             for (i = 1; i <= count; i++)
                 reach(words[i])
+            print name
         }
         { sub(/#.*/, "") }
-        split($0, part, ":") == 2 { gsub(/[ \t]/, "", part[1]); needs[part[1]] = part[2] }
-        END { reach(top); print total + 0 }' "$here/crates.txt"
+        split($0, part, ":") == 2 { split(part[1], head, " "); needs[head[1]] = part[2] }
+        END { reach(top) }' "$here/crates.txt"
 }
 
-# Keeps what rt says in the file $1, and shows a line for each crate that is proved now, of $2 in all. Crates that were proved
-# before are counted and not shown, so the last number is $2. True if the last line tells rt's status as 0.
+# Keeps what rt says in the file $1, and shows a line for each crate that is proved now: its place in the list $2, and how long it
+# took. Of crates that were proved before rt says nothing, and they are not shown; the last place is the program's.
 follow() {
-    ready=0
-    ended=
+    total=$(printf '%s\n' "$2" | wc -l) crate='' began=$(date +%s)
     while IFS= read -r line; do
         printf '%s\n' "$line" >&3
-        ended=$line
         case $line in
-            'rt: '*' proved (unchanged '*) ready=$((ready + 1)) ;;
-            'rt: '*' proved ('*' s)')
-                ready=$((ready + 1))
-                line=${line#rt: }
-                took=${line##*\(}
-                say "$ready of $2, ${line%% *}, ${took%)}"
+            'rt: chose --jobs '*' for '*) crate=${line##* } began=$(date +%s) ;;
+            'logic=proved '*)
+                place=$(printf '%s\n' "$2" | grep -nx "$crate" || :)
+                say "${place%%:*} of $((total)), $crate, $(($(date +%s) - began)) s"
                 ;;
         esac
     done 3>"$1"
-    [ "$ended" = 'rt ended with status 0' ]
 }
 
 build() {
-    # rt leaves a stamp once the program has also run as it should. With a stamp it does not build again.
-    [ ! -x "$here/target/bin/$1" ] || [ ! -f "$here/target/stamp/$1" ] || return 0
-    need_rt 'prove and build'
+    # rt links a program only once it and all crates below are proved. One that is there is not built again.
+    program=crates/$1/out/$1
+    [ ! -x "$here/$program" ] || return 0
+    need_rt
     log=target/$1.log
     say "proving and building the program once, crate by crate, in some minutes; $log has the details"
     mkdir -p "$here/target"
-    rm -f "$here/target/stamp/$1"
     {
         status=0
-        (cd "$here" && RT_CUT=${RT_CUT:-200} rt check "$1") </dev/null 2>&1 || status=$?
+        (cd "$here/crates/$1" && rt run) </dev/null 2>&1 || status=$?
         echo "rt ended with status $status"
-    } | follow "$here/$log" "$(count_crates "$1")" && return
+    } | follow "$here/$log" "$(list_crates "$1")"
+    # rt has also run it, without a letter, and ended with its status
+    [ ! -x "$here/$program" ] || return 0
     say "FAILED: the program could not be proved and built; the last lines of $log:"
-    grep -v -e '^library ' -e 'NOT PROVED: its dependency' "$here/$log" | tail -n 15 >&2
+    grep -v -e '^library ' -e '^statements ' -e '^logic ' "$here/$log" | tail -n 15 >&2
     exit 3
 }
 
-# Programs are for x86-64: on another processor the kit's emulator runs them. In a shell of its own, so that one that stops does
-# not take the script with it.
+# Programs are for x86-64; on another processor ELDUVARN_EMULATOR names what runs them, since the kit has no emulator. In a shell of
+# its own, so that one that stops does not take the script with it.
+# shellcheck disable=SC2086
 run() (
-    program=$here/target/bin/$1
+    program=$here/crates/$1/out/$1
     shift
-    machine=$(uname -m)
-    case $machine in
+    case $(uname -m) in
         x86_64 | amd64) exec "$program" "$@" ;;
     esac
-    need_rt run
-    kit=$(dirname "$(readlink -f "$(command -v rt)")")/../on/$machine/toolchain
-    exec "$kit/bin/qemu-x86_64" "$kit/lib/ld-linux-x86-64.so.2" --library-path "$kit/lib" "$program" "$@"
+    [ -n "${ELDUVARN_EMULATOR:-}" ] ||
+        stop 3 'the program is for x86-64 and this machine is not: name an emulator in ELDUVARN_EMULATOR'
+    exec $ELDUVARN_EMULATOR "$program" "$@"
 )
 
 # The number's row in the catalogue; the numbers that carry a place are those that it names (docs/REFUSALS.md).

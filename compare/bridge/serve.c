@@ -1,5 +1,5 @@
 /* Calls our library for a harness on another processor. The archive is for x86-64, so this program
- * is too, and runs under the kit's emulator; it needs no C library.
+ * is too, and runs under an emulator; it needs no C library.
  *
  * A request on standard input: eight u32 (function, source length, the sizes of five rooms in
  * elements, a junk byte), then the source. The answer on standard output: a u32 that is 1 if nothing

@@ -5,8 +5,8 @@
 //! its place, and leaves every room zero. Behind what an answer counts, rooms are zero too. What
 //! was in a room is never read.
 //!
-//! Link the archive that `rt staticlib host` writes, `target/staticlib/libhost.a`. The archive is
-//! proved, this file is not. See `host/README.md`.
+//! Link the archive that `rt lib` in `crates/host` writes, `crates/host/out/libhost.a`. The archive
+//! is proved, this file is not. See `host/README.md`.
 
 #![warn(missing_docs)]
 
