@@ -1,12 +1,11 @@
 -- Wherever a place is carried, it lies in the source and a slice starts there; any other number has place 0.
 --     cut-kept, read_kept   specs/Promise, of cutting and of reading
 -- Assumes nothing.
-use mathlib.Core.Path.{◌≡◌, refl, sym, ◌∙◌}
+use mathlib.Core.Path.{◌≡◌, refl}
 use mathlib.Core.List.{List, [], ◌∷◌}
 use mathlib.Core.Bool.{Bool, true, false, cond}
 use Prim.Native.Nat.{ℕ, ◌+◌}
 use native.Mathlib.Omega.{arith}
-use lib.ListN.{length}
 use lib.Dec.{leb}
 use Rattle.answers.specs.declared.Refusal.{Refusal}
 use Rattle.answers.specs.declared.Why.TheVariants.{TokenRoom, NoTokens, FirstToken}
@@ -16,9 +15,7 @@ use Rattle.answers.specs.Answers.{refusal, Found, found, refused, Told}
 use Rattle.answers.proofs.Refusals.{told_at, told_none}
 use Rattle.rooms.specs.Streams.{Stream, end, stop, ◌▸◌, items, answer, ended}
 use Rattle.rooms.specs.Rooms.{capacity, table_limit, settled}
-use Rattle.rooms.proofs.Streams.{done_refused}
 use Rattle.tokens.specs.Tokens.{Shown, Token, token, token_words, token_layout}
-use Rattle.tokens.specs.Tokens
 use Rattle.cutter.specs.Cutting.{token_stream, cut_answer, SliceAt, SlicesIn}
 use Rattle.cutter.proofs.Starts.{stream-slices, stream-stops}
 use Rattle.machine.proofs.Places.{StopsAt}

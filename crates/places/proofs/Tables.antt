@@ -8,7 +8,7 @@ use Rattle.answers.specs.declared.Why.TheVariants.{TableLineBreak}
 use Rattle.answers.specs.Answers.{Found, found, refused, Fate, becomes, fails, found_at, Told}
 use Rattle.answers.proofs.Refusals.{told_at}
 use Rattle.tokens.specs.Tokens.{Token, slice_of, shown_in}
-use Rattle.fonts.specs.Rows.{Font, Fonts, no_fonts, table_of}
+use Rattle.fonts.specs.Rows.{Fonts, no_fonts, table_of}
 use Rattle.fonts.specs.Fonts.{font_token, next_font, fonts_from, fonts}
 use Rattle.colours.specs.Colours.{Colours, no_colours, colour_token, next_colour, colours_from, colours}
 use Rattle.colours.specs.Colours.{table_of as colour_table_of}

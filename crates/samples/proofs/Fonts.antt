@@ -8,7 +8,6 @@ use Rattle.answers.specs.Answers.{refusal, Found, found, refused}
 use Rattle.classes.specs.Bytes.{body}
 use Rattle.classes.specs.Texts.{bytes_of}
 use Rattle.tokens.specs.Tokens.{Shown, Token, token}
-use Rattle.tokens.specs.Tokens
 use Rattle.fonts.specs.Rows.{Font, font_record, table_words, has_key, inserted, stored}
 use Rattle.fonts.specs.Fonts.{named, font_word, font_token, fonts_from, fonts}
 use Rattle.samples.specs.Fonts.{Told, f, bare, font, told, arial_words}

@@ -6,7 +6,6 @@ use Rattle.answers.specs.Answers.{Found, found, refused}
 use Rattle.classes.specs.Texts.{bytes_of}
 use Rattle.tokens.specs.declared.Property.TheVariants.{None, Value}
 use Rattle.tokens.specs.Tokens.{Shown, Token, token}
-use Rattle.tokens.specs.Tokens
 use Rattle.fonts.specs.Rows.{Font}
 use Rattle.tokens.specs.WordNumbers as words
 

@@ -6,10 +6,9 @@
 use mathlib.Core.Path.{◌≡◌, refl, sym, ap, ◌∙◌}
 use mathlib.Core.List.{List, [], ◌∷◌, ◌++◌}
 use mathlib.Core.Bool.{Bool, true, false}
-use Prim.Native.Nat.{ℕ, zero, suc, ◌-◌}
+use Prim.Native.Nat.{ℕ, zero, suc}
 use lib.ListN.{take, drop}
 use Rattle.tokens.specs.Tokens.{Shown, Token, token, shown_in, shown_by}
-use Rattle.tokens.specs.Tokens
 use Rattle.walk.specs.declared.Aim.{Aim}
 use Rattle.walk.specs.declared.Aim.TheVariants.{Nothing, Hide, Fonts, Colours}
 use Rattle.walk.specs.Walk.{aim_at, aim_from, aim, level, extent, Step, kept, hidden, font_table, colour_table, group, entered}

@@ -22,7 +22,6 @@ use Rattle.rooms.proofs.Streams.{Each}
 use Rattle.tokens.specs.declared.Property.{Property}
 use Rattle.tokens.specs.declared.Property.TheVariants.{None, Value}
 use Rattle.tokens.specs.Tokens.{Shown, Token, token, slice_of, shown_in, shown_by}
-use Rattle.tokens.specs.Tokens
 use Rattle.controls.proofs.Places.{Stands}
 use Rattle.cutter.specs.Cutting.{token_stream}
 use Rattle.cutter.proofs.Places.{Placed, stream-places}

@@ -30,14 +30,12 @@ use Rattle.slices.specs.Slices.{slices, is_return, starts_with_feed, take_feed, 
 use Rattle.tokens.specs.declared.Property.{Property}
 use Rattle.tokens.specs.declared.Property.TheVariants.{None, Value}
 use Rattle.tokens.specs.Tokens.{Shown, Token, token, slice_of, shown_in, shown_by}
-use Rattle.tokens.specs.Tokens
 use Rattle.controls.specs.Controls.{shown_word, numbered}
 use Rattle.tokenize.specs.Tokenize.{behind_feed, returned, other_by, is_mark, is_escape, mark, plain, hex_value, hex_escape, line_break_and}
 use Rattle.tokenize.specs.Tokenize.{named, bare_length, word_tail, word, other, escaped, tokens}
 use Rattle.standard.specs.Standard.{tail, escaped as standard_escaped, tokens as standard_tokens}
 use Rattle.standard.specs.Closing.{is_closing}
 use Rattle.standard.proofs.Shows.{Alike, Moved, tokens-alike}
-use Rattle.standard.proofs.Shows
 use Rattle.cutter.specs.Cutting.{tokens_by, located, last, last_by, all_slices, every, closed_behind, closing, cut_by, trim_start, trimmed, token_stream}
 use Rattle.veil.specs.Veil.{flat, mute, part, parts, pieces, shown}
 use Rattle.veil.proofs.Bare.{bare, bare_all, bare-append, side, Flat, none, some}

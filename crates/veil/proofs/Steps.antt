@@ -20,7 +20,6 @@ use Rattle.rooms.specs.Rooms.{table_limit, capacity}
 use Rattle.tokens.specs.declared.Property.{Property}
 use Rattle.tokens.specs.declared.Property.TheVariants.{None, Value}
 use Rattle.tokens.specs.Tokens.{Shown, Token, token, slice_of, shown_in, shown_by}
-use Rattle.tokens.specs.Tokens
 use Rattle.fonts.specs.Rows.{Font, Fonts, no_fonts, has_key, inserted, stored, font_words}
 use Rattle.fonts.specs.Fonts.{named, rekeyed, font_word, font_token, next_font}
 use Rattle.fonts.specs.Rows.{table_of}

@@ -6,7 +6,7 @@
 use mathlib.Core.Path.{◌≡◌, refl, sym, ap, subst, ◌∙◌}
 use mathlib.Core.List.{List, [], ◌∷◌, ◌++◌}
 use mathlib.Core.Bool.{Bool, true, false, cond, ◌||◌, false≢true}
-use Prim.Native.Nat.{ℕ, zero, suc, ◌+◌, ◌-◌}
+use Prim.Native.Nat.{ℕ, zero, suc, ◌-◌}
 use native.Mathlib.Omega.{arith}
 use lib.ListN.{take, drop}
 use lib.Dec.{eqb}
@@ -14,7 +14,6 @@ use borrow.Author.Tests.{eqb-true, ne_eqb}
 use Rattle.readings.specs.declared.Reading.{Reading}
 use Rattle.rooms.specs.Streams.{items}
 use Rattle.tokens.specs.Tokens.{Shown, Token, shown_by}
-use Rattle.tokens.specs.Tokens
 use Rattle.tokenize.specs.Tokenize.{is_mark}
 use Rattle.cutter.specs.Cutting.{tokens_by}
 use Rattle.walk.specs.declared.Aim.{Aim}

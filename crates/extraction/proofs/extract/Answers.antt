@@ -1,5 +1,4 @@
 -- `extract` meets its contract: what was read in the extractor's rooms is listed, whole.
-use borrow.Author.Rules.{rules}
 use Rattle.extraction.proofs.Extractor.{extract-listed}
 use Rattle.extraction.proofs.extract.Goals as goal
 

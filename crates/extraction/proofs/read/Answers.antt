@@ -1,5 +1,4 @@
 -- `read` meets its contract: a letter that is too long, or the reader's answer in the extractor's rooms.
-use borrow.Author.Rules.{rules}
 use Rattle.extraction.proofs.Extractor.{read-longer, read_taken}
 use Rattle.extraction.proofs.read.Goals as goal
 

@@ -4,7 +4,6 @@ use mathlib.Core.Path.{◌≡◌}
 use native.Mathlib.Omega.{arith}
 use Rattle.parser.specs.Parsing.{sizes}
 use Rattle.reader.proofs.Whole.{cut-refused, cut-parsed}
-use borrow.Author.Rules.{rules}
 use Rattle.reader.proofs.attempt.Goals as goal
 
 pub parse-requires : goal.parse-requires

@@ -1,7 +1,6 @@
 -- `read` meets its contract: what was refused leaves zeros, what was read stands.
 use Rattle.parser.specs.Parsing.{sizes}
 use Rattle.reader.proofs.Whole.{letter-refuses, read-refused, read_done}
-use borrow.Author.Rules.{rules}
 use Rattle.reader.proofs.read.Goals as goal
 
 pub returns-in-Refuses : goal.returns-in-Refuses

@@ -1,7 +1,6 @@
 -- `refuse` meets its contract: each room is cleared.
 use mathlib.Core.Path.{refl}
 use Rattle.rooms.proofs.Clearing.{cleared}
-use borrow.Author.Rules.{rules}
 use Rattle.reader.proofs.refuse.Goals as goal
 
 pub returns : goal.returns

@@ -1,5 +1,4 @@
 -- `head` meets its contract: numbers, one behind the other.
-use borrow.Author.Rules.{rules}
 use Rattle.lines.proofs.Pages.{put_then}
 use Rattle.extraction.specs.Listings.{head_line}
 use Rattle.extraction.proofs.listing.head.Goals as goal

@@ -1,5 +1,4 @@
 -- `list` meets its contract: the lines stand one behind the other, and a refusal has the first alone.
-use borrow.Author.Rules.{rules}
 use Rattle.lines.proofs.Pages.{put_as, put_then}
 use Rattle.extraction.proofs.Listings.{listing-refused, listing-read}
 use Rattle.extraction.proofs.listing.list.Goals as goal

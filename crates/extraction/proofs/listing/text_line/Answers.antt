@@ -1,5 +1,4 @@
 -- `text_line` meets its contract: a text that goes on is cut off, any other is there whole.
-use borrow.Author.Rules.{rules}
 use native.Mathlib.Omega.{arith}
 use lib.ListN.{length-take}
 use Rattle.lines.proofs.Pages.{put_as, put_then}
