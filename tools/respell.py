@@ -15,7 +15,7 @@ import os
 import re
 import subprocess
 
-CAMEL = re.compile(r"(?<![\w'])([a-z][a-z0-9]*(?:[A-Z][a-z0-9]*)+)(?![\w])")
+CAMEL = re.compile(r"(?<![\w'\\])([a-z][a-z0-9]*(?:[A-Z][a-z0-9]*)+)(?![\w])")
 # a lemma that has its function's name once that is respelled, and the files that name it
 LEMMAS = {
     "block_room": ["crates/previews/proofs/Previews.antt"],
@@ -24,7 +24,7 @@ LEMMAS = {
     "row_words": ["crates/fonts/proofs/Inserts.antt"],
 }
 # parts of letters and of bytes in comments
-LETTERS = re.compile(r"x[A-F][0-9]|bB1?|f1A|fonttblA")
+LETTERS = re.compile(r"x[A-F][0-9A-F]|bB1?|f1A|fonttblA")
 PAGES = ["README.md", "CONTRIBUTING.md", "docs/DECISIONS.md", "docs/DIFFERENCES.md", "docs/PROOFS.md", "docs/REFUSALS.md", "docs/STANDARD.md"]
 
 

@@ -1,225 +1,305 @@
 #!/usr/bin/env python3
-"""conv.py CRATE..  : turns proofs/**/Proof.antt into Invariants.antt and Answers.antt, by names.json"""
-import json,re,sys,os,glob,subprocess
-ROOT=os.environ.get('ROOT','/work/main')
-def canon(n):
-    n=n.replace('_','-')
-    n=re.sub(r'^overflow-(?=(add|sub|mul|shl|shr|cast|neg))','',n)
-    n=re.sub(r'-lem(?=-|$)','',n)
-    return n
-def blocks(t):
-    """(header comment, uses, decls) : decl = (name, text)"""
-    lines=t.split('\n'); head=[];uses=[];decls=[];cur=[];pend=[]
-    i=0
-    # join use lines that wrap
-    out=[]
-    buf=None
-    for l in lines:
-        if buf is not None:
-            buf+=' '+l.strip()
-            if '}' in l: out.append(buf); buf=None
-            continue
-        if l.startswith('use ') and '{' in l and '}' not in l: buf=l; continue
-        out.append(l)
-    lines=out
-    for l in lines:
-        if l.startswith('use '): uses.append(l); continue
-        if not uses and not decls and l.startswith('--'): head.append(l); continue
-        if l.strip()=='' : cur.append(l); continue
-        m=re.match(r'^(?:abbrev |unfoldable |pub |opaque )*(\S+) :( |$)',l)
-        if m and not l.startswith(' ') and not l.startswith('--'):
-            # comments just above belong to new one
-            c=[]
-            while cur and (cur[-1].startswith('--') ): c.insert(0,cur.pop())
-            if decls: decls[-1][1].extend(cur)
-            else: pend=cur
-            cur=c+[l]; decls.append([m.group(1),[]]); decls[-1][1].extend(cur); cur=[]
-            continue
-        m=re.match(r'^(module|mutual|record|data)\b',l)
-        if m:
-            c=[]
-            while cur and (cur[-1].startswith('--') ): c.insert(0,cur.pop())
-            if decls: decls[-1][1].extend(cur)
-            cur=[]
-            decls.append([None,c+[l]]); continue
-        cur.append(l)
-        if decls and not l.startswith('--'):
-            decls[-1][1].extend(cur); cur=[]
-    if decls: decls[-1][1].extend(cur)
-    return head,uses,[(n,'\n'.join(b).strip('\n')) for n,b in decls]
-def split_top(s):
-    """split tuple 'a, b' at top-level comma"""
-    d=0; parts=[];st=0
-    for i,ch in enumerate(s):
-        if ch in '([{': d+=1
-        elif ch in ')]}': d-=1
-        elif ch==',' and d==0: parts.append(s[st:i]); st=i+1
-    parts.append(s[st:]); parts=[p.strip() for p in parts]
-    if parts and parts[-1]=='': parts.pop()
-    return parts
-def tuple_parts(e,n):
-    """e is '(a, (b, c))' -> [a,b,c] when it nests to n, else None"""
-    e=e.strip()
-    if n==1: return [e]
-    if not (e.startswith('(') and e.endswith(')')): return None
-    d=0
-    for i,ch in enumerate(e):
-        if ch in '([{': d+=1
-        elif ch in ')]}':
-            d-=1
-            if d==0 and i<len(e)-1: return None
-    ps=split_top(e[1:-1])
-    if len(ps)==n: return ps
-    if len(ps)==2:
-        r=tuple_parts(ps[1],n-1)
-        return [ps[0]]+r if r else None
+"""Turns proofs of an older Rattle (proofs/F/Proof.antt, over positions) into today's (Invariants.antt and Answers.antt, over names).
+
+usage: python3 tools/turn_proofs.py COMMIT NAMES CRATE        at the top of the repository
+
+COMMIT is one in which the crate's Proof.antt files stand, with port.py and tools/respell.py run over them. NAMES is the folder that
+`rt check --generated NAMES --old-names` wrote in the crate's folder. Files that stand there are written over; a function in a cycle
+of calls (proofs/+F) is left out. What is turned:
+
+- an invariant over positional parameters, to one over `l.x`, `l.initial.x`;
+- a need by its old name, to the goal's; answers that the check finds by itself are left out;
+- a path `c.before.before.step.field`, to `c.step.field` with the step's name of today;
+- a callee's clauses by position, to their names, and a tuple for several clauses, to a record.
+
+Branches that join (`⊎_elim .. c.if1.branch`) want `elim .. [ then-x w ↦ .. ]`, by hand. Needs that are gone are told on standard output.
+"""
+
+import json
+import os
+import re
+import subprocess
+import sys
+
+FOUND_ALONE = ("search rules", "cc", "omega arith")
+MADE = re.compile(r"\.(Statement|Tie|Reads|Lts|Goals|Given)(\.\{| as )|\.Statement\.")
+HEAD = re.compile(r"^(?:abbrev |unfoldable |pub |opaque )*(\S+) :( |$)")
+
+
+def canon(name):
+    """One spelling for a need's name in proof files and in NAMES."""
+    name = name.replace("_", "-").lower()
+    name = re.sub(r"^overflow-(?=(add|sub|mul|shl|shr|cast|neg))", "", name)
+    name = re.sub(r"-lem(?=-|$)", "", name)
+    return re.sub(r"^slice-bounds-", "part-", name)
+
+
+def one_line_uses(text):
+    lines, open_use = [], None
+    for line in text.split("\n"):
+        if open_use is not None:
+            open_use += " " + line.strip()
+            if "}" in line:
+                lines.append(open_use)
+                open_use = None
+        elif line.startswith("use ") and "{" in line and "}" not in line:
+            open_use = line
+        else:
+            lines.append(line)
+    return lines
+
+
+def parts(text):
+    """The comment at the head, the uses, and the declarations, each a name and its text."""
+    head, uses, found, rest = [], [], [], []
+    for line in one_line_uses(text):
+        if line.startswith("use "):
+            uses.append(line)
+        elif line.startswith("--") and not uses and not found:
+            head.append(line)
+        elif HEAD.match(line) and not line.startswith((" ", "--")):
+            above = []
+            while rest and rest[-1].startswith("--"):
+                above.insert(0, rest.pop())
+            if found:
+                found[-1][1].extend(rest)
+            found.append((HEAD.match(line).group(1), above + [line]))
+            rest = []
+        else:
+            rest.append(line)
+            if found and not line.startswith("--") and line.strip():
+                found[-1][1].extend(rest)
+                rest = []
+    if found:
+        found[-1][1].extend(rest)
+    return head, uses, [(name, "\n".join(lines).strip("\n")) for name, lines in found]
+
+
+def at_commas(text):
+    depth, start, found = 0, 0, []
+    for i, c in enumerate(text):
+        depth += (c in "([{") - (c in ")]}")
+        if c == "," and depth == 0:
+            found.append(text[start:i].strip())
+            start = i + 1
+    last = text[start:].strip()
+    return found + [last] if last else found
+
+
+def of_tuple(text, n):
+    """The n parts of `(a, (b, c))`, or None."""
+    text = text.strip()
+    if n == 1:
+        return [text]
+    if not (text.startswith("(") and text.endswith(")")):
+        return None
+    depth = 0
+    for i, c in enumerate(text):
+        depth += (c in "([{") - (c in ")]}")
+        if depth == 0 and i < len(text) - 1:
+            return None
+    found = at_commas(text[1:-1])
+    if len(found) == n:
+        return found
+    if len(found) == 2:
+        more = of_tuple(found[1], n - 1)
+        return [found[0]] + more if more else None
     return None
-def clause_paths(k):
-    """names path .0 , .1.0 .. for k clauses (nested pairs to the right)"""
-    res=[]
-    for i in range(k):
-        if i<k-1: res.append('.1'*i+'.0')
-        else: res.append('.1'*i)
-    return res
-class Conv:
-    def __init__(s,crate):
-        s.crate=crate
-        s.json=json.load(open(f'/tmp/names_{crate}/names.json'))
-    def path(s,key,modpath):
-        pass
-    def run(s):
-        base=f'{ROOT}/crates/{s.crate}/proofs'
-        L=subprocess.run(['git','ls-tree','-r','--name-only','26104a7','crates/'+s.crate+'/proofs'],cwd=ROOT,capture_output=True,text=True).stdout.split()
-        only=os.environ.get('ONLY')
-        for q in [x for x in L if x.endswith('/Proof.antt')]:
-            p=ROOT+'/'+q
-            if only and f'/{only}/' not in p: continue
-            rel=os.path.relpath(os.path.dirname(p),base).replace('/','.')
-            key=f'Rattle-{s.crate}-proofs.{rel}.Lts'
-            if key not in s.json:
-                print('no names',s.crate,rel); continue
-            try: s.one(p,rel,s.json[key])
-            except Exception as e:
-                import traceback; traceback.print_exc(); print('failed',s.crate,rel,e)
-    def one(s,p,rel,J):
-        t=subprocess.run(['git','show','26104a7:'+os.path.relpath(p,ROOT)],cwd=ROOT,capture_output=True,text=True).stdout
-        head,uses,decls=blocks(t)
-        needs={canon(a):b for a,b in J['needs']}
-        asked={canon(a):b for a,b in J['asked'].items()}
-        steps={}; typed={}
-        rename={}   # (oldstep, field) -> newfield
-        sclause={}  # oldstep -> clause names of its call
-        armpath={}  # oldstep -> list of (path tuple, newstep, field)
-        for k,(pl,prev,(o,n),callee,fr) in enumerate(J['places']):
-            steps[canon(o)]=n
-            for a,b in fr: rename[(canon(o),a)]=b
-            arm=J['arms'][k]
-            if arm:
-                for f,st,path in arm[2]:
-                    if path: armpath.setdefault(canon(st),[]).append((tuple(path),arm[0],f))
-            cl=J['clauses'][k]
-            if cl and len(cl.get('fields') or [])>1: sclause[canon(o)]=cl['fields']
-            for v,st in J['typed'][k]: typed.setdefault(canon(st),v)
-        loops={canon(a):(b,vs,ch) for ((a,b),vs),ch in zip(J['loops'],J['changed'])}
-        mod=f'Rattle.{s.crate}.proofs.{rel}'
-        word=r"[^\s(){}.;,@\"«»\[\]]+"
-        def trpath(m):
-            whole=m.group(0)
-            parts=whole.split('.')
-            root=parts[0]; rest=[x for x in parts[1:] if x!='before']
-            if len(rest)==0: return root if len(parts)>1 and all(x=='before' for x in parts[1:]) else whole
-            st=canon(rest[0])
-            if st in ('args','ranges','requires','well-formed'): return root+'.'+'.'.join(rest)
-            if st=='pre': return '.'.join([root,'requires']+rest[1:])
-            if st in armpath:
-                for path,ns,f in armpath[st]:
-                    if tuple(rest[1:1+len(path)])==path:
-                        return '.'.join([root,ns,f]+rest[1+len(path):])
-            if st in typed and rest[1:2]==['given']: return '.'.join([root,'type_inv',typed[st]]+rest[2:])
-            if st in steps:
-                r=rest[1:]
-                if r and (st,r[0]) in rename: r=[rename[(st,r[0])]]+r[1:]
-                if st in sclause and r[:1]==['ensures'] :
-                    names=sclause[st]
-                    suf='.'.join(['']+r[1:])
-                    for nm,pth in sorted(zip(names,clause_paths(len(names))),key=lambda z:-len(z[1])):
-                        if (suf+'.').startswith(pth+'.'):
-                            r=['ensures',nm]+[x for x in suf[len(pth):].split('.') if x]
-                            break
-                return '.'.join([root,steps[st]]+r)
+
+
+def nested(names):
+    return names[0] if len(names) == 1 else f"({names[0]}, {nested(names[1:])})"
+
+
+def by_clause(path, clauses):
+    """A path into nested pairs, `1.0.x`, as one by the clauses' names, `within.x`."""
+    text = "".join("." + it for it in path)
+    places = [".1" * i + (".0" if i < len(clauses) - 1 else "") for i in range(len(clauses))]
+    for name, place in sorted(zip(clauses, places), key=lambda it: -len(it[1])):
+        if (text + ".").startswith(place + "."):
+            return [name] + [it for it in text[len(place) :].split(".") if it]
+    return path
+
+
+class Names:
+    """What NAMES says of one function: its goals and steps, old and new."""
+
+    def __init__(self, said):
+        self.goals = {canon(old): new for old, new in said["needs"]}
+        self.asked = {canon(old): it for old, it in said["asked"].items()}
+        self.loops = {canon(old): (new, names, changed) for ((old, new), names), changed in zip(said["loops"], said["changed"])}
+        self.own = (said.get("pre") or {}).get("fields") or []
+        self.steps, self.typed, self.fields, self.clauses, self.arms, self.lent = {}, {}, {}, {}, {}, {}
+        for at, (_, _, (old, new), callee, fields) in enumerate(said["places"]):
+            step = canon(old)
+            self.steps[step] = new
+            if callee in said["params"]:
+                self.lent[step] = said["params"][callee]
+            self.fields.update({(step, was): now for was, now in fields})
+            for name, was, path in (said["arms"][at] or [None, None, []])[2]:
+                if path:
+                    self.arms.setdefault(canon(was), []).append((path, said["arms"][at][0], name))
+            clauses = (said["clauses"][at] or {}).get("fields") or []
+            if len(clauses) > 1:
+                self.clauses[step] = clauses
+            for name, was in said["typed"][at]:
+                self.typed.setdefault(canon(was), name)
+
+    def path(self, root, rest):
+        """A path from `root`, which is a place of the code, behind the steps `before`."""
+        step, more = canon(rest[0]), rest[1:]
+        if step in ("pre", "requires"):
+            return ".".join([root, "requires"] + (by_clause(more, self.own) if len(self.own) > 1 else more))
+        if step == "well-formed":
+            return ".".join([root, "well_formed"] + more)
+        if step in ("args", "ranges"):
+            return ".".join([root] + rest)
+        if step in self.typed and more[:1] == ["given"]:
+            return ".".join([root, "type_inv", self.typed[step]] + more[1:])
+        for path, new, name in self.arms.get(step, []):
+            if more[: len(path)] == path:
+                return ".".join([root, new, name] + more[len(path) :])
+        if step not in self.steps:
+            return ".".join([root] + rest)
+        new = self.steps[step]
+        if more[:1] == ["auto"] and step in self.lent:
+            ones = len(more) - 1 - len("".join(more[1:]).lstrip("1"))
+            if more[1 + ones : 2 + ones] == ["0"] and ones < len(self.lent[step]):
+                return ".".join([root, new, "auto", self.lent[step][ones]] + more[2 + ones :])
+        if step.startswith("match") and more[:1] == ["rest"]:
+            return ".".join([root, new, new + "-own"] + more)
+        if more and (step, more[0]) in self.fields:
+            more = [self.fields[step, more[0]]]
+        elif more == ["ensures"] and step in self.clauses:
+            return nested([f"{root}.{new}.ensures.{it}" for it in self.clauses[step]])
+        elif more[:1] == ["ensures"] and step in self.clauses:
+            more = ["ensures"] + by_clause(more[1:], self.clauses[step])
+        return ".".join([root, new] + more)
+
+
+def places_of(body, first, names):
+    """The variables of a body that stand for a place (`let p = c.before in`), and those that stand for a step, with it."""
+    places, steps = {first}, {}
+    for _ in range(3):
+        for m in re.finditer(r"let ([\w'₀-₉-]+) = ([A-Za-z_][\w-]*)((?:\.[\w'*+-]+)*)\s+in", body):
+            path = [it for it in m.group(3).split(".") if it]
+            while path and path[0] == "before":
+                path = path[1:]
+            if m.group(2) in places and not path:
+                places.add(m.group(1))
+            elif m.group(2) in places and len(path) == 1 and canon(path[0]) in names.steps:
+                steps[m.group(1)] = path[0]
+    return places, steps
+
+
+def turned_paths(body, first, names):
+    places, steps = places_of(body, first, names)
+
+    def turned(m):
+        whole, (root, *path) = m.group(0), m.group(0).split(".")
+        behind = list(path)
+        while behind and behind[0] == "before":
+            behind = behind[1:]
+        if root in steps and path:
+            if path == ["ensures"] and canon(steps[root]) in names.clauses:
+                return nested([f"{root}.ensures.{it}" for it in names.clauses[canon(steps[root])]])
+            step, long = names.path("c", [steps[root]]), names.path("c", [steps[root]] + path)
+            return root + long[len(step) :] if long.startswith(step) else whole
+        if root not in places:
             return whole
-        inv=[];ans=[];dropped=[]
-        skip={'statement'}
-        for name,text in decls:
-            if name is None:
-                ans.append(text); continue
-            m=re.search(r'^(?:--.*\n)*(?:abbrev |pub |unfoldable )*\S+ : tie\.(\S+)(.*)$',text,re.M)
-            if m and (m.group(1).startswith('invariant-') or m.group(1).startswith('decreases-')):
-                kind,lp=m.group(1).split('-',1)
-                lp=canon(lp)
-                if lp not in loops:
-                    # recursion measure
-                    ans.append('-- MEASURE '+text.replace('\n','\n-- ')); continue
-                new,vs,ch=loops[lp]
-                com='\n'.join(l for l in text.split('\n') if l.startswith('--'))
-                mm=re.search(r'^'+re.escape(name)+r' (.*?)=(?!=)',text,re.M|re.S)
-                body=text[mm.end():]
-                ps=mm.group(1).split()
-                sub={}
-                names=[('l.initial.'+v if c else 'l.'+v) for v,c in zip(vs,ch)]+['l.'+v for v,c in zip(vs,ch) if c]
-                for q,n in zip(ps,names): sub[q]=n
-                ok = len(ps)==len(names)
-                sub.pop('_',None)
-                def rep(m):
-                    return sub.get(m.group(0),m.group(0))
-                body=re.sub(r"(?<![\w.'₀-₉])[A-Za-zκμ_][\w'₀-₉′]*(?:-[\w'₀-₉]+)*",rep,body)
-                inv.append((com+'\n' if com else '')+f'abbrev pub {kind}-{new} : goal.{kind}-{new}'+(f'\n-- PARAMS {ps} {vs} {ch}' if not ok else '')+''.join('\n'+u for u in re.findall(r'^unfolding .*$',text,re.M))+f'\n{kind}-{new} l ={body}')
-                continue
-            if m and m.group(1).startswith('Need-'):
-                g=canon(m.group(1)[5:])
-                if g not in needs:
-                    dropped.append(g);
-                    if re.search(r'= search rules\s*$',text): continue
-                    ans.append('-- GONE '+g+'\n-- '+text.replace('\n','\n-- ')); continue
-                new=needs[g]
-                com='\n'.join(l for l in text.split('\n') if l.startswith('--'))
-                unf=re.findall(r'^unfolding .*$',text,re.M)
-                mm=re.search(r'^'+re.escape(name)+r'((?: [^=\n]*)?) =(?!=)',text,re.M)
-                if not mm: ans.append('-- ODD '+text.replace('\n','\n-- ')); continue
-                args=mm.group(1).split(); body=text[mm.end():]
-                if body.strip()=='search rules' and not unf: continue
-                # where clauses keep
-                cvar=args[0] if args else None
-                body=re.sub(r"(?<![\w.'])([A-Za-z_][\w'₀-₉]*)((?:\.[\w'*+-]+)+)",trpath,body)
-                # .. pieces like (c .before)
-                if g in asked and asked[g]:
-                    names=[x if isinstance(x,str) else x[0] for x in asked[g]]
-                    pre='';tail=body
-                    k=body.rfind(' in\n'); k2=body.rfind(' in (')
-                    cut=max(k+4 if k>=0 else 0,k2+4 if k2>=0 else 0)
-                    wh=re.search(r'\n  where\b',body)
-                    after=''
-                    if wh: after=body[wh.start():]; body=body[:wh.start()]
-                    if cut>len(body): cut=0
-                    pre,tail=body[:cut],body[cut:]
-                    tp=tuple_parts(tail,len(names))
-                    if tp: tail=' record { '+'; '.join(f'{a} = {b}' for a,b in zip(names,tp))+' }'
-                    body=pre+tail+after
-                lhs=' '.join([new]+args[:1])
-                ans.append((com+'\n' if com else '')+f'pub {new} : goal.{new}'+''.join('\n'+u for u in unf)+f'\n{lhs} ={body}')
-                continue
-            if re.search(r'tie\.close|statement M',text): continue
-            text=re.sub(r"(?<![\w.'])(c)((?:\.[\w'*+-]+)+)",trpath,text)
-            ans.append(text)
-        keep=[u for u in uses if not re.search(r'\.(Statement|Tie|Reads|Lts|Goals|Given)(\.\{| as )|\.Statement\.',u)]
-        d=os.path.dirname(p); os.makedirs(d,exist_ok=True)
-        for z in ('Invariants','Answers'):
-            if os.path.exists(d+f'/{z}.antt'): os.remove(d+f'/{z}.antt')
-        hd='\n'.join(head)
-        if inv:
-            open(d+'/Invariants.antt','w').write(hd+'\n'+'\n'.join(keep)+f'\nuse {mod}.Given as goal\n\n'+'\n\n'.join(inv)+'\n')
-        if ans:
-            open(d+'/Answers.antt','w').write(hd+'\n'+'\n'.join(keep)+f'\nuse {mod}.Goals as goal\n\n'+'\n\n'.join(ans)+'\n')
-        if os.path.exists(p): os.remove(p)
-        if dropped: print(s.crate,rel,'gone goals',dropped)
-for c in sys.argv[1:]: Conv(c).run()
+        return names.path(root, behind) if behind else root
+
+    return re.sub(r"(?<![\w.'-])([A-Za-z_][\w'₀-₉-]*)((?:\.[\w'*+-]+)+)", turned, body)
+
+
+def comments(text):
+    return "".join(line + "\n" for line in text.split("\n") if line.startswith("--"))
+
+
+def unfoldings(text):
+    return "".join("\n" + it for it in re.findall(r"^unfolding .*$", text, re.M))
+
+
+def invariant(kind, loop, name, text):
+    new, variables, changed = loop
+    clause = re.search(rf"^{re.escape(name)} (.*?)=(?!=)", text, re.M | re.S)
+    now = [("l.initial." if it else "l.") + x for x, it in zip(variables, changed)] + ["l." + x for x, it in zip(variables, changed) if it]
+    means = {old: it for old, it in zip(clause.group(1).split(), now) if old != "_"}
+    body = re.sub(r"(?<![\w.'₀-₉])[A-Za-zκμ_][\w'₀-₉]*(?:-[\w'₀-₉]+)*", lambda m: means.get(m.group(0), m.group(0)), text[clause.end() :])
+    return f"{comments(text)}abbrev pub {kind}-{new} : goal.{kind}-{new}{unfoldings(text)}\n{kind}-{new} l ={body}"
+
+
+def as_record(body, clauses):
+    where = re.search(r"\n  where\b", body)
+    body, behind = (body[: where.start()], body[where.start() :]) if where else (body, "")
+    cut = max([0] + [m.end() for m in re.finditer(r" in(?:\n| (?=\())", body)])
+    found = of_tuple(body[cut:], len(clauses))
+    if found:
+        body = body[:cut] + " record { " + "; ".join(f"{a} = {b}" for a, b in zip(clauses, found)) + " }"
+    return body + behind
+
+
+def answer(need, name, text, names):
+    clause = re.search(rf"^{re.escape(name)}((?: [^=\n]*)?) =(?!=)", text, re.M)
+    arguments, body, unfolding = clause.group(1).split(), text[clause.end() :], unfoldings(text)
+    if body.strip() in FOUND_ALONE and not unfolding:
+        return None
+    body = turned_paths(body, arguments[0] if arguments else "c", names)
+    if names.asked.get(need):
+        body = as_record(body, names.asked[need])
+    new = names.goals[need]
+    left = " ".join([new] + [it for it in arguments if it != "κs"])
+    return f"{comments(text)}pub {new} : goal.{new}{unfolding}\n{left} ={body}"
+
+
+def turn(text, module, names):
+    """The texts of Invariants.antt and Answers.antt, and the needs that are gone."""
+    head, uses, found = parts(text)
+    invariants, answers, gone = [], [], []
+    for name, it in found:
+        kind = re.search(r"^(?:abbrev |pub |unfoldable )*\S+ : tie\.(\S+)", it, re.M)
+        kind = kind.group(1) if kind else ""
+        if kind.startswith(("invariant-", "decreases-")):
+            word, loop = kind.split("-", 1)
+            invariants.append(invariant(word, names.loops[canon(loop)], name, it))
+        elif kind.startswith("Need-"):
+            need = canon(kind[5:])
+            if need in names.goals:
+                answers.append(answer(need, name, it, names))
+            else:
+                gone.append(need)
+        elif not re.search(r"tie\.close|statement M", it):
+            answers.append(it)
+    top = "\n".join(head + [it for it in uses if not MADE.search(it)])
+    whole = lambda made, of: f"{top}\nuse {module}.{of} as goal\n\n" + "\n\n".join(made) + "\n" if made else None
+    return whole(invariants, "Given"), whole([it for it in answers if it], "Goals"), gone
+
+
+def main(commit, folder, crate):
+    with open(f"{folder}/names.json", encoding="utf-8") as f:
+        said = json.load(f)
+    git = lambda *words: subprocess.run(["git", *words], capture_output=True, text=True, check=True).stdout
+    for path in git("ls-tree", "-r", "--name-only", commit, f"crates/{crate}/proofs").split():
+        at = os.path.dirname(path)
+        function = os.path.relpath(at, f"crates/{crate}/proofs").replace("/", ".")
+        key = f"Rattle-{crate}-proofs.{function}.Lts"
+        if not path.endswith("/Proof.antt") or key not in said:
+            continue
+        made = turn(git("show", f"{commit}:{path}"), f"Rattle.{crate}.proofs.{function}", Names(said[key]))
+        os.makedirs(at, exist_ok=True)
+        for name, text in zip(("Invariants", "Answers"), made):
+            if os.path.exists(f"{at}/{name}.antt"):
+                os.remove(f"{at}/{name}.antt")
+            if text:
+                with open(f"{at}/{name}.antt", "w", encoding="utf-8") as f:
+                    f.write(text)
+        if os.path.exists(path):
+            os.remove(path)
+        if made[2]:
+            print(crate, function, "gone:", *made[2])
+
+
+if __name__ == "__main__":
+    if len(sys.argv) != 4:
+        sys.exit(__doc__)
+    main(*sys.argv[1:])
