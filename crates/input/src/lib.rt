@@ -4,28 +4,20 @@
 ghost use Rattle.std.specs.Prelude.{◌≡◌, ◌≤◌, length, take, IfOk, IfSome};
 
 use std::io;
-use std::io::{Error, ErrorKind, Read};
+use std::io::Read;
 
-// Reads until the room is full or there is no more to read, and answers how many bytes there are. A read that was interrupted is tried
-// again.
+// Reads until the room is full or there is no more to read, and answers how many bytes there are.
 pub fn fill<R: Read + Drop>(mut from: R, room: &mut [u8]) -> io::Result<usize>
     ensures within { IfOk result (λ n. n ≤ length room.new) }
     ensures first { IfOk result (λ n. IfSome (R.remaining from) (λ xs. take n room.new ≡ take (length room.new) xs)) }
 {
     let mut at = 0;
-    for _ in 0..u64::MAX {
-        if room.len() <= at {
-            return Ok(at);
-        }
+    while at < room.len() {
         match from.read(&mut room[at..]) {
             Ok(0) => return Ok(at),
             Ok(n) => at += n,
-            Err(e) => {
-                if e.kind() != ErrorKind::Interrupted {
-                    return Err(e);
-                }
-            }
+            Err(e) => return Err(e),
         }
     }
-    Err(Error::from(ErrorKind::Interrupted))
+    Ok(at)
 }
