@@ -6,7 +6,7 @@
 //   marks_of, starts_of   each with the number made
 //   first_mark  how many bytes stand before the first that is marked
 //
-// What a byte is, is said in `bytes`; here it is only found faster.
+// What a byte is, is said in `classes`; here it is only found faster.
 ghost use Rattle.std.specs.Prelude.{◌≡◌, Bool, List, ℕ, ◌≤◌, ◌<◌, length, get_or};
 ghost use Rattle.classes.specs.Bytes.{is_special, lead};
 ghost use Rattle.slices.specs.Slices.{is_start};
