@@ -8,7 +8,7 @@ use Rattle.answers.specs.declared.Why.TheVariants.{NotAscii, BlockRoom, TextRoom
 use Rattle.answers.specs.Answers.{refusal}
 use Rattle.classes.specs.Bytes.{lead, body, any}
 use Rattle.classes.specs.Texts.{bytes_of}
-use Rattle.rooms.specs.Streams.{and_then, each, items, answer, ended}
+use Rattle.rooms.specs.Streams.{and_then, each, items, ended}
 use Rattle.rooms.specs.Rooms.{table_limit, encode, settled, content}
 use Rattle.slices.specs.Slices.{split, slices}
 use Rattle.tokens.specs.Tokens.{token_words, shown_by}

@@ -21,7 +21,6 @@ use Rattle.rooms.specs.Streams.{Stream, end}
 use Rattle.rooms.proofs.Streams.{Each}
 use Rattle.tokens.specs.declared.Property.{Property}
 use Rattle.tokens.specs.Tokens.{Shown, Token, shown_in, shown_by, value_of}
-use Rattle.tokens.specs.Tokens
 use Rattle.tokens.specs.WordNumbers as words
 use Rattle.utf8.specs.Utf8.{is_scalar, utf8, written}
 use Rattle.utf8.proofs.Utf8.{length-written}

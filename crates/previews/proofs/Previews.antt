@@ -16,11 +16,10 @@ use Rattle.answers.specs.declared.Outcome.TheVariants.{Done, Refused}
 use Rattle.answers.specs.declared.Why.TheVariants.{OutputRoom}
 use Rattle.answers.specs.Answers.{refusal, outcome_number, Found, found, refused}
 use Rattle.rooms.specs.Streams.{Stream, items, answer}
-use Rattle.rooms.specs.Rooms.{capacity, filled, table_limit, settled}
+use Rattle.rooms.specs.Rooms.{capacity, filled, table_limit}
 use Rattle.rooms.proofs.Rooms.{settled-over}
 use Rattle.sevens.specs.Sevens.{byte_layout}
 use Rattle.tokens.specs.Tokens.{Shown, Token, token}
-use Rattle.tokens.specs.Tokens
 use Rattle.cutter.specs.Cutting.{token_stream, cut_answer}
 use Rattle.walk.specs.Walk.{walk}
 use Rattle.header.specs.Entering.{Tables}

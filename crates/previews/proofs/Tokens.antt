@@ -26,7 +26,6 @@ use Rattle.slices.specs.Slices.{slices_by}
 use Rattle.tokens.specs.declared.Property.{Property}
 use Rattle.tokens.specs.declared.Property.TheVariants.{None, Value}
 use Rattle.tokens.specs.Tokens.{Shown, Token, token, slice_of, shown_in, value_of}
-use Rattle.tokens.specs.Tokens
 use Rattle.readings.specs.declared.Reading.{Reading}
 use Rattle.readings.specs.declared.Reading.TheVariants.{Plain, Paragraphs, Standard}
 use Rattle.controls.specs.Controls.{shown_word, numbered}

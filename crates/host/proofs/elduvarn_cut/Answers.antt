@@ -1,7 +1,6 @@
 -- `elduvarn_cut` meets its contract: it says what `cut` says by the reading that the number means.
 use mathlib.Core.Path.{ap, ◌∙◌}
 use Rattle.host.specs.Exports.{cut_of}
-use borrow.Author.Rules.{rules}
 use Rattle.host.proofs.elduvarn_cut.Goals as goal
 
 pub returns : goal.returns

@@ -1,7 +1,6 @@
 -- `elduvarn_read_standard` meets its contract: it says what `read` says.
 use mathlib.Core.Path.{ap, ◌∙◌}
 use Rattle.host.specs.Exports.{read_of}
-use borrow.Author.Rules.{rules}
 use Rattle.host.proofs.elduvarn_read_standard.Goals as goal
 
 pub returns : goal.returns

@@ -1,7 +1,6 @@
 -- `elduvarn_stored_check` meets its contract: it says what `check` says.
 use mathlib.Core.Path.{ap, ◌∙◌}
 use Rattle.answers.specs.Answers.{outcome_number}
-use borrow.Author.Rules.{rules}
 use Rattle.host.proofs.elduvarn_stored_check.Goals as goal
 
 pub returns : goal.returns

@@ -1,7 +1,6 @@
 -- `elduvarn_stored_read` meets its contract: it says what `read_list` says.
 use mathlib.Core.Path.{ap, ◌∙◌}
 use Rattle.host.specs.Exports.{stored_of}
-use borrow.Author.Rules.{rules}
 use Rattle.host.proofs.elduvarn_stored_read.Goals as goal
 
 pub returns : goal.returns

@@ -1,7 +1,6 @@
 -- `elduvarn_stored_write` meets its contract: it says what `write_list` says.
 use mathlib.Core.Path.{ap, ◌∙◌}
 use Rattle.host.specs.Exports.{write_of}
-use borrow.Author.Rules.{rules}
 use Rattle.host.proofs.elduvarn_stored_write.Goals as goal
 
 pub returns : goal.returns

@@ -1,6 +1,5 @@
 -- `of_cut` meets its contract.
 use Rattle.host.proofs.Answers.{cut_as}
-use borrow.Author.Rules.{rules}
 use Rattle.host.proofs.answer.of_cut.Goals as goal
 
 pub returns : goal.returns

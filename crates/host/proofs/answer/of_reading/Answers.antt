@@ -1,7 +1,6 @@
 -- `of_reading` meets its contract: each count is small, and so it fits 32 bits.
 use native.Mathlib.Omega.{arith}
 use Rattle.host.proofs.Answers.{read_as, refused_as}
-use borrow.Author.Rules.{rules}
 use Rattle.host.proofs.answer.of_reading.Goals as goal
 
 pub overflow_cast-result : goal.overflow_cast-result

@@ -1,6 +1,5 @@
 -- `of_stored` meets its contract.
 use Rattle.host.proofs.Answers.{stored-as}
-use borrow.Author.Rules.{rules}
 use Rattle.host.proofs.answer.of_stored.Goals as goal
 
 pub returns : goal.returns

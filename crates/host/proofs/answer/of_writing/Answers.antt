@@ -1,6 +1,5 @@
 -- `of_writing` meets its contract.
 use Rattle.host.proofs.Answers.{write_as}
-use borrow.Author.Rules.{rules}
 use Rattle.host.proofs.answer.of_writing.Goals as goal
 
 pub returns : goal.returns
