@@ -1,12 +1,11 @@
 -- Bytes of a reader in a room.
 --     read_more   what a read puts behind what was read before
---     kept        what a read that failed leaves
 use Rattle.std.proofs.Common.{◌≡◌, ℕ, ◌+◌, ◌≤◌, List, ◌++◌, length, take, sym, ap, ◌∙◌, refl, arith, length-take-le}
 use Rattle.std.proofs.Math.Seq.{take-append-add, take-take}
-use Rattle.std.proofs.lemmas.Slice.{take-put_mid, take-put_mid_below}
+use Rattle.std.proofs.lemmas.Slice.{take-put_mid}
 use Rattle.std.specs.declared.option.Option.{Option}
-use Rattle.std.specs.Io.KnownBytes.{Consumes, Keeps}
-use Rattle.std.proofs.KnownBytes.{Consumes-trans, Consumes-kept}
+use Rattle.std.specs.Io.KnownBytes.{Consumes}
+use Rattle.std.proofs.KnownBytes.{Consumes-trans}
 use borrow.Rule.Slice.PartMut.{put_mid}
 
 front : (room buf : List ℕ) (at k n j : ℕ) → at ≤ length room → n ≤ length buf → j ≡ at + n → take j (put_mid at k room buf) ≡ take at room ++ take n buf
@@ -21,8 +20,3 @@ pub read_more : (a b c : Option (List ℕ)) (room buf : List ℕ) (at k n j : �
     → Consumes a b (take at room) → Consumes b c (take n buf) → Consumes a c (take j (put_mid at k room buf))
 read_more a b c room buf at k n j within few is before read =
     rw (front room buf at k n j within few is) (Consumes-trans a b c (take at room) (take n buf) before read)
-
-pub kept : (a b c : Option (List ℕ)) (room buf : List ℕ) (at k j : ℕ) → at ≤ length room → j ≡ at
-    → Consumes a b (take at room) → Keeps b c → Consumes a c (take j (put_mid at k room buf))
-kept a b c room buf at k j within is before same =
-    rw (is, take-put_mid_below at k room buf at (omega arith) within) (Consumes-kept a b c (take at room) before same)
