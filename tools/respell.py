@@ -1,5 +1,5 @@
 #!/usr/bin/env python3
-"""Brings this repository's own names to today's spelling, once, behind /opt/rattle/port/port.py (docs/PORT.md tells what for).
+"""Brings this repository's own names to today's spelling, once, behind the kit's port/port.py (docs/PORT.md tells what for).
 
 usage: python3 tools/respell.py        at the top of the repository
 
