@@ -29,14 +29,13 @@ use Rattle.blocks.specs.declared.Page.{Page}
 use Rattle.blocks.specs.Pages.{Piece}
 use Rattle.blocks.specs.Laying.{Laying, on, off, page_of, blank, lay_all, Held}
 use Rattle.blocks.proofs.Laying.{lay-end, lay-stop, lay-off, ready-blank, Placeless}
-use Rattle.deeds.specs.declared.stack.Moved.{Moved}
-use Rattle.deeds.specs.declared.stack.Moved.TheVariants.{Holds, Refuses}
 use Rattle.runs.specs.Runs.{rows, steps_by, run_words, run_of, laid_all}
 use Rattle.body.specs.Body.{act_of, acts, body}
 use Rattle.deeds.specs.Turns.{deed_at, moved_by, Turned, goes, ends, turned, turn_of, Turns}
 use Rattle.runs.proofs.Saying.{lay-said, laid-placeless}
 use Rattle.deeds.specs.Deeds.{token_deed}
 use Rattle.body.proofs.Groups.{at-step}
+use Rattle.std.specs.Prelude.{Result, Ok, Err}
 
 -- what is said of tokens, from a stack and a run on, where o characters are still to be passed over
 abbrev from : Reading → List (List ℕ) → Run → ℕ → List Token → Stream Refusal Piece
@@ -180,14 +179,14 @@ module _ {rd : Reading} {src b₀ t₀ tokens : List ℕ} {count : ℕ} {b t : L
         ∙ ap (lay_all (on (page_of page) b t)) (sym front)
         ∙ l.left
 
-    module _ {m : Moved} {states' : List (List ℕ)} {r' : Run} {page' b' t' : List ℕ} (k : Turns m states' r' page' b' t' (length b) (length t) (turn_of stack (page_of page) b t gives deed)) where
+    module _ {m : Result ℕ Why} {states' : List (List ℕ)} {r' : Run} {page' b' t' : List ℕ} (k : Turns m states' r' page' b' t' (length b) (length t) (turn_of stack (page_of page) b t gives deed)) where
       goes_on_lem : after (slice_at ws) (turned (on (page_of page') b' t') (moved_by m states') r') more ≡ whole rd src b₀ t₀ tokens count
       goes_on_lem = ap (λ (z : Turned). after (slice_at ws) z more) k.does ∙ leads
 
-      pub turn-refused : {why : Why} {p : ℕ} {r : Refusal} → m ≡ Refuses why → p ≡ slice_at ws → r ≡ refusal_at why p → off r ≡ whole rd src b₀ t₀ tokens count
+      pub turn-refused : {why : Why} {p : ℕ} {r : Refusal} → m ≡ Err why → p ≡ slice_at ws → r ≡ refusal_at why p → off r ≡ whole rd src b₀ t₀ tokens count
       turn-refused {why} u e w = ap off (w ∙ ap (refusal_at why) e) ∙ (rw u at goes_on_lem)
 
-      pub turn_on : {d : ℕ} → m ≡ Holds d → {run' : List ℕ} → r' ≡ run_of run' → length run' ≡ run_words → length b' ≡ length b → length t' ≡ length t → {o' : ℕ} → o' ≡ owed
+      pub turn_on : {d : ℕ} → m ≡ Ok d → {run' : List ℕ} → r' ≡ run_of run' → length run' ≡ run_words → length b' ≡ length b → length t' ≡ length t → {o' : ℕ} → o' ≡ owed
           → Loop rd src b₀ t₀ tokens count b' t' states' d run' o' page' (rest ws ((h + 1) * token_words)) (n - (h + 1))
       turn_on {d} u e three lb lt w = record {
         deep = rw u at k.deep;

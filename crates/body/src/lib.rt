@@ -40,16 +40,16 @@ fn finish(
     page: &mut [usize; PAGE_WORDS],
     blocks: &mut [u32],
     text: &mut [u8],
-) -> Laid
+) -> Result<Page, Refusal>
     requires { (depth ≤ stack_limit) × (length states.now ≡ stack_limit) × (length run.old ≡ run_words) × Held page.old (length blocks.old) (length text.old) }
     ensures laid { told result blocks.new text.new ≡ laid_all (on (page_of page.old) blocks.old text.old) (said rows (held [] states.now depth) (ended (run_of run.old)) parts) }
     ensures still { Still result (length blocks.old) (length text.old) }
 {
     let room = end_run(states, depth, run, page, blocks, text);
     match room {
-        Room::NoBlock => Laid::Full(Refusal::of(Why::BlockRoom)),
-        Room::NoText => Laid::Full(Refusal::of(Why::TextRoom)),
-        Room::Fits => Laid::On(Page {
+        Room::NoBlock => Err(Refusal::of(Why::BlockRoom)),
+        Room::NoText => Err(Refusal::of(Why::TextRoom)),
+        Room::Fits => Ok(Page {
             blocks: page[BLOCKS],
             text: page[TEXT],
             from: page[FROM],
@@ -65,7 +65,7 @@ pub fn lay_body(
     count: usize,
     blocks: &mut [u32],
     text: &mut [u8],
-) -> Laid
+) -> Result<Page, Refusal>
     requires { (count * token_words ≤ length tokens.now) × (count ≤ 65536) }
     ensures laid { told result blocks.new text.new ≡ lay_all (on blank_page blocks.old text.old) (body reading (walk (tokens_all source.now count tokens.now))) }
     ensures still { Still result (length blocks.old) (length text.old) }
@@ -100,10 +100,10 @@ pub fn lay_body(
         t = &t[at..];
         n -= h + 1;
         match moved {
-            Moved::Refuses(why) => {
-                return Laid::Full(Refusal::at(why, slice_at(here)));
+            Err(why) => {
+                return Err(Refusal::at(why, slice_at(here)));
             }
-            Moved::Holds(d) => {
+            Ok(d) => {
                 depth = d;
             }
         }

@@ -16,10 +16,9 @@ use Rattle.blocks.specs.declared.Page.{Page}
 use Rattle.blocks.specs.declared.Room.{Room}
 use Rattle.blocks.specs.declared.Room.TheVariants.{Fits, NoBlock, NoText}
 use Rattle.blocks.specs.Laying.{Laying, on, off, page_of, Held}
-use Rattle.deeds.specs.declared.stack.Moved.{Moved}
-use Rattle.deeds.specs.declared.stack.Moved.TheVariants.{Holds, Refuses}
 use Rattle.runs.specs.Runs.{rows, laid_all}
 use Rattle.deeds.specs.Deeds.{token_deed, symbol_effect}
+use Rattle.std.specs.Prelude.{Result, Ok, Err}
 
 -- what the token that words start with does, where the walk passes over h tokens behind it
 unfoldable pub deed_at : Reading → List ℕ → List ℕ → ℕ → Deed Setting
@@ -30,22 +29,22 @@ unfoldable pub effect_at : Reading → List ℕ → Effect
 effect_at rd ws = cond (eqb (get_or ws 0 0) 5) (effect rd (get_or ws 1 0) (number_at ws)) (symbol_effect (get_or ws 1 0) (number_at ws))
 
 -- what an answer says of the states that it leaves
-abbrev pub moved_by : Moved → List (List ℕ) → Fate (List (List ℕ))
-moved_by (Holds d) states = becomes (held [] states d)
-moved_by (Refuses why) states = fails why
+abbrev pub moved_by : Result ℕ Why → List (List ℕ) → Fate (List (List ℕ))
+moved_by (Ok d) states = becomes (held [] states d)
+moved_by (Err why) states = fails why
 
 -- where text was laid the stack stays as it is
-abbrev pub stays_by : Room → ℕ → Moved
-stays_by NoBlock d = Refuses BlockRoom
-stays_by NoText d = Refuses TextRoom
-stays_by Fits d = Holds d
+abbrev pub stays_by : Room → ℕ → Result ℕ Why
+stays_by NoBlock d = Err BlockRoom
+stays_by NoText d = Err TextRoom
+stays_by Fits d = Ok d
 
 -- its place is in the array
-abbrev pub Deep : Moved → Type 0
-Deep (Holds d) = d ≤ stack_limit
-Deep (Refuses why) = 0 < stack_limit
+abbrev pub Deep : Result ℕ Why → Type 0
+Deep (Ok d) = d ≤ stack_limit
+Deep (Err why) = 0 < stack_limit
 
-pub record Took (r : Moved) (states : List (List ℕ)) (m : Fate (List (List ℕ))) : Type 0 where
+pub record Took (r : Result ℕ Why) (states : List (List ℕ)) (m : Fate (List (List ℕ))) : Type 0 where
   pub does : moved_by r states ≡ m
   pub deep : Deep r
   pub all : length states ≡ stack_limit
@@ -66,7 +65,7 @@ unfoldable pub turn_of : List (List ℕ) → Page → List ℕ → List ℕ → 
 turn_of st p b t g d = turned (laid_all (on p b t) (said rows st g d)) (moved fresh_row st (move_of rows d)) g.run
 
 -- what the code's answer says, with the states, the run and the page that it leaves
-pub record Turns (r : Moved) (states : List (List ℕ)) (run : Run) (page b t : List ℕ) (w v : ℕ) (z : Turned) : Type 0 where
+pub record Turns (r : Result ℕ Why) (states : List (List ℕ)) (run : Run) (page b t : List ℕ) (w v : ℕ) (z : Turned) : Type 0 where
   pub does : turned (on (page_of page) b t) (moved_by r states) run ≡ z
   pub deep : Deep r
   pub all : length states ≡ stack_limit

@@ -31,26 +31,26 @@ use runs::{RUN_WORDS, end_run, unit};
 use settings::rows::{STATES, reset_painter, reset_paragraph, set_field, set_line};
 use settings::{Act, WIDTH, act_of};
 use tokens::item::{number_at, part};
-use tokens::{Property, words};
+use tokens::words;
 use windows::character as windows_character;
 
 // Where text was laid, and the stack stays as it is.
-fn stays(room: Room, depth: usize) -> Moved
+fn stays(room: Room, depth: usize) -> Result<usize, Why>
     ensures { result ≡ stays_by room depth }
 {
     match room {
-        Room::NoBlock => Moved::Refuses(Why::BlockRoom),
-        Room::NoText => Moved::Refuses(Why::TextRoom),
-        Room::Fits => Moved::Holds(depth),
+        Room::NoBlock => Err(Why::BlockRoom),
+        Room::NoText => Err(Why::TextRoom),
+        Room::Fits => Ok(depth),
     }
 }
 
 // What a symbol does: a character, or nothing. `\'` has the byte that its digits say.
-fn symbol(byte: u32, number: Property) -> Act
+fn symbol(byte: u32, number: Option<u32>) -> Act
     ensures { (meaning result ≡ symbol_effect byte number) × Within result }
 {
     match byte {
-        0x27 => Act::Says(windows_character(number.value())),
+        0x27 => Act::Says(windows_character(number.unwrap_or(0))),
         0x7E => Act::Says(0xA0),
         0x5F => Act::Says(0x2011),
         0x2D => Act::Says(0xAD),
@@ -78,34 +78,34 @@ fn act(
     page: &mut [usize; PAGE_WORDS],
     blocks: &mut [u32],
     text: &mut [u8],
-) -> Moved
+) -> Result<usize, Why>
     requires { (depth ≤ stack_limit) × (length states.old ≡ stack_limit) × Held page.old (length blocks.old) (length text.old) × Within act }
     ensures { Turns result states.new before page.new blocks.new text.new (length blocks.old) (length text.old) (turn_of (held [] states.old depth) (page_of page.old) blocks.old text.old (ended before) (doing (meaning act))) }
 {
     if depth == 0 {
-        return Moved::Refuses(Why::NoState);
+        return Err(Why::NoState);
     }
     let d = depth - 1;
     match act {
-        Act::Nothing => Moved::Holds(depth),
+        Act::Nothing => Ok(depth),
         Act::Sets(f, v) => {
             set_field(states, d, f, v);
-            Moved::Holds(depth)
+            Ok(depth)
         }
         Act::Lines(kind, v) => {
             set_line(states, d, kind, v);
-            Moved::Holds(depth)
+            Ok(depth)
         }
         Act::Plain => {
             reset_painter(states, d);
-            Moved::Holds(depth)
+            Ok(depth)
         }
         Act::Pard => {
             reset_paragraph(states, d);
-            Moved::Holds(depth)
+            Ok(depth)
         }
         Act::Says(c) => stays(character(states, d, c, page, blocks, text), depth),
-        Act::Refuses(why) => Moved::Refuses(why),
+        Act::Refuses(why) => Err(why),
     }
 }
 
@@ -116,12 +116,12 @@ fn break_token(
     page: &mut [usize; PAGE_WORDS],
     blocks: &mut [u32],
     text: &mut [u8],
-) -> Moved
+) -> Result<usize, Why>
     requires { (depth ≤ stack_limit) × (length states.now ≡ stack_limit) × Held page.old (length blocks.old) (length text.old) }
     ensures { Turns result states.now before page.new blocks.new text.new (length blocks.old) (length text.old) (turn_of (held [] states.now depth) (page_of page.old) blocks.old text.old (ended before) (says (10 ∷ []))) }
 {
     if depth == 0 {
-        return Moved::Refuses(Why::NoState);
+        return Err(Why::NoState);
     }
     stays(character(states, depth - 1, 10, page, blocks, text), depth)
 }
@@ -134,12 +134,12 @@ fn text_token(
     page: &mut [usize; PAGE_WORDS],
     blocks: &mut [u32],
     text: &mut [u8],
-) -> Moved
+) -> Result<usize, Why>
     requires { (depth ≤ stack_limit) × (length states.now ≡ stack_limit) × Held page.old (length blocks.old) (length text.old) }
     ensures { Turns result states.now before page.new blocks.new text.new (length blocks.old) (length text.old) (turn_of (held [] states.now depth) (page_of page.old) blocks.old text.old (ended before) (tells bytes.now)) }
 {
     if depth == 0 {
-        return Moved::Refuses(Why::NoState);
+        return Err(Why::NoState);
     }
     stays(lay(states, depth - 1, bytes, page, blocks, text), depth)
 }
@@ -147,20 +147,20 @@ fn text_token(
 // A `u` word.
 fn unit_token(
     reading: Reading,
-    number: Property,
+    number: Option<u32>,
     states: &[[u32; WIDTH]; STATES],
     depth: usize,
     run: &mut [u32; RUN_WORDS],
     page: &mut [usize; PAGE_WORDS],
     blocks: &mut [u32],
     text: &mut [u8],
-) -> Moved
+) -> Result<usize, Why>
     requires { (depth ≤ stack_limit) × (length states.now ≡ stack_limit) × Held page.old (length blocks.old) (length text.old) × (length run.old ≡ run_words) }
     ensures turns { Turns result states.now (run_of run.new) page.new blocks.new text.new (length blocks.old) (length text.old) (turn_of (held [] states.now depth) (page_of page.old) blocks.old text.old (step_of (steps_by reading) (held [] states.now depth) (run_of run.old) number) (unit_of number)) }
     ensures run_len { length run.new ≡ run_words }
 {
     if depth == 0 {
-        return Moved::Refuses(Why::NoState);
+        return Err(Why::NoState);
     }
     stays(
         unit(reading, states, depth - 1, number, run, page, blocks, text),
@@ -190,12 +190,12 @@ fn token(
     page: &mut [usize; PAGE_WORDS],
     blocks: &mut [u32],
     text: &mut [u8],
-) -> Moved
+) -> Result<usize, Why>
     requires { (depth ≤ stack_limit) × (length states.old ≡ stack_limit) × Held page.old (length blocks.old) (length text.old) × (token_words ≤ length t.now) × (is_passed (left owed (deed_at reading source.now t.now h)) ≡ false) }
     ensures { Turns result states.new before page.new blocks.new text.new (length blocks.old) (length text.old) (turn_of (held [] states.old depth) (page_of page.old) blocks.old text.old (ended before) (left owed (deed_at reading source.now t.now h))) }
 {
     if 0 < h {
-        return Moved::Holds(depth);
+        return Ok(depth);
     }
     let kind = t[0];
     if (kind == 5) | (kind == 6) {
@@ -212,7 +212,7 @@ fn token(
         return break_token(states, depth, page, blocks, text);
     }
     if kind == 4 {
-        return Moved::Refuses(Why::IgnorableInBody);
+        return Err(Why::IgnorableInBody);
     }
     let bytes = rest_of(part(source, t[4], t[5]), owed);
     text_token(bytes, states, depth, page, blocks, text)
@@ -231,13 +231,13 @@ pub fn turn(
     page: &mut [usize; PAGE_WORDS],
     blocks: &mut [u32],
     text: &mut [u8],
-) -> Moved
+) -> Result<usize, Why>
     requires { (depth ≤ stack_limit) × (length states.old ≡ stack_limit) × Held page.old (length blocks.old) (length text.old) × (token_words ≤ length t.now) × (length run.old ≡ run_words) × (0 < h → get_or t.now 0 0 ≡ 1) }
     ensures turns { Turns result states.new (run_of run.new) page.new blocks.new text.new (length blocks.old) (length text.old) (turn_of (held [] states.old depth) (page_of page.old) blocks.old text.old (gave (step_of (steps_by reading) (held [] states.old depth)) (run_of run.old) (left owed (deed_at reading source.now t.now h))) (left owed (deed_at reading source.now t.now h))) }
     ensures run_len { length run.new ≡ run_words }
 {
     if passed_over(source, t, owed) {
-        return Moved::Holds(depth);
+        return Ok(depth);
     }
     if (t[0] == 5) & (t[1] == words::UNICODE) {
         return unit_token(
@@ -253,8 +253,8 @@ pub fn turn(
     }
     let room = end_run(states, depth, run, page, blocks, text);
     match room {
-        Room::NoBlock => Moved::Refuses(Why::BlockRoom),
-        Room::NoText => Moved::Refuses(Why::TextRoom),
+        Room::NoBlock => Err(Why::BlockRoom),
+        Room::NoText => Err(Why::TextRoom),
         Room::Fits => token(
             source, reading, t, h, owed, states, depth, page, blocks, text,
         ),

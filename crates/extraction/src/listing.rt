@@ -6,11 +6,12 @@ ghost use Rattle.parser.specs.Parsing.{answer_number, answer_place, answer_count
 ghost use Rattle.lines.specs.Pages.{Put};
 ghost use Rattle.extraction.specs.Listings.{head_line, text_line, listing};
 
+use answers::Refusal;
 use blocks::BLOCK_WORDS;
 use colours::COLOUR_WORDS;
 use fonts::FONT_WORDS;
 use lines::{append, number, place_item, push, records};
-use parser::{Answer, Counts};
+use parser::Counts;
 
 // The number of the answer, and how many bytes its listing has.
 #[derive(Clone, Copy)]
@@ -47,7 +48,7 @@ fn text_line(text: &[u8], count: usize, page: &mut [u8], at: usize) -> usize
 
 // The listing of an answer over the rooms that it speaks of; how many bytes it has.
 pub fn list(
-    answer: Answer,
+    answer: Result<Counts, Refusal>,
     fonts: &[u32],
     colours: &[u32],
     blocks: &[u32],

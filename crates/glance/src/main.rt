@@ -9,7 +9,6 @@ use colours::COLOUR_WORDS;
 use fonts::FONT_WORDS;
 use input::fill;
 use lines::number;
-use parser::Answer;
 use reader::read;
 use readings::Reading;
 use std::io;
@@ -40,10 +39,10 @@ fn refuse(err: &impl Print, refusal: Refusal) -> io::Result<()> {
     err.write_all(&line[..end])
 }
 
-fn say(rt: &impl Print, err: &impl Print, answer: Answer, text: &[u8]) -> io::Result<()> {
+fn say(rt: &impl Print, err: &impl Print, answer: Result<Counts, Refusal>, text: &[u8]) -> io::Result<()> {
     match answer {
-        Answer::Refuses(refusal) => refuse(err, refusal),
-        Answer::Read(counts) => {
+        Err(refusal) => refuse(err, refusal),
+        Ok(counts) => {
             let count = counts.text;
             if count <= text.len() {
                 rt.write_all(&text[..count])?;

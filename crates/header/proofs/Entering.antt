@@ -14,11 +14,8 @@ use lib.Dec.{eqb}
 use lib.ListN.{length, get_or, take}
 use Rattle.answers.specs.declared.Why.TheVariants.{TableLineBreak}
 use Rattle.answers.specs.declared.Refusal.{Refusal}
-use Rattle.answers.specs.declared.Outcome.{Outcome}
-use Rattle.answers.specs.declared.Outcome.TheVariants.{Done, Refused}
 use Rattle.answers.specs.Answers.{refusal_at, Found, found, refused}
-use Rattle.rooms.proofs.Streams.{done_refused}
-use Rattle.tokens.specs.declared.Property.{Property}
+use Rattle.rooms.proofs.Streams.{ok_err}
 use Rattle.tokens.specs.Tokens.{Token, token_words, shown_by}
 use Rattle.tokens.specs.declared.item.Item.TheVariants.{Text, Closing, LineBreak, Ignorable, Word, Unknown, Symbol}
 use Rattle.tokens.specs.Items.{property_of, item_of, item_at, shown_all, tokens_all}
@@ -35,6 +32,7 @@ use Rattle.header.specs.declared.group.Entered.{Entered}
 use Rattle.header.specs.declared.group.Entered.TheVariants.{On, Bad}
 use Rattle.header.specs.Entering.{Tables, with_fonts, with_colours, read_step}
 use Rattle.header.specs.Entering.{opens, Holds, passed, FontsMet, ColoursMet, Met, Enters}
+use Rattle.std.specs.Prelude.{Result, Ok, Err, Option}
 
 module _ (ws : List ℕ) where
   pub opens-yes : get_or ws 0 0 ≡ 1 → true ≡ opens (item_at ws)
@@ -47,7 +45,7 @@ module _ (ws : List ℕ) where
       (go (eqb (get_or ws 0 0) 2) (eqb (get_or ws 0 0) 3) (eqb (get_or ws 0 0) 4) (eqb (get_or ws 0 0) 5) (eqb (get_or ws 1 0) 49) (eqb (get_or ws 0 0) 6)
       (property_of (get_or ws 2 0) (get_or ws 3 0)))
     where
-      go : (b c d e u f : Bool) (num : Property)
+      go : (b c d e u f : Bool) (num : Option ℕ)
           → false ≡ opens (cond b Closing (cond c LineBreak (cond d Ignorable
           (cond e (cond u (Unknown (get_or ws 4 0) (get_or ws 5 0) num) (Word (get_or ws 1 0) num)) (cond f (Symbol (get_or ws 1 0) num) (Text (get_or ws 4 0) (get_or ws 5 0)))))))
       go true c d e u f num = refl
@@ -58,10 +56,10 @@ module _ (ws : List ℕ) where
       go false false false false u true num = refl
       go false false false false u false num = refl
 
-done-done : (n m : ℕ) → Done n ≡ Done m → n ≡ m
+done-done : (n m : ℕ) → Ok n ≡ Ok m → n ≡ m
 done-done n m e = cc
 
-refused-refused : (q r : Refusal) → Refused q ≡ Refused r → q ≡ r
+refused-refused : (q r : Refusal) → Err q ≡ Err r → q ≡ r
 refused-refused q r e = cc
 
 -- how long a group is, by what its tokens show
@@ -81,43 +79,43 @@ module _ (src t : List ℕ) (n : ℕ) {late : Bool} (limit held : ℕ) (room : L
       → ColoursMet late (table_word (tokens_all src n t)) (colours limit (group (tokens_all src n t))) held (extent 1 (shown_by (tokens_all src n t))) (Bad q) room
   late-colours l d e = rw (l, ← d) (ap Bad e)
 
-  module _ (l : late ≡ false) {h : ℕ} (a : h ≡ extent 1 (shown_all src n t)) (b : h ≤ n) (o : Outcome) where
+  module _ (l : late ≡ false) {h : ℕ} (a : h ≡ extent 1 (shown_all src n t)) (b : h ≤ n) (o : Result ℕ Refusal) where
     module _ (room₀ : List ℕ) (r : ReadFonts (fonts limit (tokens_all src h (take (h * token_words) t))) room₀ o room) where
       fonts-told : ReadFonts (fonts limit (group (tokens_all src n t))) room₀ o room
       fonts-told = rw (← (group-words src t n a b)) r
 
-      pub fonts-read : {k : ℕ} → o ≡ Done k
+      pub fonts-read : {k : ℕ} → o ≡ Ok k
           → FontsMet late (table_word (tokens_all src n t)) (fonts limit (group (tokens_all src n t))) held (extent 1 (shown_by (tokens_all src n t))) (On k held h) room × (h ≤ n)
       fonts-read {k} e = (rw l (go (fonts limit (group (tokens_all src n t))) (rw e at fonts-told)), b)
         where
-          go : (x : Found (List Font)) → ReadFonts x room₀ (Done k) room → FontsMet false (table_word (tokens_all src n t)) x held (extent 1 (shown_by (tokens_all src n t))) (On k held h) room
+          go : (x : Found (List Font)) → ReadFonts x room₀ (Ok k) room → FontsMet false (table_word (tokens_all src n t)) x held (extent 1 (shown_by (tokens_all src n t))) (On k held h) room
           go (found fs) y = let d : k ≡ length fs = done-done k (length fs) y.0 in (rw (d, ← (group-length src t n a)) refl, rw y.1 (overlaid-front (table_words fs) room₀))
-          go (refused q) y = absurd (done_refused y)
+          go (refused q) y = absurd (ok_err y)
 
-      pub fonts-bad : {q : Refusal} → o ≡ Refused q
+      pub fonts-bad : {q : Refusal} → o ≡ Err q
           → FontsMet late (table_word (tokens_all src n t)) (fonts limit (group (tokens_all src n t))) held (extent 1 (shown_by (tokens_all src n t))) (Bad q) room × (0 ≤ n)
       fonts-bad {q} e = (rw l (go (fonts limit (group (tokens_all src n t))) (rw e at fonts-told)), omega arith)
         where
-          go : (x : Found (List Font)) → ReadFonts x room₀ (Refused q) room → FontsMet false (table_word (tokens_all src n t)) x held (extent 1 (shown_by (tokens_all src n t))) (Bad q) room
-          go (found fs) y = absurd (done_refused (sym y.0))
+          go : (x : Found (List Font)) → ReadFonts x room₀ (Err q) room → FontsMet false (table_word (tokens_all src n t)) x held (extent 1 (shown_by (tokens_all src n t))) (Bad q) room
+          go (found fs) y = absurd (ok_err (sym y.0))
           go (refused p) y = ap Bad (refused-refused q p y)
 
     module _ (room₀ : List ℕ) (r : ReadColours (colours limit (tokens_all src h (take (h * token_words) t))) room₀ o room) where
       colours-told : ReadColours (colours limit (group (tokens_all src n t))) room₀ o room
       colours-told = rw (← (group-words src t n a b)) r
 
-      pub colours-read : {k : ℕ} → o ≡ Done k → ColoursMet late (table_word (tokens_all src n t)) (colours limit (group (tokens_all src n t))) held (extent 1 (shown_by (tokens_all src n t))) (On held k h) room
+      pub colours-read : {k : ℕ} → o ≡ Ok k → ColoursMet late (table_word (tokens_all src n t)) (colours limit (group (tokens_all src n t))) held (extent 1 (shown_by (tokens_all src n t))) (On held k h) room
       colours-read {k} e = rw l (go (colours limit (group (tokens_all src n t))) (rw e at colours-told))
         where
-          go : (x : Found (List ℕ)) → ReadColours x room₀ (Done k) room → ColoursMet false (table_word (tokens_all src n t)) x held (extent 1 (shown_by (tokens_all src n t))) (On held k h) room
+          go : (x : Found (List ℕ)) → ReadColours x room₀ (Ok k) room → ColoursMet false (table_word (tokens_all src n t)) x held (extent 1 (shown_by (tokens_all src n t))) (On held k h) room
           go (found cs) y = let d : k ≡ length cs = done-done k (length cs) y.0 in (rw (d, ← (group-length src t n a)) refl, rw y.1 (overlaid-front cs room₀))
-          go (refused q) y = absurd (done_refused y)
+          go (refused q) y = absurd (ok_err y)
 
-      pub colours-bad : {q : Refusal} → o ≡ Refused q → ColoursMet late (table_word (tokens_all src n t)) (colours limit (group (tokens_all src n t))) held (extent 1 (shown_by (tokens_all src n t))) (Bad q) room
+      pub colours-bad : {q : Refusal} → o ≡ Err q → ColoursMet late (table_word (tokens_all src n t)) (colours limit (group (tokens_all src n t))) held (extent 1 (shown_by (tokens_all src n t))) (Bad q) room
       colours-bad {q} e = rw l (go (colours limit (group (tokens_all src n t))) (rw e at colours-told))
         where
-          go : (x : Found (List ℕ)) → ReadColours x room₀ (Refused q) room → ColoursMet false (table_word (tokens_all src n t)) x held (extent 1 (shown_by (tokens_all src n t))) (Bad q) room
-          go (found cs) y = absurd (done_refused (sym y.0))
+          go : (x : Found (List ℕ)) → ReadColours x room₀ (Err q) room → ColoursMet false (table_word (tokens_all src n t)) x held (extent 1 (shown_by (tokens_all src n t))) (Bad q) room
+          go (found cs) y = absurd (ok_err (sym y.0))
           go (refused p) y = ap Bad (refused-refused q p y)
 
 -- the tokens behind a bracket, and the rooms before and after

@@ -15,7 +15,7 @@ ghost use Rattle.header.specs.Entering.{opens, passed, FontsMet, ColoursMet, Ent
 ghost use Rattle.tokens.specs.Tokens.{token_words, shown_by};
 ghost use Rattle.fonts.specs.Rows.{font_words};
 
-use answers::{Outcome, Refusal, Why};
+use answers::{Refusal, Why};
 use colours::read_colours;
 use fonts::read_fonts;
 use tokens::TOKEN_WORDS;
@@ -59,8 +59,8 @@ fn font_table(
     let words = h * TOKEN_WORDS;
     let o = read_fonts(source, &t[..words], h, room);
     match o {
-        Outcome::Done(k) => Entered::On(k, colours, h),
-        Outcome::Refused(refusal) => Entered::Bad(refusal),
+        Ok(k) => Entered::On(k, colours, h),
+        Err(refusal) => Entered::Bad(refusal),
     }
 }
 
@@ -77,8 +77,8 @@ fn colour_table(t: &[u32], n: usize, late: bool, fonts: usize, room: &mut [u32])
     let words = h * TOKEN_WORDS;
     let o = read_colours(&t[..words], h, room);
     match o {
-        Outcome::Done(k) => Entered::On(fonts, k, h),
-        Outcome::Refused(refusal) => Entered::Bad(refusal),
+        Ok(k) => Entered::On(fonts, k, h),
+        Err(refusal) => Entered::Bad(refusal),
     }
 }
 

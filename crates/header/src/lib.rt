@@ -79,8 +79,8 @@ pub fn read_header(
     match header {
         Header::Refused(refusal) => Header::Refused(refusal),
         Header::Read(f, c) => {
-            clear_from(fonts, f * FONT_WORDS);
-            clear_from(colours, c);
+            clear_from(fonts, f * FONT_WORDS, 0);
+            clear_from(colours, c, 0);
             Header::Read(f, c)
         }
     }

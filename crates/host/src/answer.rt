@@ -5,8 +5,7 @@ ghost use Rattle.parser.specs.declared.Counts.{Counts};
 ghost use Rattle.reader.specs.Reading.{Counted};
 ghost use Rattle.host.specs.Exports.{cut_of, read_of, stored_of, write_of};
 
-use answers::Outcome;
-use parser::Answer;
+use answers::Refusal;
 
 // How many tokens stand in the room.
 #[repr(C)]
@@ -48,7 +47,7 @@ pub struct WriteAnswer {
 }
 
 // The answer of a cutting, which counts at most 65,536 tokens.
-pub fn of_cut(outcome: Outcome) -> CutAnswer
+pub fn of_cut(outcome: Result<usize, Refusal>) -> CutAnswer
     requires { outcome_count outcome ≤ 65536 }
     ensures { result ≡ cut_of outcome }
 {
@@ -63,12 +62,12 @@ pub fn of_cut(outcome: Outcome) -> CutAnswer
 }
 
 // The answer of a reading, whose counts are small.
-pub fn of_reading(answer: Answer) -> ReadAnswer
-    requires { (k : Counts) → answer ≡ Answer.Read k → Counted k }
+pub fn of_reading(answer: Result<Counts, Refusal>) -> ReadAnswer
+    requires { (k : Counts) → answer ≡ Ok k → Counted k }
     ensures { result ≡ read_of answer }
 {
     match answer {
-        Answer::Read(counts) => ReadAnswer {
+        Ok(counts) => ReadAnswer {
             refusal: 0,
             place: 0,
             tokens: counts.tokens as u32,
@@ -77,7 +76,7 @@ pub fn of_reading(answer: Answer) -> ReadAnswer
             blocks: counts.blocks as u32,
             text: counts.text as u32,
         },
-        Answer::Refuses(refused) => {
+        Err(refused) => {
             let refusal = refused.number();
             ReadAnswer {
                 refusal: refusal,
@@ -93,7 +92,7 @@ pub fn of_reading(answer: Answer) -> ReadAnswer
 }
 
 // The answer of a stored list's reading.
-pub fn of_stored(answer: stored::Answer) -> StoredAnswer
+pub fn of_stored(answer: Result<Counts, Refusal>) -> StoredAnswer
     ensures { result ≡ stored_of answer }
 {
     let refusal = answer.number();
@@ -106,7 +105,7 @@ pub fn of_stored(answer: stored::Answer) -> StoredAnswer
 }
 
 // The answer of a writing.
-pub fn of_writing(outcome: Outcome) -> WriteAnswer
+pub fn of_writing(outcome: Result<usize, Refusal>) -> WriteAnswer
     ensures { result ≡ write_of outcome }
 {
     let refusal = outcome.number();

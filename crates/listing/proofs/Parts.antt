@@ -10,8 +10,7 @@ use mathlib.Core.List.{List, [], ◌++◌, append_assoc}
 use native.Mathlib.Omega.{arith}
 use lib.ListN.{length, take, drop, length-append, length-take, length-drop}
 use lib.Seq.{take_all}
-use Rattle.answers.specs.declared.Outcome.{Outcome}
-use Rattle.answers.specs.Answers.{outcome_number, outcome_place, outcome_count}
+use Rattle.answers.specs.Answers.{answer_number, answer_place, outcome_count}
 use Rattle.tokens.specs.Tokens.{token_words}
 use Rattle.readings.specs.declared.Reading.{Reading}
 use Rattle.cutter.specs.Cutting.{cut_answer, cut_room}
@@ -21,16 +20,18 @@ use Rattle.lines.proofs.Pages.{put_whole}
 use Rattle.lines.proofs.Lengths.{length-decimal, length-place, length-lines}
 use Rattle.lines.proofs.Parts.{lines_split}
 use Rattle.listing.specs.Tokens.{first_line, token_lines, part_tokens, token_part}
+use Rattle.std.specs.Prelude.{Result}
+use Rattle.answers.specs.declared.Refusal.{Refusal}
 
 abbrev part_words : ℕ
 part_words = part_tokens * token_words
 
 module _ {page page' : List ℕ} {r : ℕ} (same : length page' ≡ length page) where
-  pub first_fits : (o : Outcome) → 63 ≤ length page → Put page 0 (first_line o) page' r → PutWhole page (first_line o) page' r
+  pub first_fits : (o : Result ℕ Refusal) → 63 ≤ length page → Put page 0 (first_line o) page' r → PutWhole page (first_line o) page' r
   unfolding first_line
   first_fits o h p =
-      let a = length-decimal (outcome_number o) in
-      let p' = length-place (outcome_number o) (outcome_place o) in
+      let a = length-decimal (answer_number o) in
+      let p' = length-place (answer_number o) (answer_place o) in
       let b = length-decimal (outcome_count o) in
       put_whole p same (simp length-append (omega arith))
 
@@ -62,7 +63,7 @@ written-more {count} {room} {left} {rest} w {n} e =
       all = rw (t, e, append_assoc) (w.all ∙ ap (λ (l : List ℕ). w.written ++ l) (lines_split token_words left part_tokens rest));
     }
 
-pub list-lines : (rd : Reading) (letter : List ℕ) (words : ℕ) {o : Outcome} {room : List ℕ} → o ≡ cut_answer rd letter words → room ≡ cut_room rd letter words → length room ≡ words
+pub list-lines : (rd : Reading) (letter : List ℕ) (words : ℕ) {o : Result ℕ Refusal} {room : List ℕ} → o ≡ cut_answer rd letter words → room ≡ cut_room rd letter words → length room ≡ words
     → token_lines rd letter (length room) ≡ first_line o ++ lines token_words (outcome_count o) room
 unfolding token_lines
 list-lines rd letter words e f n = rw (n, e, f)

@@ -14,7 +14,7 @@ ghost use Rattle.lines.specs.Pages.{Put, PutWhole};
 ghost use Rattle.tokens.specs.Tokens.{token_words};
 ghost use Rattle.listing.specs.Tokens.{part_tokens, first_line, token_lines, token_part};
 
-use answers::Outcome;
+use answers::Refusal;
 use input::fill;
 use lines::{number, place_item, records};
 use readings::Reading;
@@ -37,7 +37,7 @@ const PART_WORDS: usize = PART_TOKENS * TOKEN_WORDS;
 // A word with its sign and the byte behind it has at most 12 bytes.
 const PAGE_BYTES: usize = 12 * PART_WORDS;
 
-fn first_line(outcome: Outcome, page: &mut [u8]) -> usize
+fn first_line(outcome: Result<usize, Refusal>, page: &mut [u8]) -> usize
     ensures { Put page.old 0 (first_line outcome) page.new result }
 {
     let answer = outcome.number();
@@ -46,7 +46,7 @@ fn first_line(outcome: Outcome, page: &mut [u8]) -> usize
     number(outcome.count() as u64, b'\n', page, placed)
 }
 
-fn whole_first_line(outcome: Outcome, page: &mut [u8; PAGE_BYTES]) -> usize
+fn whole_first_line(outcome: Result<usize, Refusal>, page: &mut [u8; PAGE_BYTES]) -> usize
     ensures { PutWhole page.old (first_line outcome) page.new result }
 {
     first_line(outcome, page)
@@ -70,7 +70,7 @@ fn write(rt: &impl Print, page: &[u8], bytes: usize) -> io::Result<()>
 
 fn write_first_line(
     rt: &impl Print,
-    outcome: Outcome,
+    outcome: Result<usize, Refusal>,
     page: &mut [u8; PAGE_BYTES],
 ) -> io::Result<()> {
     let bytes = whole_first_line(outcome, page);
@@ -120,7 +120,7 @@ fn write_list(
     rt: &impl Print,
     reading: Reading,
     letter: &[u8],
-    outcome: Outcome,
+    outcome: Result<usize, Refusal>,
     room: &[u32],
     page: &mut [u8; PAGE_BYTES],
 ) -> io::Result<()>

@@ -18,13 +18,13 @@ ghost use Rattle.tokens.specs.Tokens.{token_words};
 ghost use Rattle.fonts.specs.Rows.{font_words};
 ghost use Rattle.colours.specs.Colours.{colour_words};
 
-use answers::{Outcome, Refusal, Why};
+use answers::{Refusal, Why};
 use blocks::{BLOCK_WORDS, Laid};
 use body::lay_body;
 use header::group::is_opening;
 use header::{Header, read_header};
 use readings::Reading;
-use rooms::{clear_bytes_from, clear_from};
+use rooms::clear_from;
 use tokens::item::slice_at;
 
 // How many records of each kind, and how many bytes of text.
@@ -44,17 +44,17 @@ pub enum Answer {
 }
 
 // Whether there is a first token, and an opening bracket it is.
-fn start(tokens: &[u32], n: usize) -> Outcome
+fn start(tokens: &[u32], n: usize) -> Result<usize, Refusal>
     requires { n * token_words ≤ length tokens.now }
     ensures { (src : List ℕ) → Starts (begun_of (tokens_all src n tokens.now)) result }
 {
     if n == 0 {
-        return Outcome::Refused(Refusal::of(Why::NoTokens));
+        return Err(Refusal::of(Why::NoTokens));
     }
     if !is_opening(tokens) {
-        return Outcome::Refused(Refusal::at(Why::FirstToken, slice_at(tokens)));
+        return Err(Refusal::at(Why::FirstToken, slice_at(tokens)));
     }
-    Outcome::Done(0)
+    Ok(0)
 }
 
 // The body: blocks and text in their rooms, and zeros behind them.
@@ -67,19 +67,19 @@ fn read_body(
     colours: usize,
     blocks: &mut [u32],
     text: &mut [u8],
-) -> Answer
+) -> Result<Counts, Refusal>
     requires { (n * token_words ≤ length tokens.now) × (n ≤ 65536) }
     ensures { BodyInto (answer 0 (placed reading (length blocks.old) (length text.old) (tokens_all source.now n tokens.now))) (items (placed reading (length blocks.old) (length text.old) (tokens_all source.now n tokens.now))) n fonts colours result blocks.new text.new (length blocks.old) (length text.old) }
 {
     let laid = lay_body(source, reading, tokens, n, blocks, text);
     match laid {
-        Laid::Full(refusal) => Answer::Refuses(refusal),
-        Laid::On(page) => {
+        Err(refusal) => Err(refusal),
+        Ok(page) => {
             let count = page.blocks;
             let length = page.text;
-            clear_from(blocks, count * BLOCK_WORDS);
-            clear_bytes_from(text, length);
-            Answer::Read(Counts {
+            clear_from(blocks, count * BLOCK_WORDS, 0);
+            clear_from(text, length, 0);
+            Ok(Counts {
                 tokens: n,
                 fonts: fonts,
                 colours: colours,
@@ -100,13 +100,13 @@ fn letter(
     colours: &mut [u32],
     blocks: &mut [u32],
     text: &mut [u8],
-) -> Answer
+) -> Result<Counts, Refusal>
     requires { (n * token_words ≤ length tokens.now) × (n ≤ 65536) }
     ensures { LetterInto (headed reading (length blocks.old) (length text.old) (tokens_all source.now n tokens.now) (tables (table_limit font_words (length fonts.old)) (table_limit colour_words (length colours.old)) (walk_of (tokens_all source.now n tokens.now)))) n result fonts.new colours.new blocks.new text.new (length fonts.old) (length colours.old) (length blocks.old) (length text.old) }
 {
     let header = read_header(source, tokens, n, fonts, colours);
     match header {
-        Header::Refused(refusal) => Answer::Refuses(refusal),
+        Header::Refused(refusal) => Err(refusal),
         Header::Read(f, c) => read_body(source, reading, tokens, n, f, c, blocks, text),
     }
 }
@@ -121,14 +121,14 @@ pub fn parse(
     colours: &mut [u32],
     blocks: &mut [u32],
     text: &mut [u8],
-) -> Answer
+) -> Result<Counts, Refusal>
     requires { (n * token_words ≤ length tokens.now) × (n ≤ 65536) }
     ensures { LetterInto (walked reading (sizes tokens.now fonts.old colours.old blocks.old text.old) (begun_of (tokens_all source.now n tokens.now))) n result fonts.new colours.new blocks.new text.new (length fonts.old) (length colours.old) (length blocks.old) (length text.old) }
 {
     let started = start(tokens, n);
     match started {
-        Outcome::Refused(refusal) => Answer::Refuses(refusal),
-        Outcome::Done(_) => letter(source, reading, tokens, n, fonts, colours, blocks, text),
+        Err(refusal) => Err(refusal),
+        Ok(_) => letter(source, reading, tokens, n, fonts, colours, blocks, text),
     }
 }
 
@@ -138,8 +138,8 @@ impl Answer {
         ensures { result ≡ answer_number self }
     {
         match self {
-            Answer::Read(_) => 0,
-            Answer::Refuses(refusal) => refusal.number(),
+            Ok(_) => 0,
+            Err(refusal) => refusal.number(),
         }
     }
 
@@ -148,8 +148,8 @@ impl Answer {
         ensures { result ≡ answer_place self }
     {
         match self {
-            Answer::Read(_) => 0,
-            Answer::Refuses(refusal) => refusal.place,
+            Ok(_) => 0,
+            Err(refusal) => refusal.place,
         }
     }
 
@@ -158,8 +158,8 @@ impl Answer {
         ensures { result ≡ answer_counts self }
     {
         match self {
-            Answer::Read(counts) => counts,
-            Answer::Refuses(_) => Counts {
+            Ok(counts) => counts,
+            Err(_) => Counts {
                 tokens: 0,
                 fonts: 0,
                 colours: 0,

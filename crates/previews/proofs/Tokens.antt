@@ -16,15 +16,11 @@ use Rattle.answers.specs.Answers.{refusal, refusal_at}
 use Rattle.classes.specs.declared.Class.TheVariants.{White, WordEnd, InWord, Space, Numeral}
 use Rattle.classes.specs.Bytes.{is_letter, is_high, in_class, lead, body, any}
 use Rattle.classes.proofs.Runs.{or_left, or_right, any_append}
-use Rattle.numbers.specs.declared.Number.{Number}
-use Rattle.numbers.specs.declared.Number.TheVariants.{Is, Bad}
 use Rattle.numbers.specs.Numbers.{hex_pair, decimal}
 use Rattle.names.specs.Names.{word_number}
 use Rattle.rooms.specs.Streams.{Stream, end, stop, ◌▸◌, items}
 use Rattle.rooms.proofs.Streams.{Each, Each-then, Each-each, Each-either}
 use Rattle.slices.specs.Slices.{slices_by}
-use Rattle.tokens.specs.declared.Property.{Property}
-use Rattle.tokens.specs.declared.Property.TheVariants.{None, Value}
 use Rattle.tokens.specs.Tokens.{Shown, Token, token, slice_of, shown_in, value_of}
 use Rattle.readings.specs.declared.Reading.{Reading}
 use Rattle.readings.specs.declared.Reading.TheVariants.{Plain, Paragraphs, Standard}
@@ -37,6 +33,7 @@ use Rattle.standard.proofs.Shows.{Kinds, tokens-each}
 use Rattle.cutter.specs.Cutting.{tokens_by, located, last, last_by, all_slices, every, closed_behind, closing, cut_by, trim_start, trimmed, token_stream}
 use Rattle.cutter.proofs.Places.{Placed, stream-places}
 use Rattle.answers.specs.declared.Refusal.{Refusal}
+use Rattle.std.specs.Prelude.{Option, Some, None}
 
 -- each of a list has a property
 abbrev pub All : {A : Type 0} → (A → Type 0) → List A → Type 0
@@ -71,11 +68,11 @@ hex-some p [] = tt
 hex-some p (a ∷ []) = tt
 hex-some p (a ∷ b ∷ s) = go (hex_pair a b)
   where
-    go : (n : Number) → Each Some (hex_value n (plain (p + 4) s))
-    go (Is v) = (tt, plain-some (p + 4) s)
-    go Bad = tt
+    go : (n : Option ℕ) → Each Some (hex_value n (plain (p + 4) s))
+    go (Some v) = (tt, plain-some (p + 4) s)
+    go None = tt
 
-shown-some : (p : ℕ) (name : List ℕ) (num : Property) → Some (shown_word p name num)
+shown-some : (p : ℕ) (name : List ℕ) (num : Option ℕ) → Some (shown_word p name num)
 unfolding shown_word
 shown-some p name num = go (ltb (word_number name) 49)
   where
@@ -83,10 +80,10 @@ shown-some p name num = go (ltb (word_number name) 49)
     go true = tt
     go false = tt
 
-numbered-some : (p : ℕ) (name : List ℕ) (n : Number) → Each Some (numbered p name n)
+numbered-some : (p : ℕ) (name : List ℕ) (n : Option ℕ) → Each Some (numbered p name n)
 unfolding numbered
-numbered-some p name (Is v) = (shown-some p name (Value v), tt)
-numbered-some p name Bad = tt
+numbered-some p name (Some v) = (shown-some p name (Some v), tt)
+numbered-some p name None = tt
 
 named_some : (p : ℕ) (w : List ℕ) → Each Some (named p w)
 unfolding named

@@ -1,12 +1,13 @@
 -- What a listed answer is, as bytes, and when an answer of ours is the same. Assumes nothing: these are definitions.
 use Rattle.std.specs.Prelude.{ℕ, ◌+◌, ◌*◌, ◌<◌, ◌≤◌, ◌≡◌, List, length, get_or}
-use Rattle.answers.specs.Answers.{outcome_number, outcome_place, outcome_count}
-use Rattle.answers.specs.declared.Outcome.{Outcome}
+use Rattle.answers.specs.Answers.{answer_number, answer_place, outcome_count}
 use Rattle.replay.specs.declared.list.Answer.{Answer}
 use Rattle.replay.specs.declared.list.Front.{Front}
 use Rattle.replay.specs.declared.list.Front.TheVariants.{Answer as Found, CutShort, Malformed}
 use Rattle.replay.specs.declared.judge.Verdict.{Verdict}
 use Rattle.replay.specs.declared.judge.Verdict.TheVariants.{Same}
+use Rattle.std.specs.Prelude.{Result}
+use Rattle.answers.specs.declared.Refusal.{Refusal}
 
 -- four bytes, little endian, with zeros behind the end
 unfoldable pub word_at : List ℕ → ℕ → ℕ
@@ -29,13 +30,13 @@ FrontWhole bytes CutShort = Unit
 FrontWhole bytes Malformed = Unit
 
 -- an outcome and a room as they are listed: behind the records the room is zero
-pub record Agrees (o : Outcome) (room : List ℕ) (a : Answer) (records : List ℕ) : Type 0 where
-  pub number : outcome_number o ≡ a.refusal
-  pub place : outcome_place o ≡ a.place
+pub record Agrees (o : Result ℕ Refusal) (room : List ℕ) (a : Answer) (records : List ℕ) : Type 0 where
+  pub number : answer_number o ≡ a.refusal
+  pub place : answer_place o ≡ a.place
   pub count : outcome_count o ≡ a.tokens
   pub words : (k : ℕ) → k < length room → get_or room k 0 ≡ word_at records (4 * k)
 
 -- "the same" is said if and only if it is
-pub record Judged (o : Outcome) (room : List ℕ) (a : Answer) (records : List ℕ) (said : Verdict) : Type 0 where
+pub record Judged (o : Result ℕ Refusal) (room : List ℕ) (a : Answer) (records : List ℕ) (said : Verdict) : Type 0 where
   pub sound : said ≡ Same → Agrees o room a records
   pub complete : Agrees o room a records → said ≡ Same

@@ -3,7 +3,7 @@ ghost use Rattle.std.specs.Prelude.{◌≡◌, ℕ, ◌*◌, ◌<◌, ◌≤◌,
 ghost use Rattle.replay.specs.Listed.{word_at, Judged};
 
 use crate::list::{Answer, word};
-use answers::Outcome;
+use answers::Refusal;
 
 // What differs first.
 #[derive(Clone, Copy)]
@@ -45,7 +45,7 @@ fn first_unlike(room: &[u32], records: &[u8]) -> usize
 }
 
 // Our answer against the listed one.
-pub fn compare(outcome: Outcome, room: &[u32], answer: Answer, records: &[u8]) -> Verdict
+pub fn compare(outcome: Result<usize, Refusal>, room: &[u32], answer: Answer, records: &[u8]) -> Verdict
     ensures { Judged outcome room.now answer records.now result }
 {
     let refusal = outcome.number();

@@ -1,4 +1,5 @@
 // What the program writes to standard output.
+use answers::Refusal;
 use crate::judge::{Difference, Part};
 use std::io;
 

@@ -23,7 +23,6 @@ use Rattle.rooms.specs.Streams.{Stream}
 use Rattle.utf8.specs.declared.Encoded.{Encoded}
 use Rattle.utf8.specs.Utf8.{written, encoded_of}
 use Rattle.utf8.proofs.Utf8.{encoded-length, encoded-bytes}
-use Rattle.tokens.specs.declared.Property.{Property}
 use Rattle.settings.specs.Fields.{Setting, style_of}
 use Rattle.settings.specs.Fields as field
 use Rattle.units.specs.declared.Run.{Run}
@@ -38,6 +37,7 @@ use Rattle.blocks.specs.Pages.{Piece}
 use Rattle.blocks.specs.Laying.{Laying, on, off, add_of, laid_on, lay_all}
 use Rattle.blocks.proofs.Laying.{lay-more, Placeless, laid-on-placeless}
 use Rattle.runs.specs.Runs.{rows, step_by, owed_by, steps_by, run_words, run_of, value_if, laid_all}
+use Rattle.std.specs.Prelude.{Option}
 
 pub ne-pos : {d : ℕ} → (d ≡ 0 → ⊥) → 0 < d
 ne-pos h = omega arith
@@ -200,7 +200,7 @@ run-put (x ∷ y ∷ z ∷ []) e r q = (refl, rw (q, bit_is r.begun) refl)
 run-put (x ∷ y ∷ z ∷ u ∷ l) e r q = absurd (omega arith)
 
 -- a `u` word's step of the run, and what it gives
-module _ (rd : Reading) (skip : ℕ) (run₀ : Run) (num : Property) {run : Run} (e : run ≡ run₀) {g : Gave} (q : g ≡ step_by rd skip run num) where
+module _ (rd : Reading) (skip : ℕ) (run₀ : Run) (num : Option ℕ) {run : Run} (e : run ≡ run₀) {g : Gave} (q : g ≡ step_by rd skip run num) where
   pub unit-laid : (r : List ℕ) (p : Page) (b t : List ℕ) {l : Laying} → l ≡ laid_all (on p b t) (spoken rows r (written_all (values g)))
       → l ≡ laid_all (on p b t) (spoken rows r (written_all (values (step_by rd skip run₀ num))))
   unit-laid r p b t h = h ∙ ap (λ (x : Gave). laid_all (on p b t) (spoken rows r (written_all (values x)))) (q ∙ ap (λ (x : Run). step_by rd skip x num) e)
@@ -210,11 +210,11 @@ module _ (rd : Reading) (skip : ℕ) (run₀ : Run) (num : Property) {run : Run}
 
 -- by whether the reading is the specification's, as the code asks it
 module _ (rd : Reading) (skip : ℕ) {s : Bool} (q : s ≡ is_standard rd) where
-  pub step-standard : s ≡ true → (run : Run) (num : Property) {g : Gave} → g ≡ standard_step run num → g ≡ step_by rd skip run num
+  pub step-standard : s ≡ true → (run : Run) (num : Option ℕ) {g : Gave} → g ≡ standard_step run num → g ≡ step_by rd skip run num
   unfolding step_by
   step-standard e run num h = h ∙ rw (← q, e) refl
 
-  pub step_other : s ≡ false → (run : Run) (num : Property) {g : Gave} → g ≡ step skip run num → g ≡ step_by rd skip run num
+  pub step_other : s ≡ false → (run : Run) (num : Option ℕ) {g : Gave} → g ≡ step skip run num → g ≡ step_by rd skip run num
   unfolding step_by
   step_other e run num h = h ∙ rw (← q, e) refl
 
@@ -234,7 +234,7 @@ module _ (rd : Reading) (skip : ℕ) {s : Bool} (q : s ≡ is_standard rd) where
   owed_none e = owed-is false e
 
 -- a `u` word says no more than it may
-pub steps-few : (rd : Reading) (r : List ℕ) (run : Run) (num : Property) → Few run ((steps_by rd).step r run num)
+pub steps-few : (rd : Reading) (r : List ℕ) (run : Run) (num : Option ℕ) → Few run ((steps_by rd).step r run num)
 unfolding step_by
 steps-few Plain r run num = step-few (get_or r field.skip 0) run num
 steps-few Paragraphs r run num = step-few (get_or r field.skip 0) run num

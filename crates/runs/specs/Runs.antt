@@ -5,13 +5,13 @@ use Rattle.settings.specs.Fields.{fresh_row, Setting, put_word, style_of}
 use Rattle.settings.specs.Fields as field
 use Rattle.readings.specs.declared.Reading.{Reading}
 use Rattle.readings.specs.Readings.{is_standard}
-use Rattle.tokens.specs.declared.Property.{Property}
 use Rattle.units.specs.declared.Run.{Run}
 use Rattle.units.specs.declared.Gave.{Gave}
 use Rattle.units.specs.Units.{step, standard_step, skip_count}
 use Rattle.machine.specs.Machine.{States, Steps}
 use Rattle.blocks.specs.Pages.{Piece, piece}
 use Rattle.blocks.specs.Laying.{Laying, laid_on}
+use Rattle.std.specs.Prelude.{Option}
 
 -- a state is the row of its fields' values; text in it is a piece of its style
 abbrev pub rows : States (List ℕ) Setting Piece
@@ -23,7 +23,7 @@ rows = record {
 
 -- a `u` word by the reading: as 01 has it; or by the specification, where characters are passed over behind it, and not units: "Negative counts
 -- skip nothing"
-unfoldable pub step_by : Reading → ℕ → Run → Property → Gave
+unfoldable pub step_by : Reading → ℕ → Run → Option ℕ → Gave
 step_by rd skip run num = cond (is_standard rd) (standard_step run num) (step skip run num)
 
 unfoldable pub owed_by : Reading → ℕ → ℕ

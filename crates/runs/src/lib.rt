@@ -22,7 +22,6 @@ use blocks::{PAGE_WORDS, Room};
 use readings::Reading;
 use settings::rows::STATES;
 use settings::{SKIP, WIDTH};
-use tokens::Property;
 use units::{Gave, Run, standard_step, step};
 
 pub const RUN_WORDS: usize = 3;
@@ -104,7 +103,7 @@ fn lay_values(
 }
 
 // A step of the run, by the reading.
-fn step_by(reading: Reading, skip: u32, run: Run, number: Property) -> Gave
+fn step_by(reading: Reading, skip: u32, run: Run, number: Option<u32>) -> Gave
     ensures { result ≡ step_by reading skip run number }
 {
     if reading.is_standard() {
@@ -137,7 +136,7 @@ pub fn unit(
     reading: Reading,
     states: &[[u32; WIDTH]; STATES],
     d: usize,
-    number: Property,
+    number: Option<u32>,
     run: &mut [u32; RUN_WORDS],
     page: &mut [usize; PAGE_WORDS],
     blocks: &mut [u32],

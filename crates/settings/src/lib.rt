@@ -17,7 +17,7 @@ ghost use Rattle.settings.specs.Effects.{flag_by, flag_of, fitted, spacing, endi
 
 use answers::Why;
 use readings::Reading;
-use tokens::{Property, words};
+use tokens::words;
 
 pub const COLOUR: usize = 0;
 
@@ -231,12 +231,12 @@ fn bit(b: bool) -> u32
 }
 
 // No number is on.
-fn flag(reading: Reading, number: Property) -> u32
+fn flag(reading: Reading, number: Option<u32>) -> u32
     ensures { result ≡ flag_of reading number }
 {
     match number {
-        Property::None => 1,
-        Property::Value(v) => flag_by(reading, v),
+        None => 1,
+        Some(v) => flag_by(reading, v),
     }
 }
 
@@ -291,10 +291,10 @@ fn indent(reading: Reading, f: usize, v: u32) -> Act
 }
 
 // A word of the body but `u`.
-pub fn act_of(reading: Reading, w: u32, number: Property) -> Act
+pub fn act_of(reading: Reading, w: u32, number: Option<u32>) -> Act
     ensures { (meaning result ≡ effect reading w number) × Within result }
 {
-    let v = number.value();
+    let v = number.unwrap_or(0);
     match w {
         words::COLOUR_NUMBER => fit(COLOUR, v),
         words::FONT_NUMBER => fit(FONT, v),

@@ -17,8 +17,6 @@ use lib.Dec.{ltb}
 use lib.ListN.{length, get_or, set, take, drop, drop_of_length-le}
 use lib.Seq.{drop-cons}
 use borrow.Author.Tests.{lt-ltb, le-ltb, eq-eqb, ne_eqb}
-use Rattle.answers.specs.declared.Outcome.{Outcome}
-use Rattle.answers.specs.declared.Outcome.TheVariants.{Done}
 use Rattle.rooms.specs.Rooms.{Wrote, put}
 use Rattle.rooms.proofs.Rooms.{put_in, put-out, wrote_one, wrote-more, length-put}
 use Rattle.sevens.specs.declared.Numeral.{Numeral}
@@ -28,7 +26,8 @@ use Rattle.sevens.proofs.Bits.{group-bits, mark-bits}
 use Rattle.sevens.proofs.Tests.{or_some}
 use Rattle.sevens.proofs.Sevens.{Whole, is_cut, not-cut, whole_is, fewer}
 use Rattle.sevens.proofs.Sevens.{groups-last, groups-more, high-low, high-high, value_low}
-use Rattle.rooms.specs.Streams.{by_refusal}
+use Rattle.std.specs.Prelude.{Result, Ok}
+use Rattle.answers.specs.declared.Refusal.{Refusal}
 
 -- ---- reading
 
@@ -177,8 +176,8 @@ put-past room n b h = put-out 1 room n (b ∷ []) (omega arith)
 -- who writes g has then written v
 abbrev Follows : ℕ → ℕ → List ℕ → ℕ → List ℕ → List ℕ → Type 0
 Follows n v room₀ at room g =
-    (r : Outcome) (room' : List ℕ) → Wrote byte_layout by_refusal at room (streamed g) r room'
-    → Wrote byte_layout by_refusal n room₀ (streamed (written v)) r room'
+    (r : Result ℕ Refusal) (room' : List ℕ) → Wrote byte_layout at room (streamed g) r room'
+    → Wrote byte_layout n room₀ (streamed (written v)) r room'
 
 -- k groups with the high bit may be left
 pub record Putting (n v : ℕ) (room₀ : List ℕ) (at rest : ℕ) (room : List ℕ) : Type 0 where
@@ -193,10 +192,10 @@ putting-start n v room h = record { k = 4; place = refl; small = omega arith; sa
 
 module _ (n v : ℕ) (room₀ : List ℕ) (at rest : ℕ) (room : List ℕ) (p : Putting n v room₀ at rest room)
     (b : ℕ) (room' : List ℕ) (q : room' ≡ put 1 room at (b ∷ [])) where
-  pub putting-done : rest < 128 → b ≡ rest → Wrote byte_layout by_refusal n room₀ (streamed (written v)) (Done (at + 1)) room'
+  pub putting-done : rest < 128 → b ≡ rest → Wrote byte_layout n room₀ (streamed (written v)) (Ok (at + 1)) room'
   unfolding streamed
   putting-done h e =
-      p.left (Done (at + 1)) room'
+      p.left (Ok (at + 1)) room'
       (wrote_one byte_layout (ap streamed (groups-last p.k rest h ∙ ap (λ (x : ℕ). x ∷ []) (sym e))) q)
 
   pub putting-same : length room' ≡ length room₀

@@ -9,9 +9,7 @@
 ghost use Rattle.std.specs.Prelude.{◌≡◌, [], ◌∷◌, ◌≤◌, ◌<◌};
 ghost use Rattle.rooms.specs.Rooms.{Wrote, put as put_words};
 ghost use Rattle.sevens.specs.Sevens.{written, number_of, byte_layout, streamed};
-ghost use Rattle.rooms.specs.Streams.{by_refusal};
 
-use answers::Outcome;
 
 #[derive(Clone, Copy)]
 pub enum Numeral {
@@ -86,7 +84,7 @@ pub fn put_byte(room: &mut [u8], n: usize, b: u8)
 // A number's bytes from place n of a room on. The next place.
 pub fn put_number(v: u32, room: &mut [u8], n: usize) -> usize
     requires { n ≤ 9223372036854775807 }
-    ensures { Wrote byte_layout by_refusal n room.old (streamed (written v)) (Outcome.Done result) room.new }
+    ensures { Wrote byte_layout n room.old (streamed (written v)) (Ok result) room.new }
 {
     let mut rest = v;
     let mut at = n;

@@ -9,10 +9,11 @@ ghost use Rattle.fonts.specs.Rows.{font_words};
 ghost use Rattle.colours.specs.Colours.{colour_words};
 ghost use Rattle.blocks.specs.Pages.{block_words};
 
+use answers::Refusal;
 use blocks::BLOCK_WORDS;
 use colours::COLOUR_WORDS;
 use fonts::FONT_WORDS;
-use parser::{Answer, Counts};
+use parser::Counts;
 use readings::Reading;
 use std::io;
 use tokens::TOKEN_WORDS;
@@ -173,7 +174,7 @@ fn rest_zero(room: &[u32], count: usize, width: usize) -> bool {
 
 fn say_answer(
     rt: &impl Print,
-    answer: Answer,
+    answer: Result<Counts, Refusal>,
     tokens: &[u32],
     fonts: &[u32],
     colours: &[u32],

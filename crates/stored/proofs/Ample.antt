@@ -11,10 +11,8 @@ use native.Mathlib.Omega.{arith}
 use borrow.Author.Tests.{le-ltb, ne_eqb}
 use lib.ListN.{length, drop, length-drop}
 use lib.Dec.{ltb, eqb}
-use Rattle.answers.specs.declared.Outcome.{Outcome}
-use Rattle.answers.specs.declared.Outcome.TheVariants.{Done, Refused}
 use Rattle.answers.specs.declared.Why.TheVariants.{TextRoom, BlockRoom}
-use Rattle.answers.specs.Answers.{refusal, outcome_number}
+use Rattle.answers.specs.Answers.{refusal, answer_number}
 use Rattle.rooms.specs.Streams.{Stream, end, stop, ◌▸◌, items, count, answer}
 use Rattle.rooms.specs.Rooms.{capacity}
 use Rattle.sevens.specs.declared.Numeral.{Numeral}
@@ -28,6 +26,7 @@ use Rattle.stored.specs.Stored.{over, entered, blocks_from, counted, stored, pla
 use Rattle.stored.specs.Checks.{checked}
 use Rattle.stored.proofs.Entries.{entry-is}
 use Rattle.answers.specs.declared.Refusal.{Refusal}
+use Rattle.std.specs.Prelude.{Result, Ok, Err}
 
 count-over : (s : List ℕ) → count (over s) ≤ length s
 unfolding count
@@ -79,7 +78,7 @@ roomy-blocks (x ▸ s) b c t l h k =
 
 -- "rooms counted as ample"
 pub check-reads : (s : List ℕ) (b t : ℕ) → length s ≤ capacity block_words b → 2147483647 ≤ t
-    → answer_number (stored_answer b t s) ≡ outcome_number (checked s)
+    → answer_number (stored_answer b t s) ≡ answer_number (checked s)
 unfolding stored_answer checked placed
 check-reads s b t h k =
     let c = count-stored s in
@@ -87,6 +86,6 @@ check-reads s b t h k =
     roomy-blocks (stored s) (capacity block_words b) (length s) 2147483647 none (omega (arith, c, h)) c in
     rw (le-ltb t 2147483647 k, e) (go (answer 0 (roomy (length s) 2147483647 none (stored s))))
   where
-    go : (o : Outcome) → answer_number (answered (items (roomy (length s) 2147483647 none (stored s))) o) ≡ outcome_number o
-    go (Done n) = refl
-    go (Refused r) = refl
+    go : (o : Result ℕ Refusal) → answer_number (answered (items (roomy (length s) 2147483647 none (stored s))) o) ≡ answer_number o
+    go (Ok n) = refl
+    go (Err r) = refl

@@ -10,8 +10,6 @@ use native.Mathlib.Omega.{arith}
 use borrow.Author.Tests.{lt-ltb, le-ltb, ne_eqb}
 use lib.ListN.{length, take, drop, length-take, length-drop}
 use Rattle.answers.specs.declared.Refusal.{Refusal}
-use Rattle.answers.specs.declared.Outcome.{Outcome}
-use Rattle.answers.specs.declared.Outcome.TheVariants.{Done, Refused}
 use Rattle.answers.specs.declared.Why.TheVariants.{StoredNumber, StoredShort, StoredLong, TextRoom}
 use Rattle.answers.specs.Answers.{refusal}
 use Rattle.sevens.specs.declared.Numeral.{Numeral}
@@ -28,6 +26,7 @@ use Rattle.stored.proofs.Entries.{part, Entered, entry-is}
 use Rattle.stored.specs.Stored.{entered, blocks_from}
 use Rattle.stored.proofs.Blocks.{blocks-next, blocks-over, over-some, over_none, stored_is, stored-bad, stored_short}
 use Rattle.stored.specs.Checks.{checked}
+use Rattle.std.specs.Prelude.{Result, Ok, Err}
 
 module _ (b t : ℕ) (l : Last) (x : Piece) (s : Stream Refusal Piece) (e : starts l x.style ≡ true) (h : 0 < b) where
   roomy-next : length x.bytes ≤ t → roomy b t l (x ▸ s) ≡ x ▸ roomy (b - 1) (t - length x.bytes) (last x.style) s
@@ -57,7 +56,7 @@ module _ {k : ℕ} {s t : List ℕ} {n left : ℕ} {begun : Bool} {before : Styl
         ≡ answer (k - n) (roomy (B - (k - n)) left (last_of begun before) (entered e t (blocks_from (n - 1))))
     to-check = g.all B w ∙ rw (blocks-next n (n - 1) (last_of begun before) t (omega arith), ← d)
 
-    pub checking-bad : {r : Refusal} → e ≡ Bad r → Refused r ≡ answer 0 (roomy B 2147483647 none (blocks_from k none s))
+    pub checking-bad : {r : Refusal} → e ≡ Bad r → Err r ≡ answer 0 (roomy B 2147483647 none (blocks_from k none s))
     unfolding roomy ended
     checking-bad f = sym (to-check ∙ rw f)
 
@@ -69,7 +68,7 @@ module _ {k : ℕ} {s t : List ℕ} {n left : ℕ} {begun : Bool} {before : Styl
       bytes = length-take c (drop m t) ∙ simp length-drop (omega (arith, facts.within))
 
       pub checking-text : left < c → {r : Refusal} → r ≡ refusal TextRoom
-          → Refused r ≡ answer 0 (roomy B 2147483647 none (blocks_from k none s))
+          → Err r ≡ answer 0 (roomy B 2147483647 none (blocks_from k none s))
       unfolding ended
       checking-text l q =
           sym (to-check ∙ rw (
@@ -107,28 +106,28 @@ module _ {k : ℕ} {s t : List ℕ} {n left : ℕ} {begun : Bool} {before : Styl
 
   module _ (h : n ≤ 0) (B : ℕ) (w : length s ≤ B) where
     pub checking-left : 0 < length t → {r : Refusal} → r ≡ refusal StoredLong
-        → Refused r ≡ answer 0 (roomy B 2147483647 none (blocks_from k none s))
+        → Err r ≡ answer 0 (roomy B 2147483647 none (blocks_from k none s))
     unfolding roomy ended
     checking-left l e = sym (g.all B w ∙ rw (e, blocks-over n (last_of begun before) t h, over-some t l))
 
-    pub checking-end : length t ≤ 0 → Done k ≡ answer 0 (roomy B 2147483647 none (blocks_from k none s))
+    pub checking-end : length t ≤ 0 → Ok k ≡ answer 0 (roomy B 2147483647 none (blocks_from k none s))
     unfolding roomy ended
     checking-end l = let z : k - n ≡ k = omega (arith, h) in sym (g.all B w ∙ rw (blocks-over n (last_of begun before) t h, over_none t l, z))
 
 -- ---- the whole list
 
 module _ (s : List ℕ) {x : Numeral} (d : x ≡ number_of s) where
-  pub check-is : {v m k : ℕ} → x ≡ Numbered v m → k ≡ v → {r : Outcome}
+  pub check-is : {v m k : ℕ} → x ≡ Numbered v m → k ≡ v → {r : Result ℕ Refusal}
       → ((b : ℕ) → length (take (length s - m) (drop m s)) ≤ b → r ≡ answer 0 (roomy b 2147483647 none (blocks_from k none (take (length s - m) (drop m s))))) → r ≡ checked s
   unfolding checked
   check-is {v} {m} {k} e f h =
       let l : length (take (length s - m) (drop m s)) ≤ length s = rw (part m s, length-drop m s) (omega arith) in
       h (length s) l ∙ rw (stored_is s d e f)
 
-  pub check-bad : x ≡ BadNumber → {r : Refusal} → r ≡ refusal StoredNumber → Refused r ≡ checked s
+  pub check-bad : x ≡ BadNumber → {r : Refusal} → r ≡ refusal StoredNumber → Err r ≡ checked s
   unfolding checked roomy ended
   check-bad e f = rw (f, stored-bad s d e)
 
-  pub check-short : x ≡ Short → {r : Refusal} → r ≡ refusal StoredShort → Refused r ≡ checked s
+  pub check-short : x ≡ Short → {r : Refusal} → r ≡ refusal StoredShort → Err r ≡ checked s
   unfolding checked roomy ended
   check-short e f = rw (f, stored_short s d e)

@@ -8,7 +8,6 @@ use native.Mathlib.Omega.{arith}
 use lib.ListN.{length, take, drop, set, length-set, length-drop}
 use lib.Seq.{take_all, take-suc-set}
 use Rattle.answers.specs.declared.Refusal.{Refusal}
-use Rattle.answers.specs.declared.Outcome.TheVariants.{Done, Refused}
 use Rattle.answers.specs.declared.Why.TheVariants.{StoredNumber, StoredShort}
 use Rattle.answers.specs.Answers.{refusal, Found, found, refused}
 use Rattle.sevens.specs.declared.Numeral.{Numeral}
@@ -17,6 +16,7 @@ use Rattle.sevens.specs.Sevens.{number_of}
 use Rattle.sevens.proofs.Sevens.{number-within}
 use Rattle.stored.specs.Entries.{Numbers, behind, and_more, numbers_from, NumbersIn}
 use Rattle.stored.proofs.Entries.{part}
+use Rattle.std.specs.Prelude.{Ok, Err}
 
 behind-none : (x : Found Numbers) → behind [] 0 x ≡ x
 behind-none (found q) = let z : 0 + q.size ≡ q.size = omega arith in rw z refl
@@ -66,17 +66,17 @@ module _ {s : List ℕ} {total i : ℕ} {t ws : List ℕ} (g : Reading s total i
         })
 
     pub reading-bad : {x : Numeral} (ws' : List ℕ) (n : ℕ) → x ≡ number_of t → x ≡ BadNumber → {r : Refusal}
-        → r ≡ refusal StoredNumber → NumbersIn (numbers_from total s) n (Refused r) ws'
+        → r ≡ refusal StoredNumber → NumbersIn (numbers_from total s) n (Err r) ws'
     reading-bad ws' n e f q = rw (g.all, next e, f, q) refl
 
     pub reading-short : {x : Numeral} (ws' : List ℕ) (n : ℕ) → x ≡ number_of t → x ≡ Short → {r : Refusal}
-        → r ≡ refusal StoredShort → NumbersIn (numbers_from total s) n (Refused r) ws'
+        → r ≡ refusal StoredShort → NumbersIn (numbers_from total s) n (Err r) ws'
     reading-short ws' n e f q = rw (g.all, next e, f, q) refl
 
-  pub reading-end : (length ws ≤ i) → NumbersIn (numbers_from total s) (length s) (Done (length s - length t)) ws
+  pub reading-end : (length ws ≤ i) → NumbersIn (numbers_from total s) (length s) (Ok (length s - length t)) ws
   unfolding numbers_from
   reading-end h =
       let z : total - i ≡ 0 = omega (arith, h, g.wide) in
       let y : length s - length t + 0 ≡ length s - length t = omega arith in
       let k : take i ws ≡ ws = take_all i ws h in
-      rw (g.all, z, k) (ap (λ (m : ℕ). Done m) (sym y), sym (append-nil ws), omega (arith, g.left))
+      rw (g.all, z, k) (ap (λ (m : ℕ). Ok m) (sym y), sym (append-nil ws), omega (arith, g.left))

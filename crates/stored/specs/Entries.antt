@@ -1,7 +1,5 @@
 -- 01, Stored form: one block of a stored list, its numbers and its text. Assumes nothing: these are definitions.
 use Rattle.std.specs.Prelude.{ℕ, zero, suc, ◌+◌, ◌≤◌, ◌≡◌, List, [], ◌∷◌, ◌++◌, cond, ◌&&◌, length, take, drop, get_or, leb, ltb}
-use Rattle.answers.specs.declared.Outcome.{Outcome}
-use Rattle.answers.specs.declared.Outcome.TheVariants.{Done, Refused}
 use Rattle.answers.specs.declared.Why.TheVariants.{StoredNumber, StoredShort, StoredField}
 use Rattle.answers.specs.Answers.{refusal, Found, found, refused}
 use Rattle.sevens.specs.declared.Numeral.{Numeral}
@@ -14,6 +12,8 @@ use Rattle.blocks.specs.Pages.{Last, starts}
 use Rattle.fields.specs.Fields.{in_range, style_from, block_numbers}
 use Rattle.stored.specs.declared.entry.Entry.{Entry}
 use Rattle.stored.specs.declared.entry.Entry.TheVariants.{Is, Bad}
+use Rattle.std.specs.Prelude.{Result, Ok, Err}
+use Rattle.answers.specs.declared.Refusal.{Refusal}
 
 -- numbers one after the other, and how many bytes they have
 pub record Numbers : Type 0 where
@@ -52,6 +52,6 @@ unfoldable pub entry : Last → List ℕ → Entry
 entry l s = entry_of l s (numbers_from block_numbers s)
 
 -- what a function answers that reads numbers from k bytes into words
-abbrev pub NumbersIn : Found Numbers → ℕ → Outcome → List ℕ → Type 0
-NumbersIn (found q) k r ws = (r ≡ Done q.size) × (ws ≡ q.values) × (q.size ≤ k)
-NumbersIn (refused f) k r ws = r ≡ Refused f
+abbrev pub NumbersIn : Found Numbers → ℕ → Result ℕ Refusal → List ℕ → Type 0
+NumbersIn (found q) k r ws = (r ≡ Ok q.size) × (ws ≡ q.values) × (q.size ≤ k)
+NumbersIn (refused f) k r ws = r ≡ Err f

@@ -14,7 +14,7 @@ ghost use Rattle.stored.specs.Stored.{blocks_from};
 ghost use Rattle.stored.specs.Checks.{Checks};
 
 use crate::entry::{Entry, numbers_at, ruled};
-use answers::{Outcome, Refusal, Why};
+use answers::{Refusal, Why};
 use fields::{BLOCK_NUMBERS, style_from};
 use rooms::wide;
 use sevens::{Numeral, number_at};
@@ -28,8 +28,8 @@ fn block_at(s: &[u8], begun: bool, before: Style) -> Entry
     let mut words = [0u32; BLOCK_NUMBERS];
     let numbers = numbers_at(s, &mut words);
     match numbers {
-        Outcome::Refused(refusal) => Entry::Bad(refusal),
-        Outcome::Done(m) => {
+        Err(refusal) => Entry::Bad(refusal),
+        Ok(m) => {
             let style = style_from(&words[..BARE_WORDS]);
             let n = wide(words[BARE_WORDS]);
             ruled(&s[m..], begun, before, style, n, m)
@@ -38,7 +38,7 @@ fn block_at(s: &[u8], begun: bool, before: Style) -> Entry
 }
 
 // Checks k blocks: how many there are, or the refusal.
-fn check_blocks(list: &[u8], k: usize) -> Outcome
+fn check_blocks(list: &[u8], k: usize) -> Result<usize, Refusal>
     ensures { (b : ℕ) → length list.now ≤ b
         → result ≡ answer 0 (roomy b 2147483647 none (blocks_from k none list.now)) }
 {
@@ -51,11 +51,11 @@ fn check_blocks(list: &[u8], k: usize) -> Outcome
         let e = block_at(t, begun, before);
         match e {
             Entry::Bad(refusal) => {
-                return Outcome::Refused(refusal);
+                return Err(refusal);
             }
             Entry::Is(style, m, count) => {
                 if left < count {
-                    return Outcome::Refused(Refusal::of(Why::TextRoom));
+                    return Err(Refusal::of(Why::TextRoom));
                 }
                 left -= count;
                 let next = m + count;
@@ -67,19 +67,19 @@ fn check_blocks(list: &[u8], k: usize) -> Outcome
         }
     }
     if t.len() != 0 {
-        return Outcome::Refused(Refusal::of(Why::StoredLong));
+        return Err(Refusal::of(Why::StoredLong));
     }
-    Outcome::Done(k)
+    Ok(k)
 }
 
 // The answer that `read_list` would give with ample rooms, in one pass over the list.
-pub fn check(list: &[u8]) -> Outcome
+pub fn check(list: &[u8]) -> Result<usize, Refusal>
     ensures { Checks list.now result }
 {
     let n = number_at(list);
     match n {
         Numeral::Is(k, m) => check_blocks(&list[m..], wide(k)),
-        Numeral::Bad => Outcome::Refused(Refusal::of(Why::StoredNumber)),
-        Numeral::Short => Outcome::Refused(Refusal::of(Why::StoredShort)),
+        Numeral::Bad => Err(Refusal::of(Why::StoredNumber)),
+        Numeral::Short => Err(Refusal::of(Why::StoredShort)),
     }
 }

@@ -10,7 +10,7 @@ ghost use Rattle.std.specs.Prelude.{◌≡◌, length};
 ghost use Rattle.fields.specs.Fields.{last_of};
 ghost use Rattle.stored.specs.Entries.{numbers_from, ruled as ruled_of, entry, NumbersIn};
 
-use answers::{Outcome, Refusal, Why};
+use answers::{Refusal, Why};
 use fields::{BLOCK_NUMBERS, follows, in_range, style_from};
 use rooms::wide;
 use sevens::{Numeral, number_at};
@@ -24,7 +24,7 @@ pub enum Entry {
 }
 
 // As many numbers as the room has words, one after the other: how many bytes they have.
-pub fn numbers_at(s: &[u8], words: &mut [u32]) -> Outcome
+pub fn numbers_at(s: &[u8], words: &mut [u32]) -> Result<usize, Refusal>
     ensures { NumbersIn (numbers_from (length words.old) s.now) (length s.now) result
         words.new }
 {
@@ -39,14 +39,14 @@ pub fn numbers_at(s: &[u8], words: &mut [u32]) -> Outcome
                 i += 1;
             }
             Numeral::Bad => {
-                return Outcome::Refused(Refusal::of(Why::StoredNumber));
+                return Err(Refusal::of(Why::StoredNumber));
             }
             Numeral::Short => {
-                return Outcome::Refused(Refusal::of(Why::StoredShort));
+                return Err(Refusal::of(Why::StoredShort));
             }
         }
     }
-    Outcome::Done(s.len() - t.len())
+    Ok(s.len() - t.len())
 }
 
 // A block of a style with n bytes of text, whose numbers have m bytes and are followed by t.
@@ -72,8 +72,8 @@ pub fn block_at(s: &[u8], begun: bool, before: Style) -> Entry
     let mut words = [0u32; BLOCK_NUMBERS];
     let numbers = numbers_at(s, &mut words);
     match numbers {
-        Outcome::Refused(refusal) => Entry::Bad(refusal),
-        Outcome::Done(m) => {
+        Err(refusal) => Entry::Bad(refusal),
+        Ok(m) => {
             let style = style_from(&words[..BARE_WORDS]);
             let n = wide(words[BARE_WORDS]);
             ruled(&s[m..], begun, before, style, n, m)

@@ -18,7 +18,7 @@ ghost use Rattle.stored.specs.Stored.{answer_number, answer_counts};
 use crate::entry::{Entry, block_at};
 use answers::{Refusal, Why};
 use blocks::{BLOCK_WORDS, BLOCKS, FROM, Laid, PAGE_WORDS, Page, Room, TEXT, add};
-use rooms::{clear_bytes_from, clear_from, wide};
+use rooms::{clear_from, wide};
 use sevens::{Numeral, number_at};
 use styles::Style;
 
@@ -36,7 +36,7 @@ pub enum Answer {
 }
 
 // Lays k blocks onto a page.
-fn lay_blocks(list: &[u8], k: usize, blocks: &mut [u32], text: &mut [u8]) -> Laid
+fn lay_blocks(list: &[u8], k: usize, blocks: &mut [u32], text: &mut [u8]) -> Result<Page, Refusal>
     ensures laid { told result blocks.new text.new
         ≡ lay_all (on blank_page blocks.old text.old) (blocks_from k none list.now) }
     ensures still { Still result (length blocks.old) (length text.old) }
@@ -50,17 +50,17 @@ fn lay_blocks(list: &[u8], k: usize, blocks: &mut [u32], text: &mut [u8]) -> Lai
         let e = block_at(t, begun, before);
         match e {
             Entry::Bad(refusal) => {
-                return Laid::Full(refusal);
+                return Err(refusal);
             }
             Entry::Is(style, m, count) => {
                 let u = &t[m..];
                 let laid = add(&mut page, style, &u[..count], blocks, text);
                 match laid {
                     Room::NoBlock => {
-                        return Laid::Full(Refusal::of(Why::BlockRoom));
+                        return Err(Refusal::of(Why::BlockRoom));
                     }
                     Room::NoText => {
-                        return Laid::Full(Refusal::of(Why::TextRoom));
+                        return Err(Refusal::of(Why::TextRoom));
                     }
                     Room::Fits => {}
                 }
@@ -72,9 +72,9 @@ fn lay_blocks(list: &[u8], k: usize, blocks: &mut [u32], text: &mut [u8]) -> Lai
         }
     }
     if 0 < t.len() {
-        return Laid::Full(Refusal::of(Why::StoredLong));
+        return Err(Refusal::of(Why::StoredLong));
     }
-    Laid::On(Page {
+    Ok(Page {
         blocks: page[BLOCKS],
         text: page[TEXT],
         from: page[FROM],
@@ -82,7 +82,7 @@ fn lay_blocks(list: &[u8], k: usize, blocks: &mut [u32], text: &mut [u8]) -> Lai
 }
 
 // Lays a whole list onto a page.
-fn lay_list(list: &[u8], blocks: &mut [u32], text: &mut [u8]) -> Laid
+fn lay_list(list: &[u8], blocks: &mut [u32], text: &mut [u8]) -> Result<Page, Refusal>
     ensures laid { told result blocks.new text.new
         ≡ lay_all (on blank_page blocks.old text.old) (stored list.now) }
     ensures still { Still result (length blocks.old) (length text.old) }
@@ -90,35 +90,35 @@ fn lay_list(list: &[u8], blocks: &mut [u32], text: &mut [u8]) -> Laid
     let n = number_at(list);
     match n {
         Numeral::Is(k, m) => lay_blocks(&list[m..], wide(k), blocks, text),
-        Numeral::Bad => Laid::Full(Refusal::of(Why::StoredNumber)),
-        Numeral::Short => Laid::Full(Refusal::of(Why::StoredShort)),
+        Numeral::Bad => Err(Refusal::of(Why::StoredNumber)),
+        Numeral::Short => Err(Refusal::of(Why::StoredShort)),
     }
 }
 
 // A refusal, and both rooms all zero.
-fn refuse(refusal: Refusal, blocks: &mut [u32], text: &mut [u8]) -> Answer
-    ensures answer { result ≡ Answer.Refuses refusal }
+fn refuse(refusal: Refusal, blocks: &mut [u32], text: &mut [u8]) -> Result<Counts, Refusal>
+    ensures answer { result ≡ Err refusal }
     ensures block_room { blocks.new ≡ replicate (length blocks.old) 0 }
     ensures text_room { text.new ≡ replicate (length text.old) 0 }
 {
-    clear_from(blocks, 0);
-    clear_bytes_from(text, 0);
-    Answer::Refuses(refusal)
+    clear_from(blocks, 0, 0);
+    clear_from(text, 0, 0);
+    Err(refusal)
 }
 
 // Reads a stored list.
-pub fn read_list(list: &[u8], blocks: &mut [u32], text: &mut [u8]) -> Answer
+pub fn read_list(list: &[u8], blocks: &mut [u32], text: &mut [u8]) -> Result<Counts, Refusal>
     ensures { ReadsList list.now blocks.old text.old result blocks.new text.new }
 {
     let laid = lay_list(list, blocks, text);
     match laid {
-        Laid::Full(refusal) => refuse(refusal, blocks, text),
-        Laid::On(page) => {
+        Err(refusal) => refuse(refusal, blocks, text),
+        Ok(page) => {
             let count = page.blocks;
             let length = page.text;
-            clear_from(blocks, count * BLOCK_WORDS);
-            clear_bytes_from(text, length);
-            Answer::Read(Counts {
+            clear_from(blocks, count * BLOCK_WORDS, 0);
+            clear_from(text, length, 0);
+            Ok(Counts {
                 blocks: count,
                 text: length,
             })
@@ -132,8 +132,8 @@ impl Answer {
         ensures { result ≡ answer_number self }
     {
         match self {
-            Answer::Read(_) => 0,
-            Answer::Refuses(refusal) => refusal.number(),
+            Ok(_) => 0,
+            Err(refusal) => refusal.number(),
         }
     }
 
@@ -142,8 +142,8 @@ impl Answer {
         ensures { result ≡ answer_counts self }
     {
         match self {
-            Answer::Read(counts) => counts,
-            Answer::Refuses(_) => Counts { blocks: 0, text: 0 },
+            Ok(counts) => counts,
+            Err(_) => Counts { blocks: 0, text: 0 },
         }
     }
 }

@@ -12,13 +12,12 @@ use lib.ListN.{length, take, drop, length-drop}
 use lib.Seq.{take_all}
 use Rattle.answers.specs.declared.Refusal.{Refusal}
 use Rattle.answers.specs.declared.Why.TheVariants.{IndentNotZero}
-use Rattle.answers.specs.declared.Outcome.{Outcome}
-use Rattle.answers.specs.declared.Outcome.TheVariants.{Done, Refused}
 use Rattle.answers.specs.Answers.{refusal}
 use Rattle.styles.specs.declared.Style.{Style}
 use Rattle.styles.specs.Styles.{style_at, flush}
 use Rattle.blocks.specs.Pages.{block_words}
 use Rattle.storing.specs.Storing.{indented, unless_indented}
+use Rattle.std.specs.Prelude.{Result, Ok, Err}
 
 module _ (ws : List ℕ) where
   one_fewer : block_words ≤ length ws → length ws / block_words ≡ suc (length (drop block_words ws) / block_words)
@@ -41,13 +40,13 @@ module _ (ws : List ℕ) where
   indent-none h = let z : length ws / block_words ≡ 0 = omega arith in rw z
 
 -- what is left of an answer
-module _ {i : Bool} {o : Outcome} where
-  pub unless-found : {n : ℕ} → o ≡ Done n → {b : Bool} → b ≡ i → b ≡ true → {r : Refusal} → r ≡ refusal IndentNotZero → Refused r ≡ unless_indented i o
+module _ {i : Bool} {o : Result ℕ Refusal} where
+  pub unless-found : {n : ℕ} → o ≡ Ok n → {b : Bool} → b ≡ i → b ≡ true → {r : Refusal} → r ≡ refusal IndentNotZero → Err r ≡ unless_indented i o
   unless-found e f t q = rw (e, ← f, t, q)
 
-  pub unless-none : {n : ℕ} → o ≡ Done n → {b : Bool} → b ≡ i → b ≡ false → Done n ≡ unless_indented i o
+  pub unless-none : {n : ℕ} → o ≡ Ok n → {b : Bool} → b ≡ i → b ≡ false → Ok n ≡ unless_indented i o
   unless-none e f t = rw (e, ← f, t)
 
-pub unless-refused : (i : Bool) (o : Outcome) {r : Refusal} → o ≡ Refused r → Refused r ≡ unless_indented i o
+pub unless-refused : (i : Bool) (o : Result ℕ Refusal) {r : Refusal} → o ≡ Err r → Err r ≡ unless_indented i o
 unless-refused true o e = rw e
 unless-refused false o e = rw e

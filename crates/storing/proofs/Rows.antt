@@ -10,10 +10,8 @@ use borrow.Author.Tests.{not-true, not-false, eq-eqb, ne_eqb}
 use lib.ListN.{length, take, drop, length-take, length-drop}
 use lib.Seq.{take_all}
 use Rattle.answers.specs.declared.Why.TheVariants.{StoredField}
-use Rattle.answers.specs.declared.Outcome.{Outcome}
-use Rattle.answers.specs.declared.Outcome.TheVariants.{Done, Refused}
 use Rattle.answers.specs.Answers.{refusal}
-use Rattle.rooms.specs.Streams.{Stream, end, stop, and_then, by_refusal}
+use Rattle.rooms.specs.Streams.{Stream, end, stop, and_then}
 use Rattle.rooms.specs.Rooms.{Wrote}
 use Rattle.rooms.proofs.Rooms.{wrote_none, wrote-stop, wrote_then}
 use Rattle.sevens.specs.Sevens.{byte_layout, streamed}
@@ -28,7 +26,7 @@ use Rattle.storing.specs.Bytes.{block_bytes}
 use Rattle.storing.proofs.Putting.{Ahead, wrote-length, length-block}
 use Rattle.storing.specs.Lists.{pieces_from, bytes_of}
 use Rattle.answers.specs.declared.Refusal.{Refusal}
-use Rattle.rooms.proofs.Streams.{refusal-apart}
+use Rattle.std.specs.Prelude.{Result, Ok, Err}
 
 -- the bytes of the records that words are
 abbrev pub rows_of : List ℕ → Last → ℕ → List ℕ → Stream Refusal ℕ
@@ -73,30 +71,30 @@ rows_start blocks tx n room s h = record { within = omega arith; place = omega a
 
 module _ {blocks tx : List ℕ} {n : ℕ} {room₀ room ws : List ℕ} {begun : Bool} {before : Style} {p at : ℕ}
     (l : Rows blocks tx n room₀ room ws begun before p at) where
-  stops : rows_of ws (last_of begun before) p tx ≡ stop (refusal StoredField) → {r : Outcome} → r ≡ Refused (refusal StoredField)
-      → Wrote byte_layout by_refusal n room₀ (rows_of blocks none 0 tx) r room
-  stops e q = rw q (l.left (Refused (refusal StoredField)) room (wrote-stop byte_layout e refl))
+  stops : rows_of ws (last_of begun before) p tx ≡ stop (refusal StoredField) → {r : Result ℕ Refusal} → r ≡ Err (refusal StoredField)
+      → Wrote byte_layout n room₀ (rows_of blocks none 0 tx) r room
+  stops e q = rw q (l.left (Err (refusal StoredField)) room (wrote-stop byte_layout e refl))
 
-  pub rows-stop : block_words ≤ length ws → {a : Bool} {r : Outcome} → a ≡ fits (last_of begun before) p ws tx → not a ≡ true
-      → r ≡ Refused (refusal StoredField)
-      → Wrote byte_layout by_refusal n room₀ (rows_of blocks none 0 tx) r room
+  pub rows-stop : block_words ≤ length ws → {a : Bool} {r : Result ℕ Refusal} → a ≡ fits (last_of begun before) p ws tx → not a ≡ true
+      → r ≡ Err (refusal StoredField)
+      → Wrote byte_layout n room₀ (rows_of blocks none 0 tx) r room
   rows-stop h {a} e t q = stops (row-bad (last_of begun before) p tx ws h (sym e ∙ not-true a t)) q
 
-  pub rows-over : length ws < block_words → p < length tx → {r : Outcome} → r ≡ Refused (refusal StoredField)
-      → Wrote byte_layout by_refusal n room₀ (rows_of blocks none 0 tx) r room
+  pub rows-over : length ws < block_words → p < length tx → {r : Result ℕ Refusal} → r ≡ Err (refusal StoredField)
+      → Wrote byte_layout n room₀ (rows_of blocks none 0 tx) r room
   rows-over h f q = stops (rows-rest (last_of begun before) p tx ws h (λ e. omega arith)) q
 
-  pub rows-done : length ws < block_words → length tx ≤ p → Wrote byte_layout by_refusal n room₀ (rows_of blocks none 0 tx) (Done at) room
+  pub rows-done : length ws < block_words → length tx ≤ p → Wrote byte_layout n room₀ (rows_of blocks none 0 tx) (Ok at) room
   rows-done h e =
       let q : p ≡ length tx = omega (arith, l.within) in
-      l.left (Done at) room (wrote_none byte_layout (rows_end (last_of begun before) p tx ws h q))
+      l.left (Ok at) room (wrote_none byte_layout (rows_end (last_of begun before) p tx ws h q))
 
   module _ (h : block_words ≤ length ws) {a : Bool} (e : a ≡ fits (last_of begun before) p ws tx) (t : not a ≡ false) where
     pub row-fit : Fit (last_of begun before) p ws tx
     row-fit = fits-fit (last_of begun before) p ws tx (sym e ∙ not-false a t)
 
     pub rows_more : {s : Style} {count : ℕ} → s ≡ style_at ws → count ≡ length_at ws → {at' : ℕ} {room' : List ℕ}
-        → Wrote byte_layout by_refusal at room (streamed (block_bytes (piece s (take (p + count - p) (drop p tx))))) (Done at') room'
+        → Wrote byte_layout at room (streamed (block_bytes (piece s (take (p + count - p) (drop p tx))))) (Ok at') room'
         → Rows blocks tx n room₀ room' (take (length ws - block_words) (drop block_words ws)) true s (p + count) at'
     rows_more {s} {count} es ec {at'} {room'} w =
         let k : p + count - p ≡ length_at ws = omega arith in
@@ -112,5 +110,5 @@ module _ {blocks tx : List ℕ} {n : ℕ} {room₀ room ws : List ℕ} {begun : 
           within = omega (arith, l.within, f.within);
           place = omega (arith, l.place, f.some, place_after (block_bytes x) w, length-block x);
           same = wrote-length w ∙ l.same;
-          left = λ r room'' v. l.left r room'' (wrote_then byte_layout refusal-apart next c w refl v);
+          left = λ r room'' v. l.left r room'' (wrote_then byte_layout next c w refl v);
         }

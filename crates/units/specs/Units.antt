@@ -1,20 +1,19 @@
 -- 01, Body, and 02, A1: the text of a run of adjacent `u` tokens, by RFC 2781 (UTF-16) and RFC 3629 (UTF-8). Assumes nothing: these are
 -- definitions.
 use Rattle.std.specs.Prelude.{ℕ, ◌+◌, ◌-◌, ◌*◌, ◌%◌, List, [], ◌∷◌, ◌++◌, Bool, true, false, cond, ◌&&◌, leb, ltb}
-use Rattle.tokens.specs.declared.Property.{Property}
-use Rattle.tokens.specs.declared.Property.TheVariants.{None, Value}
 use Rattle.utf8.specs.Utf8.{utf8}
 use Rattle.units.specs.declared.Run.{Run}
 use Rattle.units.specs.declared.Gave.{Gave}
+use Rattle.std.specs.Prelude.{Option, Some, None}
 
 -- "a negative gets 65,536 added; outside 0 to 65,535, or no number, gives none." A negative number n stands as n + 2^32, so
 -- with 65,536 added it is 4,294,901,760 less than it stands
-unfoldable pub unit_of : Property → List ℕ
+unfoldable pub unit_of : Option ℕ → List ℕ
 unit_of None = []
-unit_of (Value v) = cond (ltb v 65536) (v ∷ []) (cond (leb 4294901760 v) ((v - 4294901760) ∷ []) [])
+unit_of (Some v) = cond (ltb v 65536) (v ∷ []) (cond (leb 4294901760 v) ((v - 4294901760) ∷ []) [])
 
 -- "A run of adjacent `u` tokens gives units"
-unfoldable pub units : List Property → List ℕ
+unfoldable pub units : List (Option ℕ) → List ℕ
 units [] = []
 units (n ∷ ns) = unit_of n ++ units ns
 
@@ -59,7 +58,7 @@ utf8_all [] = []
 utf8_all (c ∷ cs) = utf8 c ++ utf8_all cs
 
 -- the text of a run's numbers under a skip count
-unfoldable pub run_text : ℕ → List Property → List ℕ
+unfoldable pub run_text : ℕ → List (Option ℕ) → List ℕ
 run_text skip ns = utf8_all (decode (kept skip (units ns)))
 
 -- A run, token by token. What has come so far: whether a unit has, how many were skipped since the last kept one, and a high
@@ -91,7 +90,7 @@ met_any skip run [] = nothing run
 met_any skip run (u ∷ us) = met skip run u
 
 -- a token
-unfoldable pub step : ℕ → Run → Property → Gave
+unfoldable pub step : ℕ → Run → Option ℕ → Gave
 step skip run n = met_any skip run (unit_of n)
 
 -- what ends a run: a surrogate that waits is lost
@@ -104,7 +103,7 @@ unfoldable pub taken_any : Run → List ℕ → Gave
 taken_any run [] = cut_short run
 taken_any run (u ∷ us) = taken run u
 
-unfoldable pub standard_step : Run → Property → Gave
+unfoldable pub standard_step : Run → Option ℕ → Gave
 standard_step run n = taken_any run (unit_of n)
 
 -- the scalar values that a token gave

@@ -11,7 +11,6 @@
 ghost use Rattle.std.specs.Prelude.{◌≡◌, ltb};
 ghost use Rattle.units.specs.Units.{is_high, is_low, alone as alone_of, pair as pair_of, before as before_of, nothing as nothing_of, cut_short, taken as taken_of, met as met_of, step as step_of, standard_step};
 
-use tokens::Property;
 
 // Whether a unit has come, how many were skipped since the last kept one, a high surrogate that waits (0 if none does).
 #[derive(Clone, Copy)]
@@ -138,12 +137,12 @@ fn met(skip: u32, run: Run, u: u32) -> Gave
 }
 
 // A token's number: a negative gets 65,536 added; outside 0 to 65,535, or no number, gives no unit.
-pub fn step(skip: u32, run: Run, number: Property) -> Gave
+pub fn step(skip: u32, run: Run, number: Option<u32>) -> Gave
     ensures { result ≡ step_of skip run number }
 {
     match number {
-        Property::None => nothing(run),
-        Property::Value(v) => {
+        None => nothing(run),
+        Some(v) => {
             if v < 65536 {
                 return met(skip, run, v);
             }
@@ -173,12 +172,12 @@ fn cut_short(run: Run) -> Gave
 }
 
 // A token's number by the specification.
-pub fn standard_step(run: Run, number: Property) -> Gave
+pub fn standard_step(run: Run, number: Option<u32>) -> Gave
     ensures { result ≡ standard_step run number }
 {
     match number {
-        Property::None => cut_short(run),
-        Property::Value(v) => {
+        None => cut_short(run),
+        Some(v) => {
             if v < 65536 {
                 return taken(run, v);
             }

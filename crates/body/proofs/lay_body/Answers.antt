@@ -61,7 +61,7 @@ pub loop-n-smaller : goal.loop-n-smaller
 loop-n-smaller c = let u = c.passed-h.ensures.1 in let z = c.loop-n-test.true in let w = c.loop-n.invariant.words in let v = c.loop-n.invariant.few in omega (arith, u, z, w, v)
 
 pub loop-n-preserved : goal.loop-n-preserved
-loop-n-preserved c = let t = c.turn-moved in turn_on c.loop-n.invariant c.loop-n-test.true c.passed-h.ensures t.ensures.turns c.in-Holds.is refl t.ensures.run_len t.auto.blocks t.auto.text (c.owed_behind-behind.ensures _ (passed-open c.args.source.now _ _ (c.passed-h.ensures.0 c.args.source.now)))
+loop-n-preserved c = let t = c.turn-moved in turn_on c.loop-n.invariant c.loop-n-test.true c.passed-h.ensures t.ensures.turns c.in-Ok.is refl t.ensures.run_len t.auto.blocks t.auto.text (c.owed_behind-behind.ensures _ (passed-open c.args.source.now _ _ (c.passed-h.ensures.0 c.args.source.now)))
 
 pub finish-requires : goal.finish-requires
 finish-requires c = let l = c.loop-n.invariant in (l.deep, l.all, l.three, l.paged)

@@ -22,17 +22,17 @@ cut_slice-one-requires c = (simp length-take (omega (arith, c.loop-t.invariant.f
 pub overflow_cast-p : goal.overflow_cast-p
 overflow_cast-p c = omega (arith, c.loop-t.invariant.fits)
 
-pub returns-in-Refused : goal.returns-in-Refused
-returns-in-Refused c = loop-stop _ c.loop-t.invariant (c.slice_end_by-e.ensures.length, (c.slice_end_by-e.ensures.within, c.slice_end_by-e.ensures.some)) c.if-t-e.false c.cut_slice-one.ensures c.in-Refused.is refl c.at.ensures
+pub returns-in-Err : goal.returns-in-Err
+returns-in-Err c = loop-stop _ c.loop-t.invariant (c.slice_end_by-e.ensures.length, (c.slice_end_by-e.ensures.within, c.slice_end_by-e.ensures.some)) c.if-t-e.false c.cut_slice-one.ensures c.in-Err.is refl c.at.ensures
 
-pub overflow_cast-p-in-Done : goal.overflow_cast-p-in-Done
-overflow_cast-p-in-Done c = omega (arith, c.loop-t.invariant.fits)
+pub overflow_cast-p-in-Ok : goal.overflow_cast-p-in-Ok
+overflow_cast-p-in-Ok c = omega (arith, c.loop-t.invariant.fits)
 
 pub overflow_cast-e : goal.overflow_cast-e
 overflow_cast-e c = omega (arith, c.loop-t.invariant.fits, c.if-t-e.false)
 
 pub seal-requires : goal.seal-requires
-seal-requires c = next-above _ c.loop-t.invariant (c.slice_end_by-e.ensures.length, (c.slice_end_by-e.ensures.within, c.slice_end_by-e.ensures.some)) c.if-t-e.false c.cut_slice-one.ensures c.in-Done.is
+seal-requires c = next-above _ c.loop-t.invariant (c.slice_end_by-e.ensures.length, (c.slice_end_by-e.ensures.within, c.slice_end_by-e.ensures.some)) c.if-t-e.false c.cut_slice-one.ensures c.in-Ok.is
 
 pub slice_bounds-t-count : goal.slice_bounds-t-count
 slice_bounds-t-count c = omega (arith, c.if-t-e.false)
@@ -44,7 +44,7 @@ pub loop-t-smaller : goal.loop-t-smaller
 loop-t-smaller c = loop-falls _ c.loop-t.invariant (c.slice_end_by-e.ensures.length, (c.slice_end_by-e.ensures.within, c.slice_end_by-e.ensures.some)) c.if-t-e.false
 
 pub loop-t-preserved : goal.loop-t-preserved
-loop-t-preserved c = loop-next _ c.loop-t.invariant (c.slice_end_by-e.ensures.length, (c.slice_end_by-e.ensures.within, c.slice_end_by-e.ensures.some)) c.if-t-e.false c.cut_slice-one.ensures c.in-Done.is refl refl c.seal.ensures
+loop-t-preserved c = loop-next _ c.loop-t.invariant (c.slice_end_by-e.ensures.length, (c.slice_end_by-e.ensures.within, c.slice_end_by-e.ensures.some)) c.if-t-e.false c.cut_slice-one.ensures c.in-Ok.is refl refl c.seal.ensures
 
 pub last_by-requires : goal.last_by-requires
 last_by-requires c =

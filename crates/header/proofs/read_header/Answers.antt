@@ -15,16 +15,16 @@ overflow_mul-f c =
     let a = c.args in let x = tables (table_limit font_words (length a.fonts.now)) (table_limit colour_words (length a.colours.now)) (walk (tokens_all a.source.now a.count a.tokens.now)) in
     let u = c.ranges in
     let v = c.well_formed in
-    let h = header-fits x _ _ _ c.walk_tables-header.ensures c.in-Read.is in
+    let h = header-fits x _ _ _ c.walk_tables-header.ensures c.in-Ok.is in
     let k = c.walk_tables-header.auto.fonts in
     omega arith
 
-pub returns-in-Refused : goal.returns-in-Refused
-returns-in-Refused c =
+pub returns-in-Err : goal.returns-in-Err
+returns-in-Err c =
     let a = c.args in let x = tables (table_limit font_words (length a.fonts.now)) (table_limit colour_words (length a.colours.now)) (walk (tokens_all a.source.now a.count a.tokens.now)) in
-    header_refused _ _ x _ _ _ c.walk_tables-header.ensures c.in-Refused.is _ _
+    header_refused _ _ x _ _ _ c.walk_tables-header.ensures c.in-Err.is _ _
 
-pub returns-in-Read : goal.returns-in-Read
-returns-in-Read c =
+pub returns-in-Ok : goal.returns-in-Ok
+returns-in-Ok c =
     let a = c.args in let x = tables (table_limit font_words (length a.fonts.now)) (table_limit colour_words (length a.colours.now)) (walk (tokens_all a.source.now a.count a.tokens.now)) in
-    header_read _ _ x _ _ _ c.walk_tables-header.ensures c.in-Read.is _ _ c.clear_from.ensures c.clear_from-in-Read.ensures c.walk_tables-header.auto.fonts c.walk_tables-header.auto.colours
+    header_read _ _ x _ _ _ c.walk_tables-header.ensures c.in-Ok.is _ _ c.clear_from.ensures c.clear_from-in-Ok.ensures c.walk_tables-header.auto.fonts c.walk_tables-header.auto.colours

@@ -18,22 +18,22 @@ pub enter-e-requires : goal.enter-e-requires
 enter-e-requires c = walking-ready c.loop-n.invariant c.loop-n-test.true c.is_opening-opening.ensures
 
 pub overflow_mul-passed : goal.overflow_mul-passed
-overflow_mul-passed c = let k = on-small c.loop-n.invariant c.loop-n-test.true c.is_opening-opening.ensures c.if-opening.true _ _ _ c.enter-e.ensures c.in-On.is in omega arith
+overflow_mul-passed c = let k = on-small c.loop-n.invariant c.loop-n-test.true c.is_opening-opening.ensures c.if-opening.true _ _ _ c.enter-e.ensures c.in-Ok.is in omega arith
 
 pub offset_bounds-t-passed : goal.offset_bounds-t-passed
-offset_bounds-t-passed c = let k = on-small c.loop-n.invariant c.loop-n-test.true c.is_opening-opening.ensures c.if-opening.true _ _ _ c.enter-e.ensures c.in-On.is in omega arith
+offset_bounds-t-passed c = let k = on-small c.loop-n.invariant c.loop-n-test.true c.is_opening-opening.ensures c.if-opening.true _ _ _ c.enter-e.ensures c.in-Ok.is in omega arith
 
-pub slice_bounds-t-count-in-On : goal.slice_bounds-t-count-in-On
-slice_bounds-t-count-in-On c = on-words c.loop-n.invariant c.loop-n-test.true c.is_opening-opening.ensures c.if-opening.true _ _ _ c.enter-e.ensures c.in-On.is
+pub slice_bounds-t-count-in-Ok : goal.slice_bounds-t-count-in-Ok
+slice_bounds-t-count-in-Ok c = on-words c.loop-n.invariant c.loop-n-test.true c.is_opening-opening.ensures c.if-opening.true _ _ _ c.enter-e.ensures c.in-Ok.is
 
-pub overflow_sub-n-in-On : goal.overflow_sub-n-in-On
-overflow_sub-n-in-On c = on-within c.loop-n.invariant c.loop-n-test.true c.is_opening-opening.ensures c.if-opening.true _ _ _ c.enter-e.ensures c.in-On.is
+pub overflow_sub-n-in-Ok : goal.overflow_sub-n-in-Ok
+overflow_sub-n-in-Ok c = on-within c.loop-n.invariant c.loop-n-test.true c.is_opening-opening.ensures c.if-opening.true _ _ _ c.enter-e.ensures c.in-Ok.is
 
-pub loop-n-smaller-in-On : goal.loop-n-smaller-in-On
-loop-n-smaller-in-On c = omega (arith, on-within c.loop-n.invariant c.loop-n-test.true c.is_opening-opening.ensures c.if-opening.true _ _ _ c.enter-e.ensures c.in-On.is)
+pub loop-n-smaller-in-Ok : goal.loop-n-smaller-in-Ok
+loop-n-smaller-in-Ok c = omega (arith, on-within c.loop-n.invariant c.loop-n-test.true c.is_opening-opening.ensures c.if-opening.true _ _ _ c.enter-e.ensures c.in-Ok.is)
 
-pub loop-n-preserved-in-On : goal.loop-n-preserved-in-On
-loop-n-preserved-in-On c = walking_on c.loop-n.invariant c.loop-n-test.true c.is_opening-opening.ensures c.if-opening.true _ _ _ c.enter-e.ensures c.enter-e.auto.fonts c.enter-e.auto.colours c.in-On.is
+pub loop-n-preserved-in-Ok : goal.loop-n-preserved-in-Ok
+loop-n-preserved-in-Ok c = walking_on c.loop-n.invariant c.loop-n-test.true c.is_opening-opening.ensures c.if-opening.true _ _ _ c.enter-e.ensures c.enter-e.auto.fonts c.enter-e.auto.colours c.in-Ok.is
 
 pub shape_of-fonts-in-Bad : goal.shape_of-fonts-in-Bad
 shape_of-fonts-in-Bad c = c.enter-e.auto.fonts ∙ c.loop-n.invariant.fonts_long

@@ -9,8 +9,8 @@ use Rattle.fonts.specs.Rows.{font_words}
 use Rattle.colours.specs.Colours.{colour_words}
 use Rattle.parser.proofs.letter.Goals as goal
 
-pub returns-in-Refused : goal.returns-in-Refused
-returns-in-Refused c = let a = c.args in let ts = tokens_all a.source.now a.n a.tokens.now in let x = tables (table_limit font_words (length a.fonts.now)) (table_limit colour_words (length a.colours.now)) (walk ts) in letter-refused a.reading (length a.fonts.now) (length a.colours.now) (length a.blocks.now) (length a.text.now) ts a.n x _ _ _ c.read_header-header.ensures c.in-Refused.is _ _
+pub returns-in-Err : goal.returns-in-Err
+returns-in-Err c = let a = c.args in let ts = tokens_all a.source.now a.n a.tokens.now in let x = tables (table_limit font_words (length a.fonts.now)) (table_limit colour_words (length a.colours.now)) (walk ts) in letter-refused a.reading (length a.fonts.now) (length a.colours.now) (length a.blocks.now) (length a.text.now) ts a.n x _ _ _ c.read_header-header.ensures c.in-Err.is _ _
 
-pub returns-in-Read : goal.returns-in-Read
-returns-in-Read c = let a = c.args in let ts = tokens_all a.source.now a.n a.tokens.now in let x = tables (table_limit font_words (length a.fonts.now)) (table_limit colour_words (length a.colours.now)) (walk ts) in letter-read a.reading (length a.fonts.now) (length a.colours.now) (length a.blocks.now) (length a.text.now) ts a.n x _ _ _ c.read_header-header.ensures c.in-Read.is _ _ _ c.read_body.ensures
+pub returns-in-Ok : goal.returns-in-Ok
+returns-in-Ok c = let a = c.args in let ts = tokens_all a.source.now a.n a.tokens.now in let x = tables (table_limit font_words (length a.fonts.now)) (table_limit colour_words (length a.colours.now)) (walk ts) in letter-read a.reading (length a.fonts.now) (length a.colours.now) (length a.blocks.now) (length a.text.now) ts a.n x _ _ _ c.read_header-header.ensures c.in-Ok.is _ _ _ c.read_body.ensures

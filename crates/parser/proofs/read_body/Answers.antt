@@ -9,16 +9,16 @@ pub overflow_mul-count : goal.overflow_mul-count
 overflow_mul-count c =
     let start = c in
     let b = start.well_formed in
-    let h = count-words (length start.args.blocks.now) (length start.args.text.now) (rw c.in-On.is at c.lay_body-laid.ensures.still) in
+    let h = count-words (length start.args.blocks.now) (length start.args.text.now) (rw c.in-Ok.is at c.lay_body-laid.ensures.still) in
     omega arith
 
-pub returns-in-Full : goal.returns-in-Full
-returns-in-Full c =
+pub returns-in-Err : goal.returns-in-Err
+returns-in-Err c =
     let start = c in
-    body-full start.args.reading _ start.args.blocks.now start.args.text.now _ _ _ _ _ _ c.lay_body-laid.ensures.laid c.in-Full.is _ _
+    body-full start.args.reading _ start.args.blocks.now start.args.text.now _ _ _ _ _ _ c.lay_body-laid.ensures.laid c.in-Err.is _ _
 
-pub returns-in-On : goal.returns-in-On
-returns-in-On c =
+pub returns-in-Ok : goal.returns-in-Ok
+returns-in-Ok c =
     let start = c in
-    body-laid start.args.reading _ start.args.blocks.now start.args.text.now _ _ _ _ _ _ c.lay_body-laid.ensures.laid c.in-On.is
-    c.clear_from.ensures c.clear_bytes_from.ensures
+    body-laid start.args.reading _ start.args.blocks.now start.args.text.now _ _ _ _ _ _ c.lay_body-laid.ensures.laid c.in-Ok.is
+    c.clear_from.ensures c.clear_from.ensures

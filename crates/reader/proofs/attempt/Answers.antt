@@ -8,14 +8,14 @@ use Rattle.reader.proofs.attempt.Goals as goal
 
 pub parse-requires : goal.parse-requires
 parse-requires c =
-    let d = c.in-Done.is in
+    let d = c.in-Ok.is in
     let w = c.cut-outcome.ensures in
     let f = rw d at w.fits in
     let k = c.cut-outcome.auto.reading in
     (omega arith, rw d at w.few)
 
-pub returns-in-Refused : goal.returns-in-Refused
-returns-in-Refused c = let a = c.args in record { token_room = c.cut-outcome.ensures.content; few = (λ k q. absurd (let v : ◌≡◌ {A = ℕ} 0 1 = cc in omega arith)); letter = cut-refused a.reading a.source.now (sizes a.tokens.now a.fonts.now a.colours.now a.blocks.now a.text.now) c.cut-outcome.ensures.answer c.in-Refused.is _ _ _ _ _ }
+pub returns-in-Err : goal.returns-in-Err
+returns-in-Err c = let a = c.args in record { token_room = c.cut-outcome.ensures.content; few = (λ k q. absurd (let v : ◌≡◌ {A = ℕ} 0 1 = cc in omega arith)); letter = cut-refused a.reading a.source.now (sizes a.tokens.now a.fonts.now a.colours.now a.blocks.now a.text.now) c.cut-outcome.ensures.answer c.in-Err.is _ _ _ _ _ }
 
-pub returns-in-Done : goal.returns-in-Done
-returns-in-Done c = let a = c.args in record { token_room = c.cut-outcome.ensures.content; few = (λ k q. let d = c.in-Done.is in let n = c.cut-outcome.ensures.counts _ d in let f = rw d at c.cut-outcome.ensures.few in omega arith); letter = cut-parsed a.reading a.source.now (sizes a.tokens.now a.fonts.now a.colours.now a.blocks.now a.text.now) c.cut-outcome.ensures.answer c.in-Done.is _ (c.cut-outcome.ensures.counts _ c.in-Done.is) (c.cut-outcome.ensures.reads _ c.in-Done.is) c.cut-outcome.auto.room _ _ _ _ _ c.parse.ensures }
+pub returns-in-Ok : goal.returns-in-Ok
+returns-in-Ok c = let a = c.args in record { token_room = c.cut-outcome.ensures.content; few = (λ k q. let d = c.in-Ok.is in let n = c.cut-outcome.ensures.counts _ d in let f = rw d at c.cut-outcome.ensures.few in omega arith); letter = cut-parsed a.reading a.source.now (sizes a.tokens.now a.fonts.now a.colours.now a.blocks.now a.text.now) c.cut-outcome.ensures.answer c.in-Ok.is _ (c.cut-outcome.ensures.counts _ c.in-Ok.is) (c.cut-outcome.ensures.reads _ c.in-Ok.is) c.cut-outcome.auto.room _ _ _ _ _ c.parse.ensures }

@@ -3,7 +3,6 @@ use mathlib.Core.Path.{refl}
 use native.Mathlib.Omega.{arith}
 use lib.ListN.{length-take, length-drop}
 use Rattle.rooms.proofs.Rooms.{wrote_then, wrote-stops}
-use Rattle.rooms.proofs.Streams.{name-apart}
 use Rattle.tokens.specs.Tokens.{shown_layout}
 use Rattle.standard.proofs.Rules.{word-parts}
 use Rattle.standard.proofs.Sizes.{named-next}
@@ -18,11 +17,11 @@ named-first-requires c = (simp length-take (omega arith), search rules, search r
 
 pub tail-requires : goal.tail-requires
 tail-requires c =
-    let b = named-next _ _ _ c.named-first.ensures c.in-Done.is in
+    let b = named-next _ _ _ c.named-first.ensures c.in-Ok.is in
     simp (length-take, length-drop) (omega arith)
 
-pub returns-in-Refused : goal.returns-in-Refused
-returns-in-Refused c = wrote-stops shown_layout name-apart _ (word-parts _ _ _ _ _ c.letters_of-k.ensures.0 c.number_length.ensures.0 refl) c.named-first.ensures c.in-Refused.is
+pub returns-in-Err : goal.returns-in-Err
+returns-in-Err c = wrote-stops shown_layout _ (word-parts _ _ _ _ _ c.letters_of-k.ensures.0 c.number_length.ensures.0 refl) c.named-first.ensures c.in-Err.is
 
-pub returns-in-Done : goal.returns-in-Done
-returns-in-Done c = wrote_then shown_layout name-apart _ (word-parts _ _ _ _ _ c.letters_of-k.ensures.0 c.number_length.ensures.0 c.leads.ensures.0) c.named-first.ensures c.in-Done.is c.tail.ensures
+pub returns-in-Ok : goal.returns-in-Ok
+returns-in-Ok c = wrote_then shown_layout _ (word-parts _ _ _ _ _ c.letters_of-k.ensures.0 c.number_length.ensures.0 c.leads.ensures.0) c.named-first.ensures c.in-Ok.is c.tail.ensures

@@ -7,10 +7,10 @@ use Rattle.storing.proofs.Indents.{unless-found, unless-none, unless-refused}
 use Rattle.storing.proofs.unindented.Goals as goal
 
 pub returns-then-has_indent : goal.returns-then-has_indent
-returns-then-has_indent c = unless-found c.in-Done.is c.has_indent.ensures c.if-has_indent.true c.of.ensures
+returns-then-has_indent c = unless-found c.in-Ok.is c.has_indent.ensures c.if-has_indent.true c.of.ensures
 
-pub returns-in-Refused : goal.returns-in-Refused
-returns-in-Refused c = unless-refused (indented (length c.args.blocks.now / block_words) c.args.blocks.now) _ c.in-Refused.is
+pub returns-in-Err : goal.returns-in-Err
+returns-in-Err c = unless-refused (indented (length c.args.blocks.now / block_words) c.args.blocks.now) _ c.in-Err.is
 
 pub returns-else-has_indent : goal.returns-else-has_indent
-returns-else-has_indent c = unless-none c.in-Done.is c.has_indent.ensures c.if-has_indent.false
+returns-else-has_indent c = unless-none c.in-Ok.is c.has_indent.ensures c.if-has_indent.false

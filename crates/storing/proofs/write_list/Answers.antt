@@ -10,5 +10,5 @@ returns c =
     let ws = c.args.blocks.now in
     let tx = c.args.text.now in record {
       answer = settle-answer ws tx w u at-settle.settle-answer.ensures;
-      content = settle-room ws tx w u at-settle.settle-answer.ensures c.clear_bytes_from.ensures c.count-count.ensures;
+      content = settle-room ws tx w u at-settle.settle-answer.ensures c.clear_from.ensures c.count-count.ensures;
     }

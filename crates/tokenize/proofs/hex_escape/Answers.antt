@@ -9,8 +9,8 @@ use Rattle.tokenize.proofs.hex_escape.Goals as goal
 pub returns-then-s-lt2 : goal.returns-then-s-lt2
 returns-then-s-lt2 c = wrote-stop shown_layout (hex-short _ _ c.if-s-lt2.true) refl
 
-pub returns-in-Bad : goal.returns-in-Bad
-returns-in-Bad c = wrote-stop shown_layout (hex-bad _ _ c.if-s-lt2.false _ c.hex_pair-value.ensures c.in-Bad.is) refl
+pub returns-in-None : goal.returns-in-None
+returns-in-None c = wrote-stop shown_layout (hex-bad _ _ c.if-s-lt2.false _ c.hex_pair-value.ensures c.in-None.is) refl
 
-pub returns-in-Is : goal.returns-in-Is
-returns-in-Is c = wrote-token-and (hex-is _ _ c.if-s-lt2.false _ c.hex_pair-value.ensures _ c.in-Is.is) (word-record _ _ c.word.ensures) c.put.ensures c.plain.ensures
+pub returns-in-Some : goal.returns-in-Some
+returns-in-Some c = wrote-token-and (hex-is _ _ c.if-s-lt2.false _ c.hex_pair-value.ensures _ c.in-Some.is) (word-record _ _ c.word.ensures) c.put.ensures c.plain.ensures

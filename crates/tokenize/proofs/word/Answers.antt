@@ -7,7 +7,6 @@ use Rattle.tokens.specs.Tokens.{shown_layout}
 use Rattle.tokenize.proofs.Rules.{word-parts, word-short}
 use Rattle.tokenize.proofs.Sizes.{named-next}
 use borrow.Author.Rules.{rules}
-use Rattle.rooms.proofs.Streams.{name-apart}
 use Rattle.tokenize.proofs.word.Goals as goal
 
 pub slice_bounds-bare_length-end : goal.slice_bounds-bare_length-end
@@ -21,15 +20,15 @@ named-first-requires c =
     (simp length-take (omega (arith, simp length-take at c.bare_length-e.ensures.within)), search rules, search rules)
 
 pub returns-then-k-s : goal.returns-then-k-s
-returns-then-k-s c = wrote_then shown_layout name-apart _ (word-short _ _ _ _ c.lead_of-k.ensures.count c.bare_length-e.ensures.value c.if-k-s.true) c.named-first.ensures c.in-Done.is (wrote_none shown_layout refl)
+returns-then-k-s c = wrote_then shown_layout _ (word-short _ _ _ _ c.lead_of-k.ensures.count c.bare_length-e.ensures.value c.if-k-s.true) c.named-first.ensures c.in-Ok.is (wrote_none shown_layout refl)
 
 pub word_tail-requires : goal.word_tail-requires
 word_tail-requires c =
-    let b = named-next _ _ c.named-first.ensures c.in-Done.is in
+    let b = named-next _ _ c.named-first.ensures c.in-Ok.is in
     simp (length-take, length-drop) (omega arith)
 
-pub returns-in-Refused : goal.returns-in-Refused
-returns-in-Refused c = wrote-stops shown_layout name-apart _ (word-parts _ _ _ _ c.lead_of-k.ensures.count c.bare_length-e.ensures.value) c.named-first.ensures c.in-Refused.is
+pub returns-in-Err : goal.returns-in-Err
+returns-in-Err c = wrote-stops shown_layout _ (word-parts _ _ _ _ c.lead_of-k.ensures.count c.bare_length-e.ensures.value) c.named-first.ensures c.in-Err.is
 
 pub returns-else-k-s : goal.returns-else-k-s
-returns-else-k-s c = wrote_then shown_layout name-apart _ (word-parts _ _ _ _ c.lead_of-k.ensures.count c.bare_length-e.ensures.value) c.named-first.ensures c.in-Done.is c.word_tail.ensures
+returns-else-k-s c = wrote_then shown_layout _ (word-parts _ _ _ _ c.lead_of-k.ensures.count c.bare_length-e.ensures.value) c.named-first.ensures c.in-Ok.is c.word_tail.ensures

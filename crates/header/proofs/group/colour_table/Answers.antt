@@ -13,8 +13,8 @@ slice_bounds-read_colours-end c = let a = c.extent-h.ensures.1 in let b = c.requ
 pub read_colours-o-requires : goal.read_colours-o-requires
 read_colours-o-requires c = (let a = c.extent-h.ensures.1 in let b = c.requires.0 in simp length-take (omega arith), (let a = c.extent-h.ensures.1 in let b = c.requires.1 in omega arith))
 
-pub returns-in-Done : goal.returns-in-Done
-returns-in-Done c = ((λ src. colours-read src _ _ _ _ _ c.if-late.false (c.extent-h.ensures.0 src) c.extent-h.ensures.1 _ _ (c.read_colours-o.ensures src) c.in-Done.is), c.extent-h.ensures.1)
+pub returns-in-Ok : goal.returns-in-Ok
+returns-in-Ok c = ((λ src. colours-read src _ _ _ _ _ c.if-late.false (c.extent-h.ensures.0 src) c.extent-h.ensures.1 _ _ (c.read_colours-o.ensures src) c.in-Ok.is), c.extent-h.ensures.1)
 
-pub returns-in-Refused : goal.returns-in-Refused
-returns-in-Refused c = ((λ src. colours-bad src _ _ _ _ _ c.if-late.false (c.extent-h.ensures.0 src) c.extent-h.ensures.1 _ _ (c.read_colours-o.ensures src) c.in-Refused.is), omega arith)
+pub returns-in-Err : goal.returns-in-Err
+returns-in-Err c = ((λ src. colours-bad src _ _ _ _ _ c.if-late.false (c.extent-h.ensures.0 src) c.extent-h.ensures.1 _ _ (c.read_colours-o.ensures src) c.in-Err.is), omega arith)

@@ -13,8 +13,8 @@ slice_bounds-read_fonts-end c = let a = c.extent-h.ensures.1 in let b = c.requir
 pub read_fonts-o-requires : goal.read_fonts-o-requires
 read_fonts-o-requires c = (let a = c.extent-h.ensures.1 in let b = c.requires.0 in simp length-take (omega arith), (let a = c.extent-h.ensures.1 in let b = c.requires.1 in omega arith))
 
-pub returns-in-Done : goal.returns-in-Done
-returns-in-Done c = fonts-read _ _ _ _ _ _ c.if-late.false (c.extent-h.ensures.0 _) c.extent-h.ensures.1 _ _ c.read_fonts-o.ensures c.in-Done.is
+pub returns-in-Ok : goal.returns-in-Ok
+returns-in-Ok c = fonts-read _ _ _ _ _ _ c.if-late.false (c.extent-h.ensures.0 _) c.extent-h.ensures.1 _ _ c.read_fonts-o.ensures c.in-Ok.is
 
-pub returns-in-Refused : goal.returns-in-Refused
-returns-in-Refused c = fonts-bad _ _ _ _ _ _ c.if-late.false (c.extent-h.ensures.0 _) c.extent-h.ensures.1 _ _ c.read_fonts-o.ensures c.in-Refused.is
+pub returns-in-Err : goal.returns-in-Err
+returns-in-Err c = fonts-bad _ _ _ _ _ _ c.if-late.false (c.extent-h.ensures.0 _) c.extent-h.ensures.1 _ _ c.read_fonts-o.ensures c.in-Err.is

@@ -18,7 +18,7 @@ slice_bounds-ruled-count c =
     let at-numbers-at = at-numbers2 in
     let start = at-numbers-at in
     let w = block_within (last_of start.args.begun start.args.before) start.args.s.now _
-    at-numbers-at.numbers_at-numbers.result refl at-numbers-at.numbers_at-numbers.ensures at-numbers2.in-Done.is in
+    at-numbers-at.numbers_at-numbers.result refl at-numbers-at.numbers_at-numbers.ensures at-numbers2.in-Ok.is in
     omega arith
 
 pub slice_bounds-ruled-start : goal.slice_bounds-ruled-start
@@ -27,23 +27,23 @@ slice_bounds-ruled-start c =
     let at-numbers-at = at-numbers2 in
     let start = at-numbers-at in
     let w = block_within (last_of start.args.begun start.args.before) start.args.s.now _
-    at-numbers-at.numbers_at-numbers.result refl at-numbers-at.numbers_at-numbers.ensures at-numbers2.in-Done.is in
+    at-numbers-at.numbers_at-numbers.result refl at-numbers-at.numbers_at-numbers.ensures at-numbers2.in-Ok.is in
     omega arith
 
-pub returns-in-Refused : goal.returns-in-Refused
-returns-in-Refused c =
+pub returns-in-Err : goal.returns-in-Err
+returns-in-Err c =
     let at-numbers-at = c in
     let start = at-numbers-at in
     block_refused (last_of start.args.begun start.args.before) start.args.s.now _
-    at-numbers-at.numbers_at-numbers.result refl at-numbers-at.numbers_at-numbers.ensures c.in-Refused.is
+    at-numbers-at.numbers_at-numbers.result refl at-numbers-at.numbers_at-numbers.ensures c.in-Err.is
 
-pub returns-in-Done : goal.returns-in-Done
-returns-in-Done c =
+pub returns-in-Ok : goal.returns-in-Ok
+returns-in-Ok c =
     let at_wide = c in
     let at-style-from = at_wide in
     let at-numbers2 = at-style-from in
     let at-numbers-at = at-numbers2 in
     let start = at-numbers-at in
     block-entry (last_of start.args.begun start.args.before) start.args.s.now _
-    at-numbers-at.numbers_at-numbers.result refl at-numbers-at.numbers_at-numbers.ensures at-numbers2.in-Done.is
+    at-numbers-at.numbers_at-numbers.result refl at-numbers-at.numbers_at-numbers.ensures at-numbers2.in-Ok.is
     at-style-from.style_from-style.ensures at_wide.wide-n.ensures c.ruled.ensures

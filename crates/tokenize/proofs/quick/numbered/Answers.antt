@@ -16,11 +16,11 @@ returns-then-e-w c = wrote-token (named-bare _ _ _ c.requires.ends.0 c.if-e-w.tr
 pub slice_bounds-word_record-end : goal.slice_bounds-word_record-end
 slice_bounds-word_record-end c = simp length-take (omega arith)
 
-pub word_record-requires-in-Is : goal.word_record-requires-in-Is
-word_record-requires-in-Is c = (simp length-take (omega arith), search rules)
+pub word_record-requires-in-Some : goal.word_record-requires-in-Some
+word_record-requires-in-Some c = (simp length-take (omega arith), search rules)
 
-pub returns-in-Bad : goal.returns-in-Bad
-returns-in-Bad c = wrote-stop shown_layout (named-numbered _ _ _ c.requires.ends.0 c.if-e-w.false ∙ numbered-bad _ _ _ _ c.decimal_of-number.ensures c.in-Bad.is) refl
+pub returns-in-None : goal.returns-in-None
+returns-in-None c = wrote-stop shown_layout (named-numbered _ _ _ c.requires.ends.0 c.if-e-w.false ∙ numbered-bad _ _ _ _ c.decimal_of-number.ensures c.in-None.is) refl
 
-pub returns-in-Is : goal.returns-in-Is
-returns-in-Is c = wrote-token (named-numbered _ _ _ c.requires.ends.0 c.if-e-w.false ∙ numbered_is _ _ _ _ c.decimal_of-number.ensures _ c.in-Is.is) c.word_record-in-Is.ensures c.put-in-Is.ensures
+pub returns-in-Some : goal.returns-in-Some
+returns-in-Some c = wrote-token (named-numbered _ _ _ c.requires.ends.0 c.if-e-w.false ∙ numbered_is _ _ _ _ c.decimal_of-number.ensures _ c.in-Some.is) c.word_record-in-Some.ensures c.put-in-Some.ensures

@@ -6,14 +6,13 @@ use Rattle.rooms.proofs.Rooms.{wrote_then, wrote-stops}
 use Rattle.tokens.specs.Tokens.{shown_layout}
 use Rattle.tokenize.proofs.Sizes.{named-next}
 use Rattle.tokenize.proofs.Shapes.{word-body, word-shape}
-use Rattle.rooms.proofs.Streams.{name-apart}
 use Rattle.tokenize.proofs.quick.quick_word.Goals as goal
 
-pub returns-in-Refused : goal.returns-in-Refused
-returns-in-Refused c = rw (sym c.in-Refused.is) c.word-other.ensures
+pub returns-in-Err : goal.returns-in-Err
+returns-in-Err c = rw (sym c.in-Err.is) c.word-other.ensures
 
-pub returns-in-Done : goal.returns-in-Done
-returns-in-Done c = rw (sym c.in-Done.is) c.word-other.ensures
+pub returns-in-Ok : goal.returns-in-Ok
+returns-in-Ok c = rw (sym c.in-Ok.is) c.word-other.ensures
 
 pub slice_bounds-numbered-end : goal.slice_bounds-numbered-end
 slice_bounds-numbered-end c = let h = simp (length-take, length-drop) at c.lead_of.ensures.within in simp length-take (omega (arith, h, c.letters_of-e.ensures))
@@ -26,15 +25,15 @@ numbered-first-requires c =
 pub behind-requires : goal.behind-requires
 behind-requires c =
     let h = simp (length-take, length-drop) at c.lead_of.ensures.within in
-    let b = named-next _ _ c.numbered-first.ensures c.in-Done-first.is in
+    let b = named-next _ _ c.numbered-first.ensures c.in-Ok-first.is in
     (c.requires.0, omega (arith, b, c.requires), omega (arith, h, c.letters_of-e.ensures))
 
-pub returns-in-Refused-first : goal.returns-in-Refused-first
-returns-in-Refused-first c =
+pub returns-in-Err-first : goal.returns-in-Err-first
+returns-in-Err-first c =
     let h = simp (length-take, length-drop) at c.lead_of.ensures.within in
-    wrote-stops shown_layout name-apart _ (word-shape _ _ _ c.letters_of-e.ensures.0 c.lead_of.ensures.count _ c.ends_at.ensures c.if-not-ends_at.false-raw _ (omega (arith, h, c.letters_of-e.ensures))) c.numbered-first.ensures c.in-Refused-first.is
+    wrote-stops shown_layout _ (word-shape _ _ _ c.letters_of-e.ensures.0 c.lead_of.ensures.count _ c.ends_at.ensures c.if-not-ends_at.false-raw _ (omega (arith, h, c.letters_of-e.ensures))) c.numbered-first.ensures c.in-Err-first.is
 
-pub returns-in-Done-first : goal.returns-in-Done-first
-returns-in-Done-first c =
+pub returns-in-Ok-first : goal.returns-in-Ok-first
+returns-in-Ok-first c =
     let h = simp (length-take, length-drop) at c.lead_of.ensures.within in
-    wrote_then shown_layout name-apart _ (word-shape _ _ _ c.letters_of-e.ensures.0 c.lead_of.ensures.count _ c.ends_at.ensures c.if-not-ends_at.false-raw _ (omega (arith, h, c.letters_of-e.ensures))) c.numbered-first.ensures c.in-Done-first.is c.behind.ensures
+    wrote_then shown_layout _ (word-shape _ _ _ c.letters_of-e.ensures.0 c.lead_of.ensures.count _ c.ends_at.ensures c.if-not-ends_at.false-raw _ (omega (arith, h, c.letters_of-e.ensures))) c.numbered-first.ensures c.in-Ok-first.is c.behind.ensures
