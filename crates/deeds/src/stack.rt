@@ -1,7 +1,6 @@
 // The stack of states: an array of 64 rows, of which the first `depth` are held (01, Body).
 //
-//   Moved         how many states are held, or a refusal
-//   open, close   what brackets do to the stack
+//   open, close   what brackets do to the stack: how many states are held then, or which refusal it is
 ghost use Rattle.std.specs.Prelude.{List, [], ℕ, ◌≤◌, ◌≡◌, length};
 ghost use Rattle.settings.specs.Fields.{fresh_row};
 ghost use Rattle.machine.specs.Stack.{stack_limit, opens, closes, moved as moved_to, held};
@@ -10,12 +9,6 @@ ghost use Rattle.deeds.specs.Turns.{Took};
 use answers::Why;
 use settings::rows::STATES;
 use settings::{State, WIDTH};
-
-#[derive(Clone, Copy)]
-pub enum Moved {
-    Holds(usize),
-    Refuses(Why),
-}
 
 // An opening bracket: a copy of the top; a fresh state if there is none.
 pub fn open(states: &mut [[u32; WIDTH]; STATES], depth: usize) -> Result<usize, Why>

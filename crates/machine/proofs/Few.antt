@@ -21,7 +21,7 @@ use Rattle.units.specs.Units.{unit_of, is_high, is_low, alone, pair, skip_count,
 use Rattle.machine.specs.Stack.{moved, stack_of}
 use Rattle.machine.specs.Machine.{States, Steps, Deed, opens, closes, sets, says, tells, unit, refuses, parts, stops, passes, Act, at}
 use Rattle.machine.specs.Machine.{ended, gave, texts_of, left, owed_behind, written_all, ◌▸▸◌, onward, move_of, spoken, said, step_of, owes_of, machine}
-use Rattle.std.specs.Prelude.{Option}
+use Rattle.std.specs.Prelude.{Option, Some, None}
 
 -- what a run still owes
 abbrev pub owed : Run → ℕ
@@ -44,9 +44,9 @@ taken-few run u = go (ltb 0 run.high) (is_low u) (is_high u)
   where
     kept : Bool → Bool → Bool → Gave
     kept l w h =
-        cond (l && w) (record { run = record { begun = true; skipped = 0; high = 0 }; lost = false; some = true; value = pair run.high u })
-        (cond h (record { run = record { begun = true; skipped = 0; high = u }; lost = l; some = false; value = 0 })
-        (record { run = record { begun = true; skipped = 0; high = 0 }; lost = l; some = true; value = alone u }))
+        cond (l && w) (record { run = record { begun = true; skipped = 0; high = 0 }; lost = false; value = Some (pair run.high u) })
+        (cond h (record { run = record { begun = true; skipped = 0; high = u }; lost = l; value = None })
+        (record { run = record { begun = true; skipped = 0; high = 0 }; lost = l; value = Some (alone u) }))
 
     go : (l w h : Bool) → length (values (kept l w h)) + owed (kept l w h).run ≤ 1 + cond l 1 0
     go true true h = omega arith

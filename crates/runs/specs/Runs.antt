@@ -35,17 +35,6 @@ steps_by rd = record {
   owes = λ r. owed_by rd (get_or r field.skip 0);
 }
 
--- the run of units under way, in an array of words, as the code carries it
-abbrev pub run_words : ℕ
-run_words = 3
-
-abbrev pub run_of : List ℕ → Run
-run_of l = record { begun = eqb (get_or l 0 0) 1; skipped = get_or l 1 0; high = get_or l 2 0 }
-
--- a scalar value, if there is one
-abbrev pub value_if : Bool → ℕ → List ℕ
-value_if b c = cond b (c ∷ []) []
-
 -- pieces laid one after the other
 unfoldable pub laid_all : Laying → List Piece → Laying
 laid_all l [] = l

@@ -25,18 +25,18 @@ alone-value u p = rw p
 
 module _ (run : Run) (u : ℕ) (l : Bool) (q : l ≡ is_low u) where
   pub taken-pair : ltb 0 run.high && l ≡ true → (v : ℕ) → v ≡ pair run.high u
-      → record { run = record { begun = true; skipped = 0; high = 0 }; lost = false; some = true; value = v } ≡ taken run u
+      → record { run = record { begun = true; skipped = 0; high = 0 }; lost = false; value = Some v } ≡ taken run u
   unfolding taken
   taken-pair p v e = rw (← q, p, e)
 
   module _ (p : ltb 0 run.high && l ≡ false) (h : Bool) (r : h ≡ is_high u) where
     pub taken-high : h ≡ true
-        → record { run = record { begun = true; skipped = 0; high = u }; lost = ltb 0 run.high; some = false; value = 0 } ≡ taken run u
+        → record { run = record { begun = true; skipped = 0; high = u }; lost = ltb 0 run.high; value = None } ≡ taken run u
     unfolding taken
     taken-high t = rw (← q, p, ← r, t)
 
     pub taken-value : h ≡ false → (v : ℕ) → v ≡ alone u
-        → record { run = record { begun = true; skipped = 0; high = 0 }; lost = ltb 0 run.high; some = true; value = v } ≡ taken run u
+        → record { run = record { begun = true; skipped = 0; high = 0 }; lost = ltb 0 run.high; value = Some v } ≡ taken run u
     unfolding taken
     taken-value t v e = rw (← q, p, ← r, t, e)
 

@@ -25,7 +25,7 @@ use Rattle.units.specs.declared.Gave.{Gave}
 use Rattle.units.specs.Units.{unit_of, units, skip_count, later, kept, is_high, is_low, alone, pair, decode, utf8_all, run_text}
 use Rattle.units.specs.Units.{before, nothing, taken, met, met_any, step, values, flushed}
 use Rattle.units.proofs.Tests.{and_left, and_right, high-waits, high-surrogate}
-use Rattle.std.specs.Prelude.{Option, Some, None}
+use Rattle.std.specs.Prelude.{Option, Some, None, option_to_list}
 
 -- ---- by cases
 
@@ -62,19 +62,19 @@ by-met skip run u P over stay = go (run.begun && skips skip run u) refl
 -- a kept unit ends a pair, waits, or stands alone
 by-taken : (run : Run) (u : ℕ) (P : Gave → Type 0)
     → (ltb 0 run.high ≡ true → is_low u ≡ true
-    → P (record { run = record { begun = true; skipped = 0; high = 0 }; lost = false; some = true; value = pair run.high u }))
+    → P (record { run = record { begun = true; skipped = 0; high = 0 }; lost = false; value = Some (pair run.high u) }))
     → (ltb 0 run.high && is_low u ≡ false → is_high u ≡ true
-    → P (record { run = record { begun = true; skipped = 0; high = u }; lost = ltb 0 run.high; some = false; value = 0 }))
+    → P (record { run = record { begun = true; skipped = 0; high = u }; lost = ltb 0 run.high; value = None }))
     → (ltb 0 run.high && is_low u ≡ false → is_high u ≡ false
-    → P (record { run = record { begun = true; skipped = 0; high = 0 }; lost = ltb 0 run.high; some = true; value = alone u }))
+    → P (record { run = record { begun = true; skipped = 0; high = 0 }; lost = ltb 0 run.high; value = Some (alone u) }))
     → P (taken run u)
 unfolding taken
 by-taken run u P both waits stands = go (ltb 0 run.high && is_low u) (is_high u) refl refl
   where
     go : (s t : Bool) → ltb 0 run.high && is_low u ≡ s → is_high u ≡ t
-        → P (cond s (record { run = record { begun = true; skipped = 0; high = 0 }; lost = false; some = true; value = pair run.high u })
-        (cond t (record { run = record { begun = true; skipped = 0; high = u }; lost = ltb 0 run.high; some = false; value = 0 })
-        (record { run = record { begun = true; skipped = 0; high = 0 }; lost = ltb 0 run.high; some = true; value = alone u })))
+        → P (cond s (record { run = record { begun = true; skipped = 0; high = 0 }; lost = false; value = Some (pair run.high u) })
+        (cond t (record { run = record { begun = true; skipped = 0; high = u }; lost = ltb 0 run.high; value = None })
+        (record { run = record { begun = true; skipped = 0; high = 0 }; lost = ltb 0 run.high; value = Some (alone u) })))
     go true t p q = both (and_left (ltb 0 run.high) (is_low u) p) (and_right (ltb 0 run.high) (is_low u) p)
     go false true p q = waits p q
     go false false p q = stands p q
@@ -306,45 +306,43 @@ decode-scalars (u ∷ v ∷ us) h = go (is_high u && is_low v) (decode-scalars u
 pub run-scalars : (skip : ℕ) (ns : List (Option ℕ)) → Numbers32 ns → Scalars (decode (kept skip (units ns)))
 run-scalars skip ns h = decode-scalars (kept skip (units ns)) (kept_small skip (units ns) (units_small ns h))
 
+-- a value as a caller writes it, if there is one
+abbrev pub written_if : Option ℕ → List ℕ
+written_if (Some c) = written c
+written_if None = []
+
 -- a token's value, if it gave one
 module _ (skip : ℕ) (run : Run) (n : Option ℕ) (h : value_of n < 4294967296) where
-  pub value-scalar : (step skip run n).some ≡ true → is_scalar (step skip run n).value ≡ true
+  pub value-scalar : Scalars (option_to_list (step skip run n).value)
   unfolding step met_any
   value-scalar =
-      by-unit n (λ (us : List ℕ). Units16 us → (met_any skip run us).some ≡ true → is_scalar (met_any skip run us).value ≡ true)
-      (λ w p. absurd (false≢true p))
-      (λ u w. by-met skip run u (λ (g : Gave). g.some ≡ true → is_scalar g.value ≡ true)
-      (λ p q r. absurd (false≢true r))
-      (λ p. by-taken run u (λ (g : Gave). g.some ≡ true → is_scalar g.value ≡ true)
-      (λ q r s. pair-scalar run.high u) (λ q r s. absurd (false≢true s)) (λ q r s. alone-scalar u w.0)))
+      by-unit n (λ (us : List ℕ). Units16 us → Scalars (option_to_list (met_any skip run us).value))
+      (λ w. tt)
+      (λ u w. by-met skip run u (λ (g : Gave). Scalars (option_to_list g.value))
+      (λ p q. tt)
+      (λ p. by-taken run u (λ (g : Gave). Scalars (option_to_list g.value))
+      (λ q r. (pair-scalar run.high u, tt)) (λ q r. tt) (λ q r. (alone-scalar u w.0, tt))))
       (unit_of-small n h)
 
   pub values-scalars : Scalars (values (step skip run n))
   unfolding values
-  values-scalars = go (step skip run n).lost (step skip run n).some value-scalar
+  values-scalars = go (step skip run n).lost value-scalar
     where
-      go : (s t : Bool) → (t ≡ true → is_scalar (step skip run n).value ≡ true)
-          → Scalars (cond s (65533 ∷ []) [] ++ cond t ((step skip run n).value ∷ []) [])
-      go true true p = (refl, (p refl, tt))
-      go true false p = (refl, tt)
-      go false true p = (p refl, tt)
-      go false false p = tt
+      go : (s : Bool) → Scalars (option_to_list (step skip run n).value) → Scalars (cond s (65533 ∷ []) [] ++ option_to_list (step skip run n).value)
+      go true p = (refl, p)
+      go false p = p
 
   module _ (g : Gave) (q : g ≡ step skip run n) where
-    pub value_written : g.some ≡ true → written g.value ≡ utf8 g.value
-    value_written = rw q (λ p. written-scalar (step skip run n).value (value-scalar p))
-
     -- what a caller writes by `encode`
-    pub text-values : utf8_all (values g) ≡ cond g.lost (written 65533) [] ++ cond g.some (written g.value) []
+    pub text-values : utf8_all (values g) ≡ cond g.lost (written 65533) [] ++ written_if g.value
     unfolding values utf8_all
-    text-values = go g.lost g.some value_written
+    text-values = go g.lost g.value (rw q value-scalar)
       where
-        go : (s t : Bool) → (t ≡ true → written g.value ≡ utf8 g.value)
-            → utf8_all (cond s (65533 ∷ []) [] ++ cond t (g.value ∷ []) []) ≡ cond s (written 65533) [] ++ cond t (written g.value) []
-        go true true p = rw (p refl, written-scalar 65533 refl, append-nil)
-        go true false p = rw (written-scalar 65533 refl)
-        go false true p = rw (p refl, append-nil)
-        go false false p = refl
+        go : (s : Bool) (v : Option ℕ) → Scalars (option_to_list v) → utf8_all (cond s (65533 ∷ []) [] ++ option_to_list v) ≡ cond s (written 65533) [] ++ written_if v
+        go true (Some c) p = rw (written-scalar c p.0, written-scalar 65533 refl, append-nil)
+        go true None p = rw (written-scalar 65533 refl)
+        go false (Some c) p = rw (written-scalar c p.0, append-nil)
+        go false None p = refl
 
 pub text-flushed : (run : Run) → utf8_all (flushed run) ≡ cond (ltb 0 run.high) (written 65533) []
 unfolding flushed utf8_all

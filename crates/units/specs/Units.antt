@@ -1,6 +1,6 @@
 -- 01, Body, and 02, A1: the text of a run of adjacent `u` tokens, by RFC 2781 (UTF-16) and RFC 3629 (UTF-8). Assumes nothing: these are
 -- definitions.
-use Rattle.std.specs.Prelude.{ℕ, ◌+◌, ◌-◌, ◌*◌, ◌%◌, List, [], ◌∷◌, ◌++◌, Bool, true, false, cond, ◌&&◌, leb, ltb}
+use Rattle.std.specs.Prelude.{ℕ, ◌+◌, ◌-◌, ◌*◌, ◌%◌, List, [], ◌∷◌, ◌++◌, Bool, true, false, cond, ◌&&◌, leb, ltb, option_to_list, Some, None, Option}
 use Rattle.utf8.specs.Utf8.{utf8}
 use Rattle.units.specs.declared.Run.{Run}
 use Rattle.units.specs.declared.Gave.{Gave}
@@ -68,15 +68,15 @@ before = record { begun = false; skipped = 0; high = 0 }
 
 -- what a token gives: U+FFFD for a waiting surrogate that gets no low one, a value, both or neither
 abbrev pub nothing : Run → Gave
-nothing run = record { run = run; lost = false; some = false; value = 0 }
+nothing run = record { run = run; lost = false; value = None }
 
 -- a kept unit
 unfoldable pub taken : Run → ℕ → Gave
 taken run u =
     let lost = ltb 0 run.high in
-    cond (lost && is_low u) (record { run = record { begun = true; skipped = 0; high = 0 }; lost = false; some = true; value = pair run.high u })
-    (cond (is_high u) (record { run = record { begun = true; skipped = 0; high = u }; lost = lost; some = false; value = 0 })
-    (record { run = record { begun = true; skipped = 0; high = 0 }; lost = lost; some = true; value = alone u }))
+    cond (lost && is_low u) (record { run = record { begun = true; skipped = 0; high = 0 }; lost = false; value = Some (pair run.high u) })
+    (cond (is_high u) (record { run = record { begun = true; skipped = 0; high = u }; lost = lost; value = None })
+    (record { run = record { begun = true; skipped = 0; high = 0 }; lost = lost; value = Some (alone u) }))
 
 -- a unit, skipped or kept
 unfoldable pub met : ℕ → Run → ℕ → Gave
@@ -95,7 +95,7 @@ step skip run n = met_any skip run (unit_of n)
 
 -- what ends a run: a surrogate that waits is lost
 abbrev pub cut_short : Run → Gave
-cut_short run = record { run = before; lost = ltb 0 run.high; some = false; value = 0 }
+cut_short run = record { run = before; lost = ltb 0 run.high; value = None }
 
 -- 02, A1: "01's rule on units of at most 255 does not hold here": each unit is kept; "anything that is read parts them, .. and so does a `\u`
 -- without a unit"
@@ -108,7 +108,7 @@ standard_step run n = taken_any run (unit_of n)
 
 -- the scalar values that a token gave
 unfoldable pub values : Gave → List ℕ
-values g = cond g.lost (65533 ∷ []) [] ++ cond g.some (g.value ∷ []) []
+values g = cond g.lost (65533 ∷ []) [] ++ option_to_list g.value
 
 -- the scalar values at the end of a run
 unfoldable pub flushed : Run → List ℕ

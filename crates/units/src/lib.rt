@@ -20,13 +20,25 @@ pub struct Run {
     pub high: u32,
 }
 
-// What a token gives: U+FFFD for a waiting surrogate if `lost`, then `value` if `some`.
+impl Run {
+    // No unit has come.
+    pub fn before() -> Run
+        ensures { result ≡ before_of }
+    {
+        Run {
+            begun: false,
+            skipped: 0,
+            high: 0,
+        }
+    }
+}
+
+// What a token gives: U+FFFD for a waiting surrogate if `lost`, and then a value or none.
 #[derive(Clone, Copy)]
 pub struct Gave {
     pub run: Run,
     pub lost: bool,
-    pub some: bool,
-    pub value: u32,
+    pub value: Option<u32>,
 }
 
 fn is_high(u: u32) -> bool
@@ -66,8 +78,7 @@ fn nothing(run: Run) -> Gave
     Gave {
         run: run,
         lost: false,
-        some: false,
-        value: 0,
+        value: None,
     }
 }
 
@@ -87,8 +98,7 @@ fn taken(run: Run, u: u32) -> Gave
         return Gave {
             run: next,
             lost: false,
-            some: true,
-            value: value,
+            value: Some(value),
         };
     }
     if is_high(u) {
@@ -100,8 +110,7 @@ fn taken(run: Run, u: u32) -> Gave
         return Gave {
             run: next,
             lost: lost,
-            some: false,
-            value: 0,
+            value: None,
         };
     }
     let value = alone(u);
@@ -113,8 +122,7 @@ fn taken(run: Run, u: u32) -> Gave
     Gave {
         run: next,
         lost: lost,
-        some: true,
-        value: value,
+        value: Some(value),
     }
 }
 
@@ -158,16 +166,10 @@ pub fn step(skip: u32, run: Run, number: Option<u32>) -> Gave
 fn cut_short(run: Run) -> Gave
     ensures { result ≡ cut_short run }
 {
-    let ended = Run {
-        begun: false,
-        skipped: 0,
-        high: 0,
-    };
     Gave {
-        run: ended,
+        run: Run::before(),
         lost: 0 < run.high,
-        some: false,
-        value: 0,
+        value: None,
     }
 }
 
