@@ -12,7 +12,7 @@ use Rattle.answers.specs.declared.Why.TheVariants.{LastSlice}
 use Rattle.answers.specs.Answers.{refusal_at}
 use Rattle.readings.specs.declared.Reading.{Reading}
 use Rattle.readings.specs.declared.Reading.TheVariants.{Standard}
-use Rattle.rooms.proofs.Streams.{ended-count, ended-each, ended-then}
+use Rattle.rooms.proofs.Streams.{ended-count, ended-each, ended-then, ok_err}
 use Rattle.rooms.specs.Streams.{end, stop, and_then, ended, answer}
 use Rattle.rooms.specs.Rooms.{Wrote, put_all}
 use Rattle.rooms.proofs.Rooms.{wrote_none, wrote_then, wrote-stops, Left, left-start, left_end, left-stop, left-more, length-put_all}
