@@ -12,9 +12,9 @@ use borrow.Author.Tests.{lt-ltb, le-ltb}
 use lib.ListN.{length, take, replicate}
 use Rattle.answers.specs.declared.Why.TheVariants.{SourceTooLong}
 use Rattle.answers.specs.declared.Refusal.{Refusal}
-use Rattle.answers.specs.Answers.{refusal}
+use Rattle.answers.specs.Answers.{refusal, answer_number, answer_place}
 use Rattle.readings.specs.declared.Reading.{Reading}
-use Rattle.parser.specs.Parsing.{sizes, answer_number, answer_place, answer_counts}
+use Rattle.parser.specs.Parsing.{sizes, answer_counts}
 use Rattle.parser.specs.declared.Counts.{Counts}
 use Rattle.reader.specs.Reading.{read_answer, font_room, colour_room, block_room, text_room}
 use Rattle.lines.specs.Pages.{Put, PutWhole}

@@ -2,13 +2,13 @@
 -- definitions.
 use Rattle.std.specs.Prelude.{ℕ, ◌*◌, ◌≤◌, ◌≡◌, Bool, cond, List, [], ◌++◌, ltb, length, drop, replicate}
 use Rattle.answers.specs.declared.Why.TheVariants.{SourceTooLong}
-use Rattle.answers.specs.Answers.{refusal, Found, found, refused}
+use Rattle.answers.specs.Answers.{refusal, Found, found, refused, answer_number, answer_place}
 use Rattle.tokens.specs.Tokens.{token_words}
 use Rattle.fonts.specs.Rows.{font_words}
 use Rattle.colours.specs.Colours.{colour_words}
 use Rattle.readings.specs.declared.Reading.{Reading}
 use Rattle.blocks.specs.Pages.{block_words, text_of}
-use Rattle.parser.specs.Parsing.{Sizes, Letter, answer_number, answer_place, answer_counts}
+use Rattle.parser.specs.Parsing.{Sizes, Letter, answer_counts}
 use Rattle.reader.specs.Reading.{letter_of, read_answer, font_room, colour_room, block_room, text_room}
 use Rattle.extraction.specs.declared.listing.Listed.{Listed}
 use Rattle.extraction.specs.Listings.{listing}

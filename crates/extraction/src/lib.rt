@@ -10,7 +10,7 @@ pub mod listing;
 
 ghost use Rattle.std.specs.Prelude.{◌≡◌};
 ghost use Rattle.lines.specs.Pages.{PutWhole};
-ghost use Rattle.parser.specs.Parsing.{answer_number, answer_place, answer_counts};
+ghost use Rattle.parser.specs.Parsing.{answer_counts};
 ghost use Rattle.extraction.specs.Listings.{listing};
 ghost use Rattle.extraction.specs.Extractor.{TextOf, Extracts, ReadInRooms};
 
@@ -22,6 +22,7 @@ use fonts::FONT_WORDS;
 use readings::Reading;
 use rooms::clear_from;
 use tokens::TOKEN_WORDS;
+ghost use Rattle.answers.specs.Answers.{answer_number, answer_place};
 
 // 8,192 bytes of letter and of text, 1,024 tokens, 256 fonts, 256 colours, 128 blocks.
 pub const LETTER_MOST: usize = 8192;

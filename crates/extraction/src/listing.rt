@@ -2,7 +2,7 @@
 // between them; the fonts, the colours and the blocks, a line each; the text and a line feed, which a refusal does not have. What does
 // not fit on the page is left out.
 ghost use Rattle.std.specs.Prelude.{◌≡◌, ◌≤◌, length};
-ghost use Rattle.parser.specs.Parsing.{answer_number, answer_place, answer_counts};
+ghost use Rattle.parser.specs.Parsing.{answer_counts};
 ghost use Rattle.lines.specs.Pages.{Put};
 ghost use Rattle.extraction.specs.Listings.{head_line, text_line, listing};
 
@@ -12,6 +12,7 @@ use colours::COLOUR_WORDS;
 use fonts::FONT_WORDS;
 use lines::{append, number, place_item, push, records};
 use parser::Counts;
+ghost use Rattle.answers.specs.Answers.{answer_number, answer_place};
 
 // The number of the answer, and how many bytes its listing has.
 #[derive(Clone, Copy)]

@@ -4,7 +4,7 @@ use Rattle.std.specs.Prelude.{ℕ, ◌≡◌, List, length}
 use Rattle.answers.specs.Answers.{answer_number, outcome_count, answer_place}
 use Rattle.readings.specs.declared.Reading.{Reading}
 use Rattle.cutter.specs.Cutting.{cut_answer, cut_room}
-use Rattle.parser.specs.Parsing.{Sizes, answer_number, answer_place, answer_counts}
+use Rattle.parser.specs.Parsing.{Sizes, answer_counts}
 use Rattle.reader.specs.Reading.{read_answer, token_room, font_room, colour_room, block_room, text_room}
 use Rattle.stored.specs.Stored.{stored_answer, stored_blocks, stored_text}
 use Rattle.stored.specs.Stored.{answer_number as restored_number, answer_counts as restored_counts}

@@ -1,7 +1,7 @@
 -- 01, Answer numbers 8 to 20, and 02, A4: tokens become tables, blocks and text. Assumes nothing: these are definitions.
 use Rattle.std.specs.Prelude.{ℕ, ◌≤◌, List, [], ◌∷◌, length}
 use Rattle.answers.specs.declared.Why.TheVariants.{NoTokens, FirstToken}
-use Rattle.answers.specs.Answers.{refusal, refusal_at, why_number, Found, found, refused}
+use Rattle.answers.specs.Answers.{refusal, refusal_at, Found, found, refused}
 use Rattle.rooms.specs.Streams.{Stream, items, answer}
 use Rattle.rooms.specs.Rooms.{table_limit, capacity}
 use Rattle.tokens.specs.Tokens.{Shown, Token, token}
@@ -68,15 +68,7 @@ abbrev pub walked : Reading → Sizes → Found (List Token) → Found Letter
 walked rd z (found ts) = headed rd z.blocks z.text ts (tables (table_limit font_words z.fonts) (table_limit colour_words z.colours) (walk ts))
 walked rd z (refused r) = refused r
 
--- "0 is success."; the number, the place and the five counts of an answer
-abbrev pub answer_number : Result Counts Refusal → ℕ
-answer_number (Ok n) = 0
-answer_number (Err r) = why_number r.why
-
-abbrev pub answer_place : Result Counts Refusal → ℕ
-answer_place (Ok n) = 0
-answer_place (Err r) = r.place
-
+-- "Any refusal returns zero counts": the five counts of an answer
 abbrev pub no_counts : Counts
 no_counts = record { tokens = 0; fonts = 0; colours = 0; blocks = 0; text = 0 }
 

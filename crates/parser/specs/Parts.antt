@@ -11,8 +11,8 @@ use Rattle.parser.specs.declared.Counts.{Counts}
 use Rattle.answers.specs.declared.Refusal.{Refusal}
 
 -- the look at the first token: nothing, or a refusal
-abbrev pub Starts : Found (List Token) → Result ℕ Refusal → Type 0
-Starts (found ts) r = r ≡ Ok 0
+abbrev pub Starts : Found (List Token) → Result Unit Refusal → Type 0
+Starts (found ts) r = r ≡ Ok tt
 Starts (refused q) r = r ≡ Err q
 
 -- the body, where n tokens, f fonts and c colours were counted: blocks and text in their rooms, or a refusal

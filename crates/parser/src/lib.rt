@@ -1,14 +1,14 @@
 // The parser: a letter's tokens become tables, blocks and text in four lent rooms, or one refusal (`Parser::parse` in the crate).
 //
-//   Answer   the five counts, or a refusal
-//   parse    the whole: first token, header, body; answers 8 to 20 in 01's order
+//   Counts      the five counts; `counts_of` those of an answer
+//   parse       the whole: first token, header, body; answers 8 to 20 in 01's order
 //
 // After a refusal the rooms may hold anything. `parse` asks that so many whole records are there, at most 65,536.
 #![tactic(auto)]
 
 ghost use Rattle.std.specs.Prelude.{◌≡◌, List, ℕ, ◌*◌, ◌≤◌, length};
 ghost use Rattle.tokens.specs.Items.{tokens_all};
-ghost use Rattle.parser.specs.Parsing.{answer_number, answer_place, answer_counts, sizes, begun as begun_of, headed, placed, walked};
+ghost use Rattle.parser.specs.Parsing.{answer_counts, sizes, begun as begun_of, headed, placed, walked};
 ghost use Rattle.parser.specs.Parts.{Starts, BodyInto, LetterInto};
 ghost use Rattle.rooms.specs.Streams.{answer, items};
 ghost use Rattle.rooms.specs.Rooms.{table_limit};
@@ -19,10 +19,10 @@ ghost use Rattle.fonts.specs.Rows.{font_words};
 ghost use Rattle.colours.specs.Colours.{colour_words};
 
 use answers::{Refusal, Why};
-use blocks::{BLOCK_WORDS, Laid};
+use blocks::BLOCK_WORDS;
 use body::lay_body;
 use header::group::is_opening;
-use header::{Header, read_header};
+use header::read_header;
 use readings::Reading;
 use rooms::clear_from;
 use tokens::item::slice_at;
@@ -37,14 +37,8 @@ pub struct Counts {
     pub text: usize,
 }
 
-#[derive(Clone, Copy)]
-pub enum Answer {
-    Read(Counts),
-    Refuses(Refusal),
-}
-
 // Whether there is a first token, and an opening bracket it is.
-fn start(tokens: &[u32], n: usize) -> Result<usize, Refusal>
+fn start(tokens: &[u32], n: usize) -> Result<(), Refusal>
     requires { n * token_words ≤ length tokens.now }
     ensures { (src : List ℕ) → Starts (begun_of (tokens_all src n tokens.now)) result }
 {
@@ -54,7 +48,7 @@ fn start(tokens: &[u32], n: usize) -> Result<usize, Refusal>
     if !is_opening(tokens) {
         return Err(Refusal::at(Why::FirstToken, slice_at(tokens)));
     }
-    Ok(0)
+    Ok(())
 }
 
 // The body: blocks and text in their rooms, and zeros behind them.
@@ -71,23 +65,16 @@ fn read_body(
     requires { (n * token_words ≤ length tokens.now) × (n ≤ 65536) }
     ensures { BodyInto (answer 0 (placed reading (length blocks.old) (length text.old) (tokens_all source.now n tokens.now))) (items (placed reading (length blocks.old) (length text.old) (tokens_all source.now n tokens.now))) n fonts colours result blocks.new text.new (length blocks.old) (length text.old) }
 {
-    let laid = lay_body(source, reading, tokens, n, blocks, text);
-    match laid {
-        Err(refusal) => Err(refusal),
-        Ok(page) => {
-            let count = page.blocks;
-            let length = page.text;
-            clear_from(blocks, count * BLOCK_WORDS, 0);
-            clear_from(text, length, 0);
-            Ok(Counts {
-                tokens: n,
-                fonts: fonts,
-                colours: colours,
-                blocks: count,
-                text: length,
-            })
-        }
-    }
+    let page = lay_body(source, reading, tokens, n, blocks, text)?;
+    clear_from(blocks, page.blocks * BLOCK_WORDS, 0);
+    clear_from(text, page.text, 0);
+    Ok(Counts {
+        tokens: n,
+        fonts: fonts,
+        colours: colours,
+        blocks: page.blocks,
+        text: page.text,
+    })
 }
 
 // Header and body of the first n tokens.
@@ -104,11 +91,17 @@ fn letter(
     requires { (n * token_words ≤ length tokens.now) × (n ≤ 65536) }
     ensures { LetterInto (headed reading (length blocks.old) (length text.old) (tokens_all source.now n tokens.now) (tables (table_limit font_words (length fonts.old)) (table_limit colour_words (length colours.old)) (walk_of (tokens_all source.now n tokens.now)))) n result fonts.new colours.new blocks.new text.new (length fonts.old) (length colours.old) (length blocks.old) (length text.old) }
 {
-    let header = read_header(source, tokens, n, fonts, colours);
-    match header {
-        Header::Refused(refusal) => Err(refusal),
-        Header::Read(f, c) => read_body(source, reading, tokens, n, f, c, blocks, text),
-    }
+    let held = read_header(source, tokens, n, fonts, colours)?;
+    read_body(
+        source,
+        reading,
+        tokens,
+        n,
+        held.fonts,
+        held.colours,
+        blocks,
+        text,
+    )
 }
 
 // First token, header and body of the first n tokens.
@@ -125,47 +118,19 @@ pub fn parse(
     requires { (n * token_words ≤ length tokens.now) × (n ≤ 65536) }
     ensures { LetterInto (walked reading (sizes tokens.now fonts.old colours.old blocks.old text.old) (begun_of (tokens_all source.now n tokens.now))) n result fonts.new colours.new blocks.new text.new (length fonts.old) (length colours.old) (length blocks.old) (length text.old) }
 {
-    let started = start(tokens, n);
-    match started {
-        Err(refusal) => Err(refusal),
-        Ok(_) => letter(source, reading, tokens, n, fonts, colours, blocks, text),
-    }
+    start(tokens, n)?;
+    letter(source, reading, tokens, n, fonts, colours, blocks, text)
 }
 
-impl Answer {
-    // 0, or the refusal's number in 01's table.
-    pub fn number(self) -> u32
-        ensures { result ≡ answer_number self }
-    {
-        match self {
-            Ok(_) => 0,
-            Err(refusal) => refusal.number(),
-        }
-    }
-
-    // The refusal's place; 0 on success.
-    pub fn place(self) -> u32
-        ensures { result ≡ answer_place self }
-    {
-        match self {
-            Ok(_) => 0,
-            Err(refusal) => refusal.place,
-        }
-    }
-
-    // The five counts; zeros on refusal.
-    pub fn counts(self) -> Counts
-        ensures { result ≡ answer_counts self }
-    {
-        match self {
-            Ok(counts) => counts,
-            Err(_) => Counts {
-                tokens: 0,
-                fonts: 0,
-                colours: 0,
-                blocks: 0,
-                text: 0,
-            },
-        }
-    }
+// The five counts of an answer; zeros on refusal.
+pub fn counts_of(answer: Result<Counts, Refusal>) -> Counts
+    ensures { result ≡ answer_counts answer }
+{
+    answer.unwrap_or(Counts {
+        tokens: 0,
+        fonts: 0,
+        colours: 0,
+        blocks: 0,
+        text: 0,
+    })
 }

@@ -14,7 +14,7 @@ ghost use Rattle.reader.specs.Reading.{letter_of, token_count, Reads};
 
 use answers::Refusal;
 use cutter::cut;
-use parser::parse;
+use parser::{Counts, parse};
 use readings::Reading;
 use rooms::clear_from;
 
@@ -32,11 +32,8 @@ fn attempt(
     ensures few { (k : Counts) → result ≡ Ok k → token_count reading source.now ≤ 65536 }
     ensures letter { LetterInto (letter_of reading source.now (sizes tokens.old fonts.old colours.old blocks.old text.old)) (token_count reading source.now) result fonts.new colours.new blocks.new text.new (length fonts.old) (length colours.old) (length blocks.old) (length text.old) }
 {
-    let outcome = cut(source, reading, tokens);
-    match outcome {
-        Err(refusal) => Err(refusal),
-        Ok(n) => parse(source, reading, tokens, n, fonts, colours, blocks, text),
-    }
+    let n = cut(source, reading, tokens)?;
+    parse(source, reading, tokens, n, fonts, colours, blocks, text)
 }
 
 // A refusal, and every room all zero.
@@ -76,8 +73,7 @@ pub fn read(
     ensures { Reads reading source.now (sizes tokens.old fonts.old colours.old blocks.old text.old)
         result tokens.new fonts.new colours.new blocks.new text.new }
 {
-    let answer = attempt(source, reading, tokens, fonts, colours, blocks, text);
-    match answer {
+    match attempt(source, reading, tokens, fonts, colours, blocks, text) {
         Err(refusal) => refuse(refusal, tokens, fonts, colours, blocks, text),
         Ok(counts) => Ok(counts),
     }

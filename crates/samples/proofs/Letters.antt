@@ -5,7 +5,7 @@ use mathlib.Core.Bool.{Bool, true, ◌&&◌}
 use Prim.Native.Nat.{◌*◌}
 use lib.ListN.{length}
 use lib.Dec.{eqb}
-use Rattle.answers.specs.Answers.{Found, found, refused}
+use Rattle.answers.specs.Answers.{Found, found, refused, answer_number, answer_place}
 use Rattle.classes.specs.Bytes.{lead, body, any}
 use Rattle.classes.specs.Texts.{bytes_of}
 use Rattle.names.specs.Names.{same_bytes, place_in, word_number}
@@ -33,7 +33,7 @@ use Rattle.settings.specs.Effects.{fitted, spacing, painter_word, paragraph_word
 use Rattle.blocks.specs.Pages.{block_record, blocks_from, blocks, text_of, records, roomy, block_words}
 use Rattle.runs.specs.Runs.{step_by, owed_by}
 use Rattle.body.specs.Body.{acts, body as body_of}
-use Rattle.parser.specs.Parsing.{Sizes, Letter, placed, bodied, answer_number, answer_place}
+use Rattle.parser.specs.Parsing.{Sizes, Letter, placed, bodied}
 use Rattle.reader.specs.Reading.{letter_of, answered, read_answer, block_room, text_room}
 use Rattle.samples.specs.Letters.{Sample, samples, telling, crowded, cramped, refusing, placing, placeless, unread, unwritten, listed, listed_counts, listed_blocks, listed_text, indents, indented_blocks, flush_blocks}
 use Rattle.std.specs.Prelude.{Ok}
