@@ -13,16 +13,17 @@ ghost use Rattle.lines.specs.Pages.{PutWhole};
 ghost use Rattle.parser.specs.Parsing.{answer_counts};
 ghost use Rattle.extraction.specs.Listings.{listing};
 ghost use Rattle.extraction.specs.Extractor.{TextOf, Extracts, ReadInRooms};
+ghost use Rattle.answers.specs.Answers.{answer_number, answer_place};
 
 use crate::listing::{Listed, list};
 use answers::{Refusal, Why};
+use parser::Counts;
 use blocks::BLOCK_WORDS;
 use colours::COLOUR_WORDS;
 use fonts::FONT_WORDS;
 use readings::Reading;
 use rooms::clear_from;
 use tokens::TOKEN_WORDS;
-ghost use Rattle.answers.specs.Answers.{answer_number, answer_place};
 
 // 8,192 bytes of letter and of text, 1,024 tokens, 256 fonts, 256 colours, 128 blocks.
 pub const LETTER_MOST: usize = 8192;

@@ -10,7 +10,7 @@ use native.Mathlib.Omega.{arith}
 use lib.ListN.{length, replicate}
 use Rattle.answers.specs.declared.Why.{Why}
 use Rattle.answers.specs.declared.Refusal.{Refusal}
-use Rattle.answers.specs.Answers.{Found, found, refused}
+use Rattle.answers.specs.Answers.{Found, found, refused, answer_number}
 use Rattle.rooms.specs.Rooms.{filled}
 use Rattle.rooms.specs.Streams.{items}
 use Rattle.cutter.specs.Cutting.{token_stream, cut_answer}
@@ -20,7 +20,7 @@ use Rattle.blocks.specs.Pages.{Piece, blocks, text_of, records}
 use Rattle.parser.specs.declared.Counts.{Counts}
 use Rattle.parser.specs.Parsing.{Sizes, Letter}
 use Rattle.reader.specs.Reading.{cut, letter_of, answered, read_answer, holding, font_room, colour_room, block_room}
-use Rattle.parser.specs.Parsing.{answer_number, answer_counts}
+use Rattle.parser.specs.Parsing.{answer_counts}
 use Rattle.reader.specs.Reading.{text_room}
 use Rattle.reader.specs.Reading.{Reads}
 use Rattle.veil.specs.Veil.{veil, Alike}
