@@ -44,12 +44,7 @@ pub fn numbered_word(
     requires { (place + (1 + length name.now) ≤ 65536) × (n ≤ place) × (names.now ≡ rows) }
     ensures { Wrote shown_layout n room.old (numbered place name.now (decimal digits.now)) result room.new }
 {
-    let number = decimal_of(digits);
-    match number {
-        None => Err(Why::NumberBad),
-        Some(v) => {
-            put(room, n, word_record(name, Some(v), place, names));
-            Ok(n + 1)
-        }
-    }
+    let v = decimal_of(digits).ok_or(Why::NumberBad)?;
+    put(room, n, word_record(name, Some(v), place, names));
+    Ok(n + 1)
 }

@@ -131,14 +131,9 @@ fn word(s: &[u8], place: usize, names: &Table, room: &mut [u32], n: usize) -> Re
 {
     let k = letters_of(s);
     let m = k + number_length(&s[k..]);
-    let first = named(&s[..k], &s[k..m], place, names, room, n);
-    match first {
-        Err(why) => Err(why),
-        Ok(next) => {
-            let e = m + leads(&s[m..], b' ');
-            tail(&s[e..], place + 1 + e, room, next)
-        }
-    }
+    let next = named(&s[..k], &s[k..m], place, names, room, n)?;
+    let e = m + leads(&s[m..], b' ');
+    tail(&s[e..], place + 1 + e, room, next)
 }
 
 // `\'` at `place`, and s behind it: two hexadecimal digits, and text.
@@ -149,14 +144,9 @@ fn hex_escape(s: &[u8], place: usize, room: &mut [u32], n: usize) -> Result<usiz
     if s.len() < 2 {
         return Err(Why::HexShort);
     }
-    let value = hex_pair(s[0], s[1]);
-    match value {
-        None => Err(Why::HexBad),
-        Some(v) => {
-            put(room, n, Record::symbol(39, Some(v)));
-            tail(&s[2..], place + 4, room, n + 1)
-        }
-    }
+    let v = hex_pair(s[0], s[1]).ok_or(Why::HexBad)?;
+    put(room, n, Record::symbol(39, Some(v)));
+    tail(&s[2..], place + 4, room, n + 1)
 }
 
 // A line break, and s behind it, which follows the backslash at `place` and b; a line feed behind a carriage return belongs to it.

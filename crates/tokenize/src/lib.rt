@@ -114,17 +114,12 @@ fn word(s: &[u8], place: usize, names: &Table, room: &mut [u32], n: usize) -> Re
 {
     let k = lead_of(s, Class::InWord);
     let e = bare_length(&s[..k]);
-    let first = named(&s[..e], place, names, room, n);
-    match first {
-        Err(why) => Err(why),
-        Ok(m) => {
-            if k == s.len() {
-                return Ok(m);
-            }
-            let next = k + 1;
-            word_tail(&s[next..], place + 1 + next, room, m)
-        }
+    let m = named(&s[..e], place, names, room, n)?;
+    if k == s.len() {
+        return Ok(m);
     }
+    let next = k + 1;
+    word_tail(&s[next..], place + 1 + next, room, m)
 }
 
 // `\'` at `place`, and s behind it: two hexadecimal digits, and a plain tail.
@@ -135,14 +130,9 @@ fn hex_escape(s: &[u8], place: usize, room: &mut [u32], n: usize) -> Result<usiz
     if s.len() < 2 {
         return Err(Why::HexShort);
     }
-    let value = hex_pair(s[0], s[1]);
-    match value {
-        None => Err(Why::HexBad),
-        Some(v) => {
-            put(room, n, Record::word(words::UNICODE, Some(v)));
-            plain(&s[2..], place + 4, room, n + 1)
-        }
-    }
+    let v = hex_pair(s[0], s[1]).ok_or(Why::HexBad)?;
+    put(room, n, Record::word(words::UNICODE, Some(v)));
+    plain(&s[2..], place + 4, room, n + 1)
 }
 
 // A line break, and s behind it, which follows the backslash and line feed at `place`.
@@ -281,15 +271,7 @@ fn tokenize(
         if s.len() == 1 {
             return Ok(m);
         }
-        let rest = tokenize(reading, &s[1..], place + 1, names, room, m);
-        match rest {
-            Err(why) => {
-                return Err(why);
-            }
-            Ok(k) => {
-                return Ok(k);
-            }
-        }
+        return tokenize(reading, &s[1..], place + 1, names, room, m);
     }
     if b == b'\\' {
         return escaped(reading, &s[1..], place, names, room, n);

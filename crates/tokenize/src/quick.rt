@@ -60,18 +60,9 @@ fn numbered(w: &[u8], e: usize, place: usize, names: &Table, room: &mut [u32], n
         put(room, n, word_record(w, None, place, names));
         return Ok(n + 1);
     }
-    let number = decimal_of(&w[e..]);
-    match number {
-        None => Err(Why::NumberBad),
-        Some(v) => {
-            put(
-                room,
-                n,
-                word_record(&w[..e], Some(v), place, names),
-            );
-            Ok(n + 1)
-        }
-    }
+    let v = decimal_of(&w[e..]).ok_or(Why::NumberBad)?;
+    put(room, n, word_record(&w[..e], Some(v), place, names));
+    Ok(n + 1)
 }
 
 // What stands behind a word that ends at k of s, which follows the backslash at `place`.
@@ -104,11 +95,8 @@ fn quick_word(s: &[u8], place: usize, names: &Table, room: &mut [u32], n: usize)
             }
         }
     }
-    let first = numbered(&s[..k], e, place, names, room, n);
-    match first {
-        Err(why) => Err(why),
-        Ok(m) => behind(s, k, place, room, m),
-    }
+    let m = numbered(&s[..k], e, place, names, room, n)?;
+    behind(s, k, place, room, m)
 }
 
 // A slice that begins with a backslash.
