@@ -77,17 +77,12 @@ fn standard_last(s: &[u8], place: usize, names: &Table, room: &mut [u32], n: usi
     ensures { Wrote token_layout n room.old (last_by Reading.Standard place s.now) result room.new }
 {
     let p = place as u32;
-    let one = standard::slice_tokens(s, place, names, room, n);
-    match one {
-        Err(why) => Err(Refusal::at(why, p)),
-        Ok(m) => {
-            if is_bracket(s) {
-                seal(room, n, m, p, s.len() as u32);
-                return Ok(m);
-            }
-            Err(Refusal::at(Why::LastSlice, p))
-        }
+    let m = standard::slice_tokens(s, place, names, room, n).map_err(|why| Refusal::at(why, p))?;
+    if !is_bracket(s) {
+        return Err(Refusal::at(Why::LastSlice, p));
     }
+    seal(room, n, m, p, s.len() as u32);
+    Ok(m)
 }
 
 // The last slice by the reading.
@@ -124,18 +119,13 @@ fn all_slices(reading: Reading, s: &[u8], place: usize, names: &Table, room: &mu
         if t.len() <= e {
             break;
         }
-        let one = cut_slice(reading, &t[..e], p, names, room, n);
-        match one {
-            Err(why) => {
-                return Err(Refusal::at(why, p as u32));
-            }
-            Ok(m) => {
-                seal(room, n, m, p as u32, e as u32);
-                n = m;
-            }
-        }
+        let at = p as u32;
+        let m = cut_slice(reading, &t[..e], p, names, room, n)
+            .map_err(|why| Refusal::at(why, at))?;
+        seal(room, n, m, at, e as u32);
+        n = m;
         t = &t[e..];
-        p = p + e;
+        p += e;
     }
     last_by(reading, t, p, names, room, n)
 }
@@ -171,8 +161,7 @@ pub fn cut(source: &[u8], reading: Reading, room: &mut [u32]) -> Result<usize, R
     ensures { Cuts reading source.now room.old result room.new }
 {
     let names = names::table();
-    let outcome = whole(reading, source, &names, room);
-    match outcome {
+    match whole(reading, source, &names, room) {
         Err(refusal) => refuse(refusal, room),
         Ok(n) => {
             if n <= room.len() / TOKEN_WORDS {

@@ -19,7 +19,7 @@ tokenize-requires t c =
     let b = mark-next _ c.mark-m.ensures in
     (simp (length-take, length-drop) (omega (arith, c.decreases, c.if-s-eq0.false)), (simp (length-take, length-drop) (omega (arith, c.requires.0, c.if-s-eq0.false)), omega (arith, c.requires.1, b), c.requires.2))
 
-pub returns-then-is_mark : goal.returns-else-s-eq1
+pub returns-then-is_mark : goal.returns-then-is_mark
 returns-then-is_mark t c = wrote_then shown_layout _ (tokens-mark _ _ _ c.if-s-eq0.false _ c.is_mark.ensures c.if-is_mark.true) c.mark-m.ensures refl c.tokenize.ensures
 
 pub returns-then-b-eq92 : goal.returns-then-b-eq92
