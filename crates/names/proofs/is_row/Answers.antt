@@ -1,23 +1,15 @@
--- `is_row` meets its contract. The invariant: the word and the name agree if they do from i on. The name ends within the run. The
--- measure is what is left.
-use borrow.Author.Rules.{rules}
-use Rattle.names.proofs.Rows.{same_start, row-rises, row_fits, row_other, row_more, row-stop, row-end}
+-- `is_row` meets its contract: what stands between a name's bounds is the name.
+use native.Mathlib.Omega.{arith}
+use mathlib.Core.Path.{◌∙◌}
+use Rattle.names.proofs.Rows.{row-rises, row_fits, row-name}
 use Rattle.names.proofs.is_row.Goals as goal
 
-pub overflow_sub-n : goal.overflow_sub-n
-overflow_sub-n c = search (row-rises)
+pub slice_bounds-name-count : goal.slice_bounds-name-count
+slice_bounds-name-count c = search (row-rises)
 
-pub returns-then-w-n : goal.returns-then-w-n
-returns-then-w-n c = search (row_other)
-
-pub loop-i-init : goal.loop-i-init
-loop-i-init c = search (same_start, row_fits, rules)
-
-pub returns-then-w-i : goal.returns-then-w-i
-returns-then-w-i c = search (row-stop)
-
-pub loop-i-preserved : goal.loop-i-preserved
-loop-i-preserved c = search (row_more, rules)
+pub slice_bounds-name-start : goal.slice_bounds-name-start
+slice_bounds-name-start c =
+    omega (arith, row-rises _ _ _ _ c.requires.0 c.requires.1 c.from-begin.ensures c.from-end.ensures, row_fits _ _ _ _ c.requires.0 c.requires.1 c.from-begin.ensures c.from-end.ensures)
 
 pub returns : goal.returns
-returns c = search (row-end)
+returns c = c.eq.ensures ∙ row-name _ _ _ _ c.requires.0 c.requires.1 c.from-begin.ensures c.from-end.ensures c.args.w.now
