@@ -7,13 +7,12 @@
 --     passed-end, no_char         at the end all was UTF-8; where no character stands it is not
 -- Assumes nothing.
 use mathlib.Core.Path.{◌≡◌, refl, sym, ap, ◌∙◌}
-use mathlib.Core.List.{List, [], ◌∷◌}
-use mathlib.Core.Bool.{Bool, true, false, cond, not}
-use Prim.Native.Nat.{ℕ, zero, suc, ◌+◌, ◌-◌, ◌/◌, ◌≤◌, ◌<◌}
+use mathlib.Core.List.{List}
+use mathlib.Core.Bool.{Bool, true, false}
+use Prim.Native.Nat.{ℕ, ◌+◌, ◌-◌, ◌≤◌, ◌<◌}
 use native.Mathlib.Omega.{arith}
-use lib.ListN.{length, get_or, take, drop, length-take, length-drop, drop_of_length-le, take-append-drop}
+use lib.ListN.{length, take, drop, length-take, length-drop, drop_of_length-le, take-append-drop}
 use lib.Seq.{drop-drop, take-take}
-use borrow.Author.Tests.{le-ltb}
 use Rattle.classes.specs.Bytes.{any, is_high, lead}
 use Rattle.std.specs.Array.{IsFirstChunk}
 use Rattle.classes.specs.Eights.{packed, marked, outside}

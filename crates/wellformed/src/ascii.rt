@@ -40,7 +40,7 @@ fn ascii_bytes(s: &[u8], from: usize) -> usize
     requires { from ≤ length s.now }
     ensures { Passed s.now from result }
 {
-    let passed = s[from..].iter().take_while(|b| !(127 < **b)).count();
+    let passed = s[from..].iter().take_while(|b| b.is_ascii()).count();
     from + passed
 }
 

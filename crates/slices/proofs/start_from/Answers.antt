@@ -16,6 +16,6 @@ returns c =
     let s = drop c.args.from c.args.s.now in
     let rest = take_rest c.args.s.now c.args.from in
     let passed = count_from_yields_List c.take_while.result _ c.count-passed.ensures.ran
-        (YieldsList-from_take_while _ f (YieldsList-from_slice s cc) c.take_while.ensures.closure c.take_while.ensures.done (λ x b q k. search (rules, tests)))
-        ∙ length-prefix_len f s ∙ lead-prefix f s in
+    (YieldsList-from_take_while _ f (YieldsList-from_slice s cc) c.take_while.ensures.closure c.take_while.ensures.done (λ x b q k. search (rules, tests)))
+    ∙ length-prefix_len f s ∙ lead-prefix f s in
     ap (λ n. c.args.from + n) passed
