@@ -15,7 +15,7 @@ use native.Mathlib.Numerals.{add-one}
 use native.Mathlib.Omega.{arith}
 use lib.ListN.{length, get_or, drop, drop_of_length-le}
 use lib.Seq.{drop-cons}
-use lib.Dec.{leb, eqb}
+use lib.Dec.{eqb}
 use Rattle.std.specs.List.{prefix_len, suffix_len, fold}
 use Rattle.std.proofs.lemmas.List.Folds.{prefix_len-append}
 use Rattle.std.proofs.lemmas.List.Sums.{suffix_len-le-length}
@@ -23,8 +23,8 @@ use Rattle.std.proofs.lemmas.List.{length-reverse}
 use Rattle.std.proofs.lemmas.Grind.{reverse_onto}
 use mathlib.Core.List.{reverse}
 use Rattle.std.proofs.lemmas.Bool.Decides.{nat_tests}
-use borrow.Author.Tests.{leb-true, not-true, not-false}
-use Rattle.classes.specs.Bytes.{is_letter, lead, body, grown, any}
+use borrow.Author.Tests.{not-true, not-false}
+use Rattle.classes.specs.Bytes.{lead, body, grown, any}
 
 module _ (f : ℕ → Bool) (s : List ℕ) where
   -- what is counted from an index on

@@ -20,10 +20,12 @@ pub overflow_add-result : goal.overflow_add-result
 overflow_add-result c = let f = owed-few _ _ c.owed_behind-o.ensures in omega (arith, f)
 
 pub returns-then-is_paid : goal.returns-then-is_paid
-returns-then-is_paid c =
-    (char-all c.args.s.now c.args.at c.requires _ c.is_first.ensures c.if-not-is_first.false-raw _
-    c.owed_behind-o.ensures _ (length c.args.s.now - (c.args.at + 1)) c.is_paid.ensures
-    (simp length-drop (omega arith)) c.if-is_paid.true, omega arith)
+returns-then-is_paid c = (
+  char-all c.args.s.now c.args.at c.requires _ c.is_first.ensures c.if-not-is_first.false-raw _
+      c.owed_behind-o.ensures _ (length c.args.s.now - (c.args.at + 1)) c.is_paid.ensures
+      (simp length-drop (omega arith)) c.if-is_paid.true,
+  omega arith,
+)
 
 pub returns : goal.returns
 returns c =
