@@ -2,11 +2,13 @@
 --     by_word      that of a word by its number
 --     no-..        a word that is none of a kind
 --     other_word   and none of any
---     flag-on      a flag that is on for any number but 0, as the code tests it
+--     flag-one     a flag that is on where a test holds, as the code tells it
+--     flag-on      one that is on for any number but 0
 -- Assumes nothing.
 use mathlib.Core.Path.{◌≡◌, refl, sym, ap, ◌∙◌}
 use mathlib.Core.Bool.{Bool, true, false, cond, not}
 use lib.Dec.{eqb}
+use Rattle.std.specs.Int.{from_bool}
 use mathlib.Core.List.{[]}
 use Prim.Native.Nat.{ℕ}
 use borrow.Author.Tests.{ne_eqb}
@@ -89,9 +91,13 @@ other_word rd w num p q r s t = sym (ap (λ (x : Effect). painter_word rd w num 
     ∙ ap (λ (x : Effect). painter_word rd w num (paragraph_word w num (character_word w x))) s
     ∙ ap (λ (x : Effect). painter_word rd w num (paragraph_word w num x)) r ∙ ap (painter_word rd w num) q ∙ p)
 
-pub flag-on : (v : ℕ) → cond {A = ℕ} (not (eqb v 0)) 1 0 ≡ cond (eqb v 0) 0 1
+pub flag-one : (t : Bool) → from_bool t ≡ cond t 1 0
+flag-one true = refl
+flag-one false = refl
+
+pub flag-on : (v : ℕ) → from_bool (not (eqb v 0)) ≡ cond (eqb v 0) 0 1
 flag-on v = go (eqb v 0)
   where
-    go : (t : Bool) → cond {A = ℕ} (not t) 1 0 ≡ cond t 0 1
+    go : (t : Bool) → from_bool (not t) ≡ cond t 0 1
     go true = refl
     go false = refl

@@ -11,7 +11,7 @@
 
 pub mod rows;
 
-ghost use Rattle.std.specs.Prelude.{◌≡◌, cond, ◌<◌};
+ghost use Rattle.std.specs.Prelude.{◌≡◌, ◌<◌};
 ghost use Rattle.settings.specs.Fields.{width, fresh_painter, fresh_paragraph, fresh_state, row_of};
 ghost use Rattle.settings.specs.Effects.{flag_by, flag_of, fitted, spacing, ending as ending_of, indenting, effect, meaning, Within};
 
@@ -215,19 +215,10 @@ fn flag_by(reading: Reading, v: u32) -> u32
     ensures { result ≡ flag_by reading v }
 {
     match reading {
-        Reading::Plain => bit(v == 1),
-        Reading::Paragraphs => bit(v == 1),
-        Reading::Standard => bit(v != 0),
+        Reading::Plain => u32::from(v == 1),
+        Reading::Paragraphs => u32::from(v == 1),
+        Reading::Standard => u32::from(v != 0),
     }
-}
-
-fn bit(b: bool) -> u32
-    ensures { result ≡ cond b 1 0 }
-{
-    if b {
-        return 1;
-    }
-    0
 }
 
 // No number is on.

@@ -1,4 +1,7 @@
--- Marks of the bytes that pass a test, for the search: where the first one stands, and what it means that there is none.
+-- Eight bytes as one number. Marks of the bytes that pass a test: where the first one stands, and what it means that there is none.
+--     at-eight      eight bytes, one by one
+--     packed-le     the library's number of them
+--     chunk-is, chunk-within   the bytes behind a place, as the code takes them
 --     first-right   the zeros below the lowest mark
 --     unmarked      no mark, no such byte
 --     some-marked   a mark, and such a byte
@@ -8,15 +11,42 @@
 use mathlib.Core.Path.{◌≡◌, refl, ap, ◌∙◌}
 use mathlib.Core.List.{List, [], ◌∷◌}
 use mathlib.Core.Bool.{Bool, true, false, cond, not, ◌||◌}
-use Prim.Native.Nat.{ℕ, zero, suc, ◌+◌, ◌*◌, ◌/◌, ◌%◌, ◌^◌, ◌<◌}
+use Prim.Native.Nat.{ℕ, zero, suc, ◌+◌, ◌-◌, ◌*◌, ◌≤◌, ◌/◌, ◌%◌, ◌^◌, ◌<◌}
 use native.Mathlib.Nat.{mul-one, not-suc-le-zero, le_of_suc-le-suc}
 use native.Mathlib.Omega.{arith}
 use lib.Bits.{shifted_half, shifted_even}
 use lib.Count.{count_trailing_zeros, under}
-use lib.ListN.{length, get_or, take}
+use lib.ListN.{length, get_or, take, drop, length-take, length-drop}
+use Rattle.std.specs.Int.{w64, from_le_bytes}
+use Rattle.std.specs.Array.{IsFirstChunk}
+use Rattle.std.proofs.lemmas.List.{take_rest}
 use Rattle.classes.specs.Bytes.{lead, any}
-use Rattle.slices.specs.Eights.{packed, marked, outside}
-use Rattle.slices.proofs.Packed.{at-eight}
+use Rattle.classes.specs.Eights.{packed, marked, outside}
+
+pub at-eight : (P : List ℕ → Type 0)
+    → ((a b c d e f g h : ℕ) → P (a ∷ b ∷ c ∷ d ∷ e ∷ f ∷ g ∷ h ∷ []))
+    → (s : List ℕ) → length s ≡ 8 → P s
+at-eight P p (a ∷ b ∷ c ∷ d ∷ e ∷ f ∷ g ∷ h ∷ []) q = p a b c d e f g h
+at-eight P p [] q = absurd (omega arith)
+at-eight P p (a ∷ []) q = absurd (omega arith)
+at-eight P p (a ∷ b ∷ []) q = absurd (omega arith)
+at-eight P p (a ∷ b ∷ c ∷ []) q = absurd (omega arith)
+at-eight P p (a ∷ b ∷ c ∷ d ∷ []) q = absurd (omega arith)
+at-eight P p (a ∷ b ∷ c ∷ d ∷ e ∷ []) q = absurd (omega arith)
+at-eight P p (a ∷ b ∷ c ∷ d ∷ e ∷ f ∷ []) q = absurd (omega arith)
+at-eight P p (a ∷ b ∷ c ∷ d ∷ e ∷ f ∷ g ∷ []) q = absurd (omega arith)
+at-eight P p (a ∷ b ∷ c ∷ d ∷ e ∷ f ∷ g ∷ h ∷ i ∷ s) q = absurd (omega arith)
+
+pub packed-le : (s : List ℕ) → length s ≡ 8 → from_le_bytes w64 s ≡ packed s
+unfolding packed
+packed-le = at-eight (λ s. from_le_bytes w64 s ≡ packed s) (λ a b c d e f g h. omega arith)
+
+module _ (s : List ℕ) (i n : ℕ) (b : List ℕ) (x : IsFirstChunk (take (length s - i) (drop i s)) b n) where
+  pub chunk-is : b ≡ take n (drop i s)
+  chunk-is = x.same ∙ ap (take n) (take_rest s i)
+
+  pub chunk-within : i ≤ length s → i + n ≤ length s
+  chunk-within h = omega (arith, simp (length-take, length-drop) at x.enough)
 
 -- i more, one by one
 abbrev up : ℕ → ℕ → ℕ
