@@ -16,13 +16,12 @@ use Rattle.answers.specs.Answers.{refusal, answer_number}
 use Rattle.rooms.specs.Streams.{Stream, end, stop, ◌▸◌, items, count, answer}
 use Rattle.rooms.specs.Rooms.{capacity}
 use Rattle.sevens.specs.declared.Numeral.{Numeral}
-use Rattle.sevens.specs.declared.Numeral.TheVariants.{Is as Numbered, Bad as BadNumber, Short}
+use Rattle.answers.specs.declared.Why.{Why}
 use Rattle.sevens.specs.Sevens.{number_of}
 use Rattle.blocks.specs.Pages.{Piece, Last, none, last, starts, roomy, block_words}
 use Rattle.stored.specs.declared.entry.Entry.{Entry}
-use Rattle.stored.specs.declared.entry.Entry.TheVariants.{Is, Bad}
 use Rattle.stored.specs.Entries.{entry}
-use Rattle.stored.specs.Stored.{over, entered, blocks_from, counted, stored, placed, answered, stored_answer, answer_number}
+use Rattle.stored.specs.Stored.{over, entered, blocks_from, counted, stored, placed, answered, stored_answer}
 use Rattle.stored.specs.Checks.{checked}
 use Rattle.stored.proofs.Entries.{entry-is}
 use Rattle.answers.specs.declared.Refusal.{Refusal}
@@ -38,22 +37,22 @@ unfolding blocks_from count
 count-blocks zero l s = count-over s
 count-blocks (suc k) l s = go (entry l s) refl (λ l' m. count-blocks k l' (drop m s))
   where
-    go : (e : Entry) → entry l s ≡ e → ((l' : Last) (m : ℕ) → count (blocks_from k l' (drop m s)) ≤ length (drop m s))
+    go : (e : Result Entry Refusal) → entry l s ≡ e → ((l' : Last) (m : ℕ) → count (blocks_from k l' (drop m s)) ≤ length (drop m s))
         → count (entered e s (blocks_from k)) ≤ length s
-    go (Is st m n) e more =
+    go (Ok x) e more =
         let w = entry-is l s e in
-        let h : count (blocks_from k (last st) (drop (m + n) s)) ≤ length s - (m + n) = rw (length-drop (m + n) s) at (more (last st) (m + n)) in
+        let n : ℕ = x.numbers + x.text in
+        let h : count (blocks_from k (last x.style) (drop n s)) ≤ length s - n = rw (length-drop n s) at (more (last x.style) n) in
         omega (arith, h, w.within, w.numbers)
-    go (Bad r) e more = omega arith
+    go (Err r) e more = omega arith
 
 pub count-stored : (s : List ℕ) → count (stored s) ≤ length s
 unfolding stored count
 count-stored s = go (number_of s)
   where
-    go : (x : Numeral) → count (counted x s) ≤ length s
-    go (Numbered n m) = let h = count-blocks n none (drop m s) in let l = length-drop m s in omega (arith, h, l)
-    go BadNumber = omega arith
-    go Short = omega arith
+    go : (x : Result Numeral Why) → count (counted x s) ≤ length s
+    go (Ok x) = let h = count-blocks x.value none (drop x.length s) in let l = length-drop x.length s in omega (arith, h, l)
+    go (Err why) = omega arith
 
 -- the next block, by whether it starts one
 one : (b t : ℕ) (y : Bool) (x : Piece) (s z : Stream Refusal Piece) → 0 < b

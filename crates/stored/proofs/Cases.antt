@@ -13,7 +13,7 @@ use Rattle.fields.specs.Fields.{unfolded, by_place, in_range}
 use Rattle.styles.specs.Styles.{style_at}
 use Rattle.blocks.specs.Pages.{blocks, text_of, block_record, records, roomy, blocks_from as joined_from}
 use Rattle.stored.specs.Entries.{numbers_from, ruled, entry}
-use Rattle.stored.specs.Stored.{blocks_from, stored, placed, stored_answer, stored_blocks, stored_text, answer_number}
+use Rattle.stored.specs.Stored.{blocks_from, stored, placed, stored_answer, stored_blocks, stored_text}
 use Rattle.stored.specs.Checks.{checked}
 
 -- a list, the words of a block room and the bytes of a text room, the answer's number, what the rooms hold, the check's number

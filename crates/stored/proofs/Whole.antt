@@ -1,5 +1,5 @@
 -- A whole list, each way through the code.
---     lay-is, -bad, -short       laid
+--     lay-is, -not               laid
 --     list_full, list-laid       read
 -- Assumes nothing.
 use mathlib.Core.Path.{◌≡◌, sym, ap, ◌∙◌}
@@ -7,34 +7,29 @@ use mathlib.Core.List.{List, ◌++◌}
 use Prim.Native.Nat.{ℕ, ◌-◌, ◌*◌}
 use lib.ListN.{length, take, drop, replicate}
 use Rattle.answers.specs.declared.Refusal.{Refusal}
-use Rattle.answers.specs.declared.Why.TheVariants.{StoredNumber, StoredShort}
 use Rattle.answers.specs.Answers.{refusal}
 use Rattle.rooms.specs.Streams.{Stream, items, answer}
 use Rattle.sevens.specs.declared.Numeral.{Numeral}
-use Rattle.sevens.specs.declared.Numeral.TheVariants.{Is as Numbered, Bad as BadNumber, Short}
+use Rattle.answers.specs.declared.Why.{Why}
 use Rattle.sevens.specs.Sevens.{number_of}
 use Rattle.blocks.specs.declared.Page.{Page}
 use Rattle.blocks.specs.Pages.{Piece, none, blocks, block_words}
 use Rattle.blocks.specs.Laying.{Laying, on, off, told, blank, lay_all}
 use Rattle.blocks.proofs.Settling.{lay-refuses, lay-joins, Joined, Filled, joined-filled}
 use Rattle.stored.specs.Stored.{blocks_from, stored, placed, stored_answer, stored_blocks, stored_text, ReadsList}
-use Rattle.stored.proofs.Blocks.{stored_is, stored-bad, stored_short}
+use Rattle.stored.proofs.Blocks.{stored_is, stored-not}
 use Rattle.std.specs.Prelude.{Result, Ok, Err}
 use Rattle.stored.specs.declared.Counts.{Counts}
 
-module _ (s : List ℕ) {x : Numeral} (d : x ≡ number_of s) (b t : List ℕ) where
-  pub lay-is : {v m k : ℕ} → x ≡ Numbered v m → k ≡ v → {l : Laying}
-      → l ≡ lay_all (on blank b t) (blocks_from k none (take (length s - m) (drop m s)))
+module _ (s : List ℕ) (b t : List ℕ) where
+  pub lay-is : {x : Numeral} → number_of s ≡ Ok x → {k : ℕ} → k ≡ x.value → {l : Laying}
+      → l ≡ lay_all (on blank b t) (blocks_from k none (take (length s - x.length) (drop x.length s)))
       → l ≡ lay_all (on blank b t) (stored s)
-  lay-is e f h = h ∙ rw (stored_is s d e f)
+  lay-is e f h = h ∙ rw (stored_is s e, f)
 
-  pub lay-bad : x ≡ BadNumber → {r : Refusal} → r ≡ refusal StoredNumber → off r ≡ lay_all (on blank b t) (stored s)
+  pub lay-not : {why : Why} → number_of s ≡ Err why → {r : Refusal} → r ≡ refusal why → off r ≡ lay_all (on blank b t) (stored s)
   unfolding lay_all
-  lay-bad e f = rw (f, stored-bad s d e)
-
-  pub lay-short : x ≡ Short → {r : Refusal} → r ≡ refusal StoredShort → off r ≡ lay_all (on blank b t) (stored s)
-  unfolding lay_all
-  lay-short e f = rw (f, stored_short s d e)
+  lay-not e f = rw (f, stored-not s e)
 
 module _ (s b t : List ℕ) (l : Result Page Refusal) (b₁ t₁ : List ℕ) (h : told l b₁ t₁ ≡ lay_all (on blank b t) (stored s)) where
   pub list_full : {k : Refusal} → l ≡ Err k → {r : Result Counts Refusal} {b₂ t₂ : List ℕ} → r ≡ Err k → b₂ ≡ replicate (length b₁) 0

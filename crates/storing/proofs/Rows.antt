@@ -26,7 +26,7 @@ use Rattle.storing.specs.Bytes.{block_bytes}
 use Rattle.storing.proofs.Putting.{Ahead, wrote-length, length-block}
 use Rattle.storing.specs.Lists.{pieces_from, bytes_of}
 use Rattle.answers.specs.declared.Refusal.{Refusal}
-use Rattle.std.specs.Prelude.{Result, Ok, Err}
+use Rattle.std.specs.Prelude.{Result, Ok, Err, Option, Some, None}
 
 -- the bytes of the records that words are
 abbrev pub rows_of : List ℕ → Last → ℕ → List ℕ → Stream Refusal ℕ
@@ -59,43 +59,42 @@ module _ (l : Last) (p : ℕ) (tx ws : List ℕ) where
   rows_end h e = rw (none_left h, eq-eqb p (length tx) e)
 
 -- ws are the words left, behind p bytes of the text
-pub record Rows (blocks tx : List ℕ) (n : ℕ) (room₀ room ws : List ℕ) (begun : Bool) (before : Style) (p at : ℕ) : Type 0 where
+pub record Rows (blocks tx : List ℕ) (n : ℕ) (room₀ room ws : List ℕ) (before : Option Style) (p at : ℕ) : Type 0 where
   pub within : p ≤ length tx
   pub place : at ≤ 5 + 61 * p
   pub same : length room ≡ length room₀
-  pub left : Ahead n room₀ (rows_of blocks none 0 tx) at room (rows_of ws (last_of begun before) p tx)
+  pub left : Ahead n room₀ (rows_of blocks none 0 tx) at room (rows_of ws (last_of before) p tx)
 
-pub rows_start : (blocks tx : List ℕ) (n : ℕ) (room : List ℕ) (s : Style) → n ≤ 5
-    → Rows blocks tx n room room blocks false s 0 n
-rows_start blocks tx n room s h = record { within = omega arith; place = omega arith; same = refl; left = λ r room' w. w }
+pub rows_start : (blocks tx : List ℕ) (n : ℕ) (room : List ℕ) → n ≤ 5 → Rows blocks tx n room room blocks None 0 n
+rows_start blocks tx n room h = record { within = omega arith; place = omega arith; same = refl; left = λ r room' w. w }
 
-module _ {blocks tx : List ℕ} {n : ℕ} {room₀ room ws : List ℕ} {begun : Bool} {before : Style} {p at : ℕ}
-    (l : Rows blocks tx n room₀ room ws begun before p at) where
-  stops : rows_of ws (last_of begun before) p tx ≡ stop (refusal StoredField) → {r : Result ℕ Refusal} → r ≡ Err (refusal StoredField)
+module _ {blocks tx : List ℕ} {n : ℕ} {room₀ room ws : List ℕ} {before : Option Style} {p at : ℕ}
+    (l : Rows blocks tx n room₀ room ws before p at) where
+  stops : rows_of ws (last_of before) p tx ≡ stop (refusal StoredField) → {r : Result ℕ Refusal} → r ≡ Err (refusal StoredField)
       → Wrote byte_layout n room₀ (rows_of blocks none 0 tx) r room
   stops e q = rw q (l.left (Err (refusal StoredField)) room (wrote-stop byte_layout e refl))
 
-  pub rows-stop : block_words ≤ length ws → {a : Bool} {r : Result ℕ Refusal} → a ≡ fits (last_of begun before) p ws tx → not a ≡ true
+  pub rows-stop : block_words ≤ length ws → {a : Bool} {r : Result ℕ Refusal} → a ≡ fits (last_of before) p ws tx → not a ≡ true
       → r ≡ Err (refusal StoredField)
       → Wrote byte_layout n room₀ (rows_of blocks none 0 tx) r room
-  rows-stop h {a} e t q = stops (row-bad (last_of begun before) p tx ws h (sym e ∙ not-true a t)) q
+  rows-stop h {a} e t q = stops (row-bad (last_of before) p tx ws h (sym e ∙ not-true a t)) q
 
   pub rows-over : length ws < block_words → p < length tx → {r : Result ℕ Refusal} → r ≡ Err (refusal StoredField)
       → Wrote byte_layout n room₀ (rows_of blocks none 0 tx) r room
-  rows-over h f q = stops (rows-rest (last_of begun before) p tx ws h (λ e. omega arith)) q
+  rows-over h f q = stops (rows-rest (last_of before) p tx ws h (λ e. omega arith)) q
 
   pub rows-done : length ws < block_words → length tx ≤ p → Wrote byte_layout n room₀ (rows_of blocks none 0 tx) (Ok at) room
   rows-done h e =
       let q : p ≡ length tx = omega (arith, l.within) in
-      l.left (Ok at) room (wrote_none byte_layout (rows_end (last_of begun before) p tx ws h q))
+      l.left (Ok at) room (wrote_none byte_layout (rows_end (last_of before) p tx ws h q))
 
-  module _ (h : block_words ≤ length ws) {a : Bool} (e : a ≡ fits (last_of begun before) p ws tx) (t : not a ≡ false) where
-    pub row-fit : Fit (last_of begun before) p ws tx
-    row-fit = fits-fit (last_of begun before) p ws tx (sym e ∙ not-false a t)
+  module _ (h : block_words ≤ length ws) {a : Bool} (e : a ≡ fits (last_of before) p ws tx) (t : not a ≡ false) where
+    pub row-fit : Fit (last_of before) p ws tx
+    row-fit = fits-fit (last_of before) p ws tx (sym e ∙ not-false a t)
 
     pub rows_more : {s : Style} {count : ℕ} → s ≡ style_at ws → count ≡ length_at ws → {at' : ℕ} {room' : List ℕ}
         → Wrote byte_layout at room (streamed (block_bytes (piece s (take (p + count - p) (drop p tx))))) (Ok at') room'
-        → Rows blocks tx n room₀ room' (take (length ws - block_words) (drop block_words ws)) true s (p + count) at'
+        → Rows blocks tx n room₀ room' (take (length ws - block_words) (drop block_words ws)) (Some s) (p + count) at'
     rows_more {s} {count} es ec {at'} {room'} w =
         let k : p + count - p ≡ length_at ws = omega arith in
         let x : Piece = piece s (take (p + count - p) (drop p tx)) in
@@ -104,8 +103,8 @@ module _ {blocks tx : List ℕ} {n : ℕ} {room₀ room ws : List ℕ} {begun : 
         let d : take (length ws - block_words) (drop block_words ws) ≡ drop block_words ws =
         take_all (length ws - block_words) (drop block_words ws) (simp length-drop (omega arith)) in
         let next : Stream Refusal ℕ = rows_of (take (length ws - block_words) (drop block_words ws)) (last s) (p + count) tx in
-        let c : rows_of ws (last_of begun before) p tx ≡ and_then (streamed (block_bytes x)) next =
-        row-good (last_of begun before) p tx ws h (sym e ∙ not-false a t) ∙ rw (k, es, ec, d) in
+        let c : rows_of ws (last_of before) p tx ≡ and_then (streamed (block_bytes x)) next =
+        row-good (last_of before) p tx ws h (sym e ∙ not-false a t) ∙ rw (k, es, ec, d) in
         record {
           within = omega (arith, l.within, f.within);
           place = omega (arith, l.place, f.some, place_after (block_bytes x) w, length-block x);

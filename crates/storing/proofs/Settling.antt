@@ -1,5 +1,5 @@
 -- What was written, and the room at the end.
---     settle-fits, settle-over     whether the room holds it
+--     settle-fits, -over, -refused the room holds it, it does not, it is a refusal
 --     written-done                 what is known of what was written
 --     settle-answer, settle-room   the answer, and the room with zeros behind the list
 -- Assumes nothing.
@@ -26,16 +26,16 @@ use Rattle.blocks.specs.Pages.{block_words}
 use Rattle.storing.specs.Storing.{indented, unless_indented, list_answer, write_answer, write_room}
 use Rattle.std.specs.Prelude.{Result, Ok, Err}
 
-pub settle-fits : (o : Result ℕ Refusal) (total : ℕ) → outcome_count o ≤ total → o ≡ settled byte_layout (refusal OutputRoom) total o
-unfolding settled
-settle-fits (Ok n) total h = sym (settled-fits byte_layout (refusal OutputRoom) total n (omega arith))
-settle-fits (Err r) total h = refl
+module _ {o : Result ℕ Refusal} (total : ℕ) where
+  pub settle-fits : {n : ℕ} → o ≡ Ok n → n ≤ total → Ok n ≡ settled byte_layout (refusal OutputRoom) total o
+  settle-fits {n} e h = rw e (sym (settled-fits byte_layout (refusal OutputRoom) total n (omega arith)))
 
-pub settle-over : (o : Result ℕ Refusal) (total : ℕ) → total < outcome_count o → {r : Refusal} → r ≡ refusal OutputRoom
-    → Err r ≡ settled byte_layout (refusal OutputRoom) total o
-unfolding settled
-settle-over (Ok n) total h e = ap Err e ∙ sym (settled-over byte_layout (refusal OutputRoom) total n (omega arith))
-settle-over (Err r) total h e = absurd (omega arith)
+  pub settle-over : {n : ℕ} → o ≡ Ok n → total < n → {r : Refusal} → r ≡ refusal OutputRoom → Err r ≡ settled byte_layout (refusal OutputRoom) total o
+  settle-over {n} e h {r} q = rw (e, q) (sym (settled-over byte_layout (refusal OutputRoom) total n (omega arith)))
+
+  pub settle-refused : {r : Refusal} → o ≡ Err r → Err r ≡ settled byte_layout (refusal OutputRoom) total o
+  unfolding settled
+  settle-refused e = rw e
 
 -- what is settled was written, and the room holds it
 settled-done : (o : Result ℕ Refusal) (total m : ℕ) → settled byte_layout (refusal OutputRoom) total o ≡ Ok m
@@ -44,7 +44,7 @@ unfolding settled
 settled-done (Ok n) total m = go (leb n (total / 1)) refl
   where
     go : (t : Bool) → leb n (total / 1) ≡ t → cond t (Ok n) (Err (refusal OutputRoom)) ≡ Ok m
-        → (Ok n ≡ Ok m) × (m ≤ total)
+        → (◌≡◌ {A = Result ℕ Refusal} (Ok n) (Ok m)) × (m ≤ total)
     go true e d = let k : n ≡ m = cc in (d, omega (arith, leb-true n (total / 1) e))
     go false e d = absurd (ok_err (sym d))
 settled-done (Err r) total m = λ d. absurd (ok_err (sym d))

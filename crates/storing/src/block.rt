@@ -23,11 +23,8 @@ fn put_numbers(words: &[u32], room: &mut [u8], n: usize) -> usize
         room.new }
 {
     let mut at = n;
-    let mut i: usize = 0;
-    while i < words.len() {
-        let v = words[i];
-        at = put_number(v, room, at);
-        i += 1;
+    for v in words {
+        at = put_number(*v, room, at);
     }
     at
 }
@@ -39,12 +36,9 @@ fn put_bytes(bytes: &[u8], room: &mut [u8], n: usize) -> usize
         room.new }
 {
     let mut at = n;
-    let mut i: usize = 0;
-    while i < bytes.len() {
-        let b = bytes[i];
-        put_byte(room, at, b);
+    for b in bytes {
+        put_byte(room, at, *b);
         at += 1;
-        i += 1;
     }
     at
 }

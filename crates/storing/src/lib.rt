@@ -20,7 +20,7 @@ ghost use Rattle.blocks.specs.Pages.{block_words};
 ghost use Rattle.storing.specs.Storing.{indented, unless_indented, WritesList};
 
 use crate::list::put_list;
-use answers::{Refusal, Why};
+use answers::{Refusal, Why, count_of};
 use blocks::BLOCK_WORDS;
 use rooms::clear_from;
 use styles::{Style, is_flush};
@@ -44,23 +44,20 @@ fn has_indent(blocks: &[u32]) -> bool
 fn unindented(outcome: Result<usize, Refusal>, blocks: &[u32]) -> Result<usize, Refusal>
     ensures { result ≡ unless_indented (indented (length blocks.now / block_words) blocks.now) outcome }
 {
-    match outcome {
-        Err(refusal) => Err(refusal),
-        Ok(n) => {
-            if has_indent(blocks) {
-                return Err(Refusal::of(Why::IndentNotZero));
-            }
-            Ok(n)
-        }
+    let n = outcome?;
+    if has_indent(blocks) {
+        return Err(Refusal::of(Why::IndentNotZero));
     }
+    Ok(n)
 }
 
 // 25, where more was written than the room's total.
 fn settle(outcome: Result<usize, Refusal>, total: usize) -> Result<usize, Refusal>
     ensures { result ≡ settled byte_layout (refusal Why.OutputRoom) total outcome }
 {
-    if outcome.count() <= total {
-        return outcome;
+    let n = outcome?;
+    if n <= total {
+        return Ok(n);
     }
     Err(Refusal::of(Why::OutputRoom))
 }
@@ -72,7 +69,7 @@ pub fn write_list(blocks: &[u32], text: &[u8], room: &mut [u8]) -> Result<usize,
     let outcome = put_list(blocks, text, room);
     let bare = unindented(outcome, blocks);
     let answer = settle(bare, room.len());
-    let count = answer.count();
+    let count = count_of(answer);
     clear_from(room, count, 0);
     answer
 }

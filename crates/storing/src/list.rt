@@ -34,18 +34,17 @@ fn put_blocks(blocks: &[u32], text: &[u8], room: &mut [u8], n: usize) -> Result<
         result room.new }
 {
     let mut words = blocks;
-    let mut begun = false;
-    let mut before = Style::blank();
+    let mut before = None;
     let mut p: usize = 0;
     let mut at = n;
     while BLOCK_WORDS <= words.len() {
-        if !fits(begun, before, p, words, text) {
+        if !fits(before, p, words, text) {
             return unfit();
         }
-        before = Style::at(words);
-        begun = true;
+        let style = Style::at(words);
         let end = p + wide(words[TEXT_LENGTH]);
-        at = put_block(before, &text[p..end], room, at);
+        at = put_block(style, &text[p..end], room, at);
+        before = Some(style);
         p = end;
         words = &words[BLOCK_WORDS..];
     }

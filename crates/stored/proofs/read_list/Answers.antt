@@ -7,32 +7,19 @@ use Rattle.stored.proofs.read_list.Goals as goal
 
 pub overflow_mul-count : goal.overflow_mul-count
 overflow_mul-count c =
-    let at-laid2 = c in
-    let at-lay-list = at-laid2 in
-    let start = at-lay-list in
-    let b = start.well_formed in
-    let h = count-words (length start.args.blocks.now) (length start.args.text.now)
-    (rw at-laid2.in-Ok.is at at-lay-list.lay_list-laid.ensures.still) in
+    let b = c.well_formed in
+    let h = count-words (length c.args.blocks.now) (length c.args.text.now) (rw c.in-Ok.is at c.lay_list-laid.ensures.still) in
     omega arith
 
 pub returns-in-Err : goal.returns-in-Err
 returns-in-Err c =
-    let at-refuse = c in
-    let at-laid = at-refuse in
-    let at-lay-list = at-laid in
-    let start = at-lay-list in
-    list_full start.args.list.now start.args.blocks.now start.args.text.now
-    at-lay-list.lay_list-laid.result _ _ at-lay-list.lay_list-laid.ensures.laid at-laid.in-Err.is
-    at-refuse.refuse.ensures.answer at-refuse.refuse.ensures.block_room at-refuse.refuse.ensures.text_room
-    at-lay-list.lay_list-laid.auto.blocks at-lay-list.lay_list-laid.auto.text
+    let laid = c.lay_list-laid in
+    let e = c.refuse.ensures in
+    list_full c.args.list.now c.args.blocks.now c.args.text.now laid.result _ _ laid.ensures.laid c.in-Err.is
+    e.answer e.block_room e.text_room laid.auto.blocks laid.auto.text
 
 pub returns-in-Ok : goal.returns-in-Ok
 returns-in-Ok c =
-    let at-clear-from = c in
-    let at-clear-from = at-clear-from in
-    let at-laid2 = at-clear-from in
-    let at-lay-list = at-laid2 in
-    let start = at-lay-list in
-    list-laid start.args.list.now start.args.blocks.now start.args.text.now
-    at-lay-list.lay_list-laid.result _ _ at-lay-list.lay_list-laid.ensures.laid at-laid2.in-Ok.is
-    at-clear-from.clear_from.ensures at-clear-from.clear_from.ensures
+    let laid = c.lay_list-laid in
+    list-laid c.args.list.now c.args.blocks.now c.args.text.now laid.result _ _ laid.ensures.laid c.in-Ok.is
+    c.clear_from.ensures c.clear_from-in-Ok.ensures

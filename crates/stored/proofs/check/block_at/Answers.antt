@@ -3,6 +3,7 @@ use native.Mathlib.Omega.{arith}
 use lib.ListN.{length-take}
 use mathlib.Core.Path.{refl}
 use Rattle.fields.specs.Fields.{last_of}
+use Rattle.std.proofs.lemmas.Result.{err_from_is_err_and}
 use Rattle.stored.proofs.Branches.{block_refused, block_within, block-entry}
 use Rattle.stored.proofs.check.block_at.Goals as goal
 
@@ -14,36 +15,24 @@ style_from-style-requires c = simp length-take (omega arith)
 
 pub slice_bounds-ruled-count : goal.slice_bounds-ruled-count
 slice_bounds-ruled-count c =
-    let at-numbers2 = c in
-    let at-numbers-at = at-numbers2 in
-    let start = at-numbers-at in
-    let w = block_within (last_of start.args.begun start.args.before) start.args.s.now _
-    at-numbers-at.numbers_at-numbers.result refl at-numbers-at.numbers_at-numbers.ensures at-numbers2.in-Ok.is in
+    let n = c.numbers_at in
+    let w = block_within (last_of c.args.before) c.args.s.now _ n.result refl n.ensures c.in_ok-m.was in
     omega arith
 
 pub slice_bounds-ruled-start : goal.slice_bounds-ruled-start
 slice_bounds-ruled-start c =
-    let at-numbers2 = c in
-    let at-numbers-at = at-numbers2 in
-    let start = at-numbers-at in
-    let w = block_within (last_of start.args.begun start.args.before) start.args.s.now _
-    at-numbers-at.numbers_at-numbers.result refl at-numbers-at.numbers_at-numbers.ensures at-numbers2.in-Ok.is in
+    let n = c.numbers_at in
+    let w = block_within (last_of c.args.before) c.args.s.now _ n.result refl n.ensures c.in_ok-m.was in
     omega arith
 
-pub returns-in-Err : goal.returns-in-Err
-returns-in-Err c =
-    let at-numbers-at = c in
-    let start = at-numbers-at in
-    block_refused (last_of start.args.begun start.args.before) start.args.s.now _
-    at-numbers-at.numbers_at-numbers.result refl at-numbers-at.numbers_at-numbers.ensures c.in-Err.is
+pub returns-in_err-m : goal.returns-in_err-m
+returns-in_err-m c =
+    let p = err_from_is_err_and c.from_residual.result c.from_residual.ensures.1 in
+    let n = c.numbers_at in
+    rw (p.1, p.2) (block_refused (last_of c.args.before) c.args.s.now _ n.result refl n.ensures c.in_err-m.was)
 
-pub returns-in-Ok : goal.returns-in-Ok
-returns-in-Ok c =
-    let at_wide = c in
-    let at-style-from = at_wide in
-    let at-numbers2 = at-style-from in
-    let at-numbers-at = at-numbers2 in
-    let start = at-numbers-at in
-    block-entry (last_of start.args.begun start.args.before) start.args.s.now _
-    at-numbers-at.numbers_at-numbers.result refl at-numbers-at.numbers_at-numbers.ensures at-numbers2.in-Ok.is
-    at-style-from.style_from-style.ensures at_wide.wide-n.ensures c.ruled.ensures
+pub returns : goal.returns
+returns c =
+    let n = c.numbers_at in
+    block-entry (last_of c.args.before) c.args.s.now _ n.result refl n.ensures c.in_ok-m.was
+    c.style_from-style.ensures c.wide-n.ensures c.ruled.ensures

@@ -6,7 +6,7 @@ use Rattle.storing.proofs.list.put_blocks.Given as goal
 
 abbrev pub invariant-loop-words : goal.invariant-loop-words
 invariant-loop-words l =
-    Rows l.blocks l.text l.n l.initial.room l.room l.words l.begun l.before l.p l.at
+    Rows l.blocks l.text l.n l.initial.room l.room l.words l.before l.p l.at
 
 abbrev pub decreases-loop-words : goal.decreases-loop-words
 decreases-loop-words l = length l.words
