@@ -26,13 +26,9 @@ pub fn append(bytes: &[u8], page: &mut [u8], at: usize) -> usize
     requires { at ≤ length page.old }
     ensures { Put page.old at bytes.now page.new result }
 {
-    let mut end = at;
-    let mut i = 0;
-    while i < bytes.len() {
-        let byte = bytes[i];
-        end = push(byte, page, end);
-        i += 1;
-    }
+    let fitting = (page.len() - at).min(bytes.len());
+    let end = at + fitting;
+    page[at..end].copy_from_slice(&bytes[..fitting]);
     end
 }
 
@@ -91,12 +87,9 @@ fn record_line(words: &[u32], page: &mut [u8], at: usize) -> usize
     ensures { Put page.old at (line words.now) page.new result }
 {
     let mut end = at;
-    let mut i = 0;
-    while i < words.len() {
-        let word = words[i];
-        i += 1;
-        let mark = behind(i, words.len());
-        end = signed(word, mark, page, end);
+    for (i, word) in words.iter().enumerate() {
+        let mark = behind(i + 1, words.len());
+        end = signed(*word, mark, page, end);
     }
     end
 }
@@ -106,16 +99,13 @@ pub fn records(room: &[u32], count: usize, width: usize, page: &mut [u8], at: us
     requires { at ≤ length page.old }
     ensures { Put page.old at (lines width count room.now) page.new result }
 {
-    let mut rest = room;
+    // Records of no words have no lines.
+    if width == 0 {
+        return at;
+    }
     let mut end = at;
-    let mut k = 0;
-    while k < count {
-        if rest.len() < width {
-            return end;
-        }
-        end = record_line(&rest[..width], page, end);
-        rest = &rest[width..];
-        k += 1;
+    for record in room.chunks_exact(width).take(count) {
+        end = record_line(record, page, end);
     }
     end
 }
