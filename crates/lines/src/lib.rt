@@ -51,7 +51,7 @@ pub fn place_item(answer: u32, place: u32, page: &mut [u8], at: usize) -> usize
     if answer == 0 {
         return at;
     }
-    number(place as u64, b' ', page, at)
+    number(u64::from(place), b' ', page, at)
 }
 
 // How far a word that stands for a negative number lies below 0.
@@ -59,7 +59,7 @@ fn below_zero(value: u32) -> u64
     requires { 2147483648 ≤ value }
     ensures { result + value ≡ 4294967296 }
 {
-    4294967296 - (value as u64)
+    4294967296 - u64::from(value)
 }
 
 // A word as a number of 32 bits in two's complement.
@@ -68,7 +68,7 @@ fn signed(value: u32, behind: u8, page: &mut [u8], at: usize) -> usize
     ensures { Put page.old at (signed_text value ++ (behind ∷ [])) page.new result }
 {
     if value < 2147483648 {
-        return number(value as u64, behind, page, at);
+        return number(u64::from(value), behind, page, at);
     }
     let end = push(b'-', page, at);
     number(below_zero(value), behind, page, end)
