@@ -1,3 +1,2 @@
--- Fronts, for the programs: what is known of an answer that was found. Judging: why a verdict is right.
-pub mod Fronts
+-- Judging: why what is said of an answer is right.
 mod Judging

@@ -21,12 +21,6 @@ pub struct Difference {
     pub listed: u64,
 }
 
-#[derive(Clone, Copy)]
-pub enum Verdict {
-    Same,
-    Differs(Difference),
-}
-
 // The first word of the room that is not the one in the records, or behind them not zero; the room's length if
 // there is none.
 fn first_unlike(room: &[u32], records: &[u8]) -> usize
@@ -34,39 +28,37 @@ fn first_unlike(room: &[u32], records: &[u8]) -> usize
     ensures before { (k : ℕ) → k < result → get_or room.now k 0 ≡ word_at records.now (4 * k) }
     ensures found { result < length room.now → get_or room.now result 0 ≡ word_at records.now (4 * result) → ⊥ }
 {
-    let mut k = 0;
-    while k < room.len() {
-        if room[k] != word(records, 4 * k) {
+    for (k, ours) in room.iter().enumerate() {
+        if *ours != word(records, 4 * k) {
             return k;
         }
-        k += 1;
     }
-    k
+    room.len()
 }
 
-// Our answer against the listed one.
-pub fn compare(outcome: Outcome, room: &[u32], answer: Answer, records: &[u8]) -> Verdict
+// How our answer differs from the listed one, if it does.
+pub fn compare(outcome: Outcome, room: &[u32], answer: Answer, records: &[u8]) -> Option<Difference>
     ensures { Judged outcome room.now answer records.now result }
 {
     let refusal = outcome.number();
     if refusal != answer.refusal {
-        return Verdict::Differs(Difference {
+        return Some(Difference {
             part: Part::Refusal,
-            ours: refusal as u64,
-            listed: answer.refusal as u64,
+            ours: u64::from(refusal),
+            listed: u64::from(answer.refusal),
         });
     }
     let place = outcome.place();
     if place != answer.place {
-        return Verdict::Differs(Difference {
+        return Some(Difference {
             part: Part::Place,
-            ours: place as u64,
-            listed: answer.place as u64,
+            ours: u64::from(place),
+            listed: u64::from(answer.place),
         });
     }
     let count = outcome.count();
     if count != answer.tokens {
-        return Verdict::Differs(Difference {
+        return Some(Difference {
             part: Part::Count,
             ours: count as u64,
             listed: answer.tokens as u64,
@@ -74,11 +66,11 @@ pub fn compare(outcome: Outcome, room: &[u32], answer: Answer, records: &[u8]) -
     }
     let at = first_unlike(room, records);
     if at < room.len() {
-        return Verdict::Differs(Difference {
+        return Some(Difference {
             part: Part::Word(at),
-            ours: room[at] as u64,
-            listed: word(records, 4 * at) as u64,
+            ours: u64::from(room[at]),
+            listed: u64::from(word(records, 4 * at)),
         });
     }
-    Verdict::Same
+    None
 }

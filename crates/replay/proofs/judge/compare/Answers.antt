@@ -13,9 +13,6 @@ returns-then-place-answer c = differs (λ s. c.if-place-answer.true (c.place-pla
 pub returns-then-count-answer : goal.returns-then-count-answer
 returns-then-count-answer c = differs (λ s. c.if-count-answer.true (c.count-count.ensures ∙ s.count))
 
-pub overflow_cast-result-then-at-room : goal.overflow_cast-result-then-at-room
-overflow_cast-result-then-at-room c = omega (arith, c.type_inv.room c.first_unlike-at.result)
-
 pub returns-then-at-room : goal.returns-then-at-room
 returns-then-at-room c = differs (λ s. c.first_unlike-at.ensures.found c.if-at-room.true (s.words _ c.if-at-room.true))
 
