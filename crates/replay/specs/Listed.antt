@@ -32,6 +32,12 @@ pub record Agrees (o : Outcome) (room : List ℕ) (a : Answer) (records : List �
   pub count : outcome_count o ≡ a.tokens
   pub words : (k : ℕ) → k < length room → get_or room k 0 ≡ word_at records (4 * k)
 
+-- the first word of a room that is not as it is listed
+pub record FirstUnlike (room records : List ℕ) (at : ℕ) : Type 0 where
+  pub within : at < length room
+  pub before : (k : ℕ) → k < at → get_or room k 0 ≡ word_at records (4 * k)
+  pub unlike : get_or room at 0 ≡ word_at records (4 * at) → ⊥
+
 -- no difference is said if and only if there is none
 pub record Judged (o : Outcome) (room : List ℕ) (a : Answer) (records : List ℕ) (said : Option Difference) : Type 0 where
   pub sound : said ≡ None → Agrees o room a records

@@ -1,6 +1,6 @@
 // One answer of ours against the listed one: the refusal, its place, the count of tokens, every word of the room.
-ghost use Rattle.std.specs.Prelude.{◌≡◌, ℕ, ◌*◌, ◌<◌, ◌≤◌, length, get_or};
-ghost use Rattle.replay.specs.Listed.{word_at, Judged};
+ghost use Rattle.std.specs.Prelude.{◌≡◌, ℕ, ◌*◌, ◌<◌, length, get_or, MatchOption};
+ghost use Rattle.replay.specs.Listed.{word_at, FirstUnlike, Judged};
 
 use crate::list::{Answer, word};
 use answers::Outcome;
@@ -21,19 +21,16 @@ pub struct Difference {
     pub listed: u64,
 }
 
-// The first word of the room that is not the one in the records, or behind them not zero; the room's length if
-// there is none.
-fn first_unlike(room: &[u32], records: &[u8]) -> usize
-    ensures within { result ≤ length room.now }
-    ensures before { (k : ℕ) → k < result → get_or room.now k 0 ≡ word_at records.now (4 * k) }
-    ensures found { result < length room.now → get_or room.now result 0 ≡ word_at records.now (4 * result) → ⊥ }
+// The first word of the room that is not the one in the records, or behind them not zero, if there is one.
+fn first_unlike(room: &[u32], records: &[u8]) -> Option<usize>
+    ensures { MatchOption result ((k : ℕ) → k < length room.now → get_or room.now k 0 ≡ word_at records.now (4 * k)) (λ at. FirstUnlike room.now records.now at) }
 {
     for (k, ours) in room.iter().enumerate() {
         if *ours != word(records, 4 * k) {
-            return k;
+            return Some(k);
         }
     }
-    room.len()
+    None
 }
 
 // How our answer differs from the listed one, if it does.
@@ -64,8 +61,7 @@ pub fn compare(outcome: Outcome, room: &[u32], answer: Answer, records: &[u8]) -
             listed: answer.tokens as u64,
         });
     }
-    let at = first_unlike(room, records);
-    if at < room.len() {
+    if let Some(at) = first_unlike(room, records) {
         return Some(Difference {
             part: Part::Word(at),
             ours: u64::from(room[at]),

@@ -1,6 +1,5 @@
 -- `compare` meets its contract: each return but the last stands behind a test that found a difference.
 use mathlib.Core.Path.{refl, sym, ◌∙◌}
-use native.Mathlib.Omega.{arith}
 use Rattle.replay.proofs.Judging.{differs}
 use Rattle.replay.proofs.judge.compare.Goals as goal
 
@@ -13,8 +12,8 @@ returns-then-place-answer c = differs (λ s. c.if-place-answer.true (c.place-pla
 pub returns-then-count-answer : goal.returns-then-count-answer
 returns-then-count-answer c = differs (λ s. c.if-count-answer.true (c.count-count.ensures ∙ s.count))
 
-pub returns-then-at-room : goal.returns-then-at-room
-returns-then-at-room c = differs (λ s. c.first_unlike-at.ensures.found c.if-at-room.true (s.words _ c.if-at-room.true))
+pub returns-in-Some : goal.returns-in-Some
+returns-in-Some c = differs (λ s. c.in-Some.ensures.unlike (s.words _ c.in-Some.ensures.within))
 
 pub returns : goal.returns
 returns c =
@@ -24,7 +23,7 @@ returns c =
             number = sym c.number-refusal.ensures ∙ c.if-refusal-answer.false;
             place = sym c.place-place.ensures ∙ c.if-place-answer.false;
             count = sym c.count-count.ensures ∙ c.if-count-answer.false;
-            words = λ k h. c.first_unlike-at.ensures.before k (omega arith);
+            words = c.in_default.ensures;
           };
       complete = λ s. refl;
     }
