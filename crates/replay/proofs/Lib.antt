@@ -1,2 +1,0 @@
--- Judging: why what is said of an answer is right.
-mod Judging
