@@ -5,7 +5,7 @@ use Rattle.answers.specs.declared.Refusal.{Refusal}
 use Rattle.answers.specs.Answers.{why_number, answer_number, outcome_count, answer_place}
 use Rattle.parser.specs.declared.Counts.{Counts}
 use Rattle.stored.specs.declared.Counts.{Counts as Pair}
-use Rattle.stored.specs.Stored.{answer_number, answer_counts}
+use Rattle.stored.specs.Stored.{answer_counts}
 use Rattle.host.specs.Exports.{cut_of, read_of, stored_of, write_of}
 use Rattle.std.specs.Prelude.{Result, Ok, Err}
 
@@ -23,5 +23,5 @@ pub refused_as : {a : Result Counts Refusal} {r : Refusal} {k : ℕ} → a ≡ E
     → record { refusal = k; place = r.place; tokens = 0; fonts = 0; colours = 0; blocks = 0; text = 0 } ≡ read_of a
 refused_as e h = rw (e, h)
 
-pub stored-as : (a : Result Counts Refusal) {n : ℕ} {k : Pair} → n ≡ answer_number a → k ≡ answer_counts a → record { refusal = n; blocks = k.blocks; text = k.text } ≡ stored_of a
+pub stored-as : (a : Result Pair Refusal) {n : ℕ} {k : Pair} → n ≡ answer_number a → k ≡ answer_counts a → record { refusal = n; blocks = k.blocks; text = k.text } ≡ stored_of a
 stored-as a f g = rw (f, g)

@@ -7,7 +7,7 @@ use Rattle.cutter.specs.Cutting.{cut_answer, cut_room}
 use Rattle.parser.specs.Parsing.{Sizes, answer_counts}
 use Rattle.reader.specs.Reading.{read_answer, token_room, font_room, colour_room, block_room, text_room}
 use Rattle.stored.specs.Stored.{stored_answer, stored_blocks, stored_text}
-use Rattle.stored.specs.Stored.{answer_number as restored_number, answer_counts as restored_counts}
+use Rattle.stored.specs.Stored.{answer_counts as restored_counts}
 use Rattle.stored.specs.Checks.{checked}
 use Rattle.storing.specs.Storing.{write_answer, write_room}
 use Rattle.host.specs.declared.answer.CutAnswer.{CutAnswer}
@@ -16,7 +16,7 @@ use Rattle.host.specs.declared.answer.StoredAnswer.{StoredAnswer}
 use Rattle.host.specs.declared.answer.WriteAnswer.{WriteAnswer}
 use Rattle.std.specs.Prelude.{Result}
 use Rattle.parser.specs.declared.Counts.{Counts}
-use Rattle.stored.specs.declared.Counts.{Counts}
+use Rattle.stored.specs.declared.Counts.{Counts as StoredCounts}
 use Rattle.answers.specs.declared.Refusal.{Refusal}
 
 -- "0 is success."; "Success returns counts of tokens, fonts, colours, blocks and text bytes (a writer's, the bytes written)"; "Any refusal
@@ -35,8 +35,8 @@ read_of a = record {
   text = (answer_counts a).text;
 }
 
-abbrev pub stored_of : Result Counts Refusal → StoredAnswer
-stored_of a = record { refusal = restored_number a; blocks = (restored_counts a).blocks; text = (restored_counts a).text }
+abbrev pub stored_of : Result StoredCounts Refusal → StoredAnswer
+stored_of a = record { refusal = answer_number a; blocks = (restored_counts a).blocks; text = (restored_counts a).text }
 
 abbrev pub write_of : Result ℕ Refusal → WriteAnswer
 write_of o = record { refusal = answer_number o; bytes = outcome_count o }

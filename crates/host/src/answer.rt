@@ -5,7 +5,8 @@ ghost use Rattle.parser.specs.declared.Counts.{Counts};
 ghost use Rattle.reader.specs.Reading.{Counted};
 ghost use Rattle.host.specs.Exports.{cut_of, read_of, stored_of, write_of};
 
-use answers::Refusal;
+use answers::{Refusal, count_of, number_of, place_of};
+use parser::Counts;
 
 // How many tokens stand in the room.
 #[repr(C)]
@@ -51,13 +52,10 @@ pub fn of_cut(outcome: Result<usize, Refusal>) -> CutAnswer
     requires { outcome_count outcome ≤ 65536 }
     ensures { result ≡ cut_of outcome }
 {
-    let refusal = outcome.number();
-    let place = outcome.place();
-    let count = outcome.count();
     CutAnswer {
-        refusal: refusal,
-        place: place,
-        tokens: count as u32,
+        refusal: number_of(&outcome),
+        place: place_of(&outcome),
+        tokens: count_of(outcome) as u32,
     }
 }
 
@@ -92,13 +90,12 @@ pub fn of_reading(answer: Result<Counts, Refusal>) -> ReadAnswer
 }
 
 // The answer of a stored list's reading.
-pub fn of_stored(answer: Result<Counts, Refusal>) -> StoredAnswer
+pub fn of_stored(answer: Result<stored::Counts, Refusal>) -> StoredAnswer
     ensures { result ≡ stored_of answer }
 {
-    let refusal = answer.number();
-    let counts = answer.counts();
+    let counts = stored::counts_of(answer);
     StoredAnswer {
-        refusal: refusal,
+        refusal: number_of(&answer),
         blocks: counts.blocks,
         text: counts.text,
     }
@@ -108,10 +105,8 @@ pub fn of_stored(answer: Result<Counts, Refusal>) -> StoredAnswer
 pub fn of_writing(outcome: Result<usize, Refusal>) -> WriteAnswer
     ensures { result ≡ write_of outcome }
 {
-    let refusal = outcome.number();
-    let bytes = outcome.count();
     WriteAnswer {
-        refusal: refusal,
-        bytes: bytes,
+        refusal: number_of(&outcome),
+        bytes: count_of(outcome),
     }
 }

@@ -26,13 +26,9 @@ pub fn append(bytes: &[u8], page: &mut [u8], at: usize) -> usize
     requires { at ≤ length page.old }
     ensures { Put page.old at bytes.now page.new result }
 {
-    let mut end = at;
-    let mut i = 0;
-    while i < bytes.len() {
-        let byte = bytes[i];
-        end = push(byte, page, end);
-        i += 1;
-    }
+    let fitting = (page.len() - at).min(bytes.len());
+    let end = at + fitting;
+    page[at..end].copy_from_slice(&bytes[..fitting]);
     end
 }
 
@@ -55,7 +51,7 @@ pub fn place_item(answer: u32, place: u32, page: &mut [u8], at: usize) -> usize
     if answer == 0 {
         return at;
     }
-    number(place as u64, b' ', page, at)
+    number(u64::from(place), b' ', page, at)
 }
 
 // How far a word that stands for a negative number lies below 0.
@@ -63,7 +59,7 @@ fn below_zero(value: u32) -> u64
     requires { 2147483648 ≤ value }
     ensures { result + value ≡ 4294967296 }
 {
-    4294967296 - (value as u64)
+    4294967296 - u64::from(value)
 }
 
 // A word as a number of 32 bits in two's complement.
@@ -72,7 +68,7 @@ fn signed(value: u32, behind: u8, page: &mut [u8], at: usize) -> usize
     ensures { Put page.old at (signed_text value ++ (behind ∷ [])) page.new result }
 {
     if value < 2147483648 {
-        return number(value as u64, behind, page, at);
+        return number(u64::from(value), behind, page, at);
     }
     let end = push(b'-', page, at);
     number(below_zero(value), behind, page, end)
@@ -91,12 +87,9 @@ fn record_line(words: &[u32], page: &mut [u8], at: usize) -> usize
     ensures { Put page.old at (line words.now) page.new result }
 {
     let mut end = at;
-    let mut i = 0;
-    while i < words.len() {
-        let word = words[i];
-        i += 1;
-        let mark = behind(i, words.len());
-        end = signed(word, mark, page, end);
+    for (i, word) in words.iter().enumerate() {
+        let mark = behind(i + 1, words.len());
+        end = signed(*word, mark, page, end);
     }
     end
 }
@@ -106,16 +99,13 @@ pub fn records(room: &[u32], count: usize, width: usize, page: &mut [u8], at: us
     requires { at ≤ length page.old }
     ensures { Put page.old at (lines width count room.now) page.new result }
 {
-    let mut rest = room;
+    // Records of no words have no lines.
+    if width == 0 {
+        return at;
+    }
     let mut end = at;
-    let mut k = 0;
-    while k < count {
-        if rest.len() < width {
-            return end;
-        }
-        end = record_line(&rest[..width], page, end);
-        rest = &rest[width..];
-        k += 1;
+    for record in room.chunks_exact(width).take(count) {
+        end = record_line(record, page, end);
     }
     end
 }

@@ -8,4 +8,4 @@ pub returns-then-answer-eq0 : goal.returns-then-answer-eq0
 returns-then-answer-eq0 c = put_as (place_none _ c.if-answer-eq0.true) (put-none (search rules))
 
 pub returns : goal.returns
-returns c = put_as (place-some _ c.if-answer-eq0.false) c.number.ensures
+returns c = put_as (place-some _ c.if-answer-eq0.false) (rw c.from.ensures at c.number.ensures)

@@ -21,5 +21,5 @@ overflow_cast-result-in-Ok-4 c = let h = (c.requires _ c.in-Ok.is).text in omega
 pub returns-in-Ok : goal.returns-in-Ok
 returns-in-Ok c = read_as c.in-Ok.is
 
-pub returns-in-Refuses : goal.returns-in-Refuses
-returns-in-Refuses c = refused_as c.in-Refuses.is c.number-refusal.ensures
+pub returns-in-Err : goal.returns-in-Err
+returns-in-Err c = refused_as c.in-Err.is c.number-refusal.ensures
