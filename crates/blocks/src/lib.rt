@@ -94,12 +94,7 @@ fn capacity(n: usize) -> usize
 }
 
 // Text behind the text, in the last block.
-pub fn append(
-    page: &mut Page,
-    bytes: &[u8],
-    blocks: &mut [u32],
-    text: &mut [u8],
-) -> Result<(), Why>
+pub fn append(page: &mut Page, bytes: &[u8], blocks: &mut [u32], text: &mut [u8]) -> Result<(), Why>
     requires { Ready page.old (length blocks.old) (length text.old) × (0 < page.old.blocks) }
     ensures laid { roomed result page.new blocks.new text.new ≡ append_of page.old bytes.now blocks.old text.old }
     ensures ready { Ready page.new (length blocks.old) (length text.old) }

@@ -72,7 +72,13 @@ fn is_bracket(s: &[u8]) -> bool
 }
 
 // The last slice by the specification: it is cut as the others first.
-fn standard_last(s: &[u8], place: usize, names: &Table, room: &mut [u32], n: usize) -> Result<usize, Refusal>
+fn standard_last(
+    s: &[u8],
+    place: usize,
+    names: &Table,
+    room: &mut [u32],
+    n: usize,
+) -> Result<usize, Refusal>
     requires { (place + length s.now ≤ 65536) × (n ≤ place) × (names.now ≡ rows) }
     ensures { Wrote token_layout n room.old (last_by Reading.Standard place s.now) result room.new }
 {
@@ -104,7 +110,13 @@ fn last_by(
 }
 
 // All slices of a trimmed source that stands at `place`.
-fn all_slices(reading: Reading, s: &[u8], place: usize, names: &Table, room: &mut [u32]) -> Result<usize, Refusal>
+fn all_slices(
+    reading: Reading,
+    s: &[u8],
+    place: usize,
+    names: &Table,
+    room: &mut [u32],
+) -> Result<usize, Refusal>
     requires { (place + length s.now ≤ 65536) × (names.now ≡ rows) }
     ensures { Wrote token_layout 0 room.old (all_slices reading place (slices_by reading s.now)) result room.new }
 {
@@ -120,8 +132,7 @@ fn all_slices(reading: Reading, s: &[u8], place: usize, names: &Table, room: &mu
             break;
         }
         let at = p as u32;
-        let m = cut_slice(reading, &t[..e], p, names, room, n)
-            .map_err(|why| Refusal::at(why, at))?;
+        let m = cut_slice(reading, &t[..e], p, names, room, n).map_err(|why| Refusal::at(why, at))?;
         seal(room, n, m, at, e as u32);
         n = m;
         t = &t[e..];

@@ -28,7 +28,6 @@ use blocks::Page;
 use readings::Reading;
 use runs::say::{character, lay};
 use runs::{end_run, unit};
-
 use settings::rows::{STATES, reset_painter, reset_paragraph, set_field, set_line};
 use settings::{Act, WIDTH, act_of};
 use tokens::item::{number_at, part};

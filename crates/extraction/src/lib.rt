@@ -17,10 +17,10 @@ ghost use Rattle.answers.specs.Answers.{answer_number, answer_place};
 
 use crate::listing::{Listed, list};
 use answers::{Refusal, Why};
-use parser::Counts;
 use blocks::BLOCK_WORDS;
 use colours::COLOUR_WORDS;
 use fonts::FONT_WORDS;
+use parser::Counts;
 use readings::Reading;
 use rooms::clear_from;
 use tokens::TOKEN_WORDS;
@@ -76,7 +76,11 @@ fn list_whole(
 }
 
 // A letter's answer, and its text: as many bytes of the room as the answer counts, and zeros behind them.
-pub fn text_of(letter: &[u8], reading: Reading, text: &mut [u8; TEXT_BYTES]) -> Result<Counts, Refusal>
+pub fn text_of(
+    letter: &[u8],
+    reading: Reading,
+    text: &mut [u8; TEXT_BYTES],
+) -> Result<Counts, Refusal>
     ensures { TextOf reading letter.now result text.new }
 {
     let mut tokens = [0u32; TOKEN_ROOM];

@@ -153,7 +153,12 @@ fn refuse(here: &[u32], why: Why) -> Result<usize, Refusal>
 }
 
 // Reads the table of a group's tokens, which starts anew.
-pub fn read_fonts(source: &[u8], tokens: &[u32], count: usize, room: &mut [u32]) -> Result<usize, Refusal>
+pub fn read_fonts(
+    source: &[u8],
+    tokens: &[u32],
+    count: usize,
+    room: &mut [u32],
+) -> Result<usize, Refusal>
     requires { (count * token_words ≤ length tokens.now) × (count ≤ 65536) }
     ensures { ReadFonts (fonts_of (table_limit font_words (length room.old)) (tokens_all source.now count tokens.now)) room.old result room.new }
 {

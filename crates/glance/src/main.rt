@@ -33,7 +33,12 @@ fn refuse(err: &impl Print, refusal: Refusal) -> io::Result<()> {
     println!(err; "{} {}", refusal.number(), refusal.place)
 }
 
-fn say(rt: &impl Print, err: &impl Print, answer: Result<Counts, Refusal>, text: &[u8]) -> io::Result<()> {
+fn say(
+    rt: &impl Print,
+    err: &impl Print,
+    answer: Result<Counts, Refusal>,
+    text: &[u8],
+) -> io::Result<()> {
     match answer {
         Err(refusal) => refuse(err, refusal),
         Ok(counts) => {

@@ -63,7 +63,13 @@ fn font_table(
 }
 
 // Reads the colour table that stands behind a bracket, n tokens before the end, where there are `fonts` fonts.
-fn colour_table(t: &[u32], n: usize, late: bool, fonts: usize, room: &mut [u32]) -> Result<Entered, Refusal>
+fn colour_table(
+    t: &[u32],
+    n: usize,
+    late: bool,
+    fonts: usize,
+    room: &mut [u32],
+) -> Result<Entered, Refusal>
     requires { (n * token_words ≤ length t.now) × (n ≤ 65536) }
     ensures { ((src : List ℕ) → ColoursMet late (table_word (tokens_all src n t.now)) (colours_of (table_limit colour_words (length room.old)) (group (tokens_all src n t.now))) fonts (extent_of 1 (shown_by (tokens_all src n t.now))) result room.new) × (passed result ≤ n) }
 {

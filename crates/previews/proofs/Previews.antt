@@ -32,7 +32,6 @@ use Rattle.parser.specs.Parsing.{begun, Sizes, Letter, letter_from, placed, bodi
 use Rattle.reader.specs.Reading.{cut, letter_of, counts_of}
 use Rattle.reader.specs.Reading.{answered, read_answer, block_room, text_room}
 use Rattle.storing.specs.Bytes.{list_bytes}
-use Rattle.stored.specs.Stored.{answer_number}
 use Rattle.stored.specs.Checks.{checked}
 use Rattle.stored.proofs.Ample.{check-reads}
 use Rattle.storing.specs.Good.{Good, Flat}

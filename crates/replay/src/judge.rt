@@ -34,7 +34,12 @@ fn first_unlike(room: &[u32], records: &[u8]) -> Option<usize>
 }
 
 // How our answer differs from the listed one, if it does.
-pub fn compare(outcome: Result<usize, Refusal>, room: &[u32], answer: Answer, records: &[u8]) -> Option<Difference>
+pub fn compare(
+    outcome: Result<usize, Refusal>,
+    room: &[u32],
+    answer: Answer,
+    records: &[u8],
+) -> Option<Difference>
     ensures { Judged outcome room.now answer records.now result }
 {
     let refusal = number_of(&outcome);

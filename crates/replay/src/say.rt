@@ -1,7 +1,7 @@
 // What the program writes to standard output.
-use answers::Refusal;
 use crate::judge::{Difference, Part};
 use crate::list::End;
+use answers::Refusal;
 use std::{fmt, io};
 
 // At most so many differences are said one by one.

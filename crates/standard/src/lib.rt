@@ -189,7 +189,13 @@ fn escaped(s: &[u8], place: usize, names: &Table, room: &mut [u32], n: usize) ->
 }
 
 // The tokens of a slice that stands at `place`.
-pub fn slice_tokens(s: &[u8], place: usize, names: &Table, room: &mut [u32], n: usize) -> Result<usize, Why>
+pub fn slice_tokens(
+    s: &[u8],
+    place: usize,
+    names: &Table,
+    room: &mut [u32],
+    n: usize,
+) -> Result<usize, Why>
     requires { (place + length s.now ≤ 65536) × (n ≤ place) × (names.now ≡ rows) }
     ensures { Wrote shown_layout n room.old (tokens_of place s.now) result room.new }
 {

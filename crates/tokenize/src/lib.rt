@@ -187,7 +187,13 @@ fn returned(s: &[u8], place: usize, room: &mut [u32], n: usize) -> Result<usize,
 }
 
 // The last rule, by the reading.
-fn other_by(reading: Reading, s: &[u8], place: usize, room: &mut [u32], n: usize) -> Result<usize, Why>
+fn other_by(
+    reading: Reading,
+    s: &[u8],
+    place: usize,
+    room: &mut [u32],
+    n: usize,
+) -> Result<usize, Why>
     requires { (place + (1 + length s.now) ≤ 65536) × (n ≤ place) }
     ensures { Wrote shown_layout n room.old (other_by reading place s.now) result room.new }
 {

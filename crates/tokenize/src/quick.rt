@@ -51,7 +51,14 @@ fn ends_at(s: &[u8], k: usize) -> bool
 }
 
 // The token of a word whose name has e bytes, as the code behind `tokenize::word` finds it, but for the search for e.
-fn numbered(w: &[u8], e: usize, place: usize, names: &Table, room: &mut [u32], n: usize) -> Result<usize, Why>
+fn numbered(
+    w: &[u8],
+    e: usize,
+    place: usize,
+    names: &Table,
+    room: &mut [u32],
+    n: usize,
+) -> Result<usize, Why>
     requires bounds { (place + (1 + length w.now) ≤ 65536) × (n ≤ place) × (names.now ≡ rows) }
     requires ends { (e ≡ body (in_class Numeral) w.now) × (e ≤ length w.now) }
     ensures { Wrote shown_layout n room.old (named place w.now) result room.new }
@@ -78,7 +85,13 @@ fn behind(s: &[u8], k: usize, place: usize, room: &mut [u32], n: usize) -> Resul
 }
 
 // A word and the text behind it; s follows the backslash at `place`.
-fn quick_word(s: &[u8], place: usize, names: &Table, room: &mut [u32], n: usize) -> Result<usize, Why>
+fn quick_word(
+    s: &[u8],
+    place: usize,
+    names: &Table,
+    room: &mut [u32],
+    n: usize,
+) -> Result<usize, Why>
     requires { (place + (1 + length s.now) ≤ 65536) × (n ≤ place) × (names.now ≡ rows) }
     ensures { Wrote shown_layout n room.old (word_of place s.now) result room.new }
 {

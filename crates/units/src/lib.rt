@@ -11,7 +11,6 @@
 ghost use Rattle.std.specs.Prelude.{◌≡◌, ltb};
 ghost use Rattle.units.specs.Units.{is_high, is_low, alone as alone_of, pair as pair_of, before as before_of, nothing as nothing_of, cut_short, taken as taken_of, met as met_of, step as step_of, standard_step};
 
-
 // Whether a unit has come, how many were skipped since the last kept one, a high surrogate that waits (0 if none does).
 #[derive(Clone, Copy)]
 pub struct Run {

@@ -12,8 +12,8 @@ returns-in_err-lay_value-clause-laid c =
 pub returns-clause-laid : goal.returns-clause-laid
 returns-clause-laid c =
     elim c.if-g.branch [
-      then-g+in_ok-lay_value w ↦
+      | then-g+in_ok-lay_value w ↦
           values-more _ _ _ w.if-g.true c.if-g.page c.if-g.blocks c.if-g.text
-          (rw (w.page-is, w.blocks-is, w.text-is) (rw w.in_ok-lay_value.was at w.lay_value.ensures.laid)) c.lay_value-2.ensures.laid |
-      else-g w ↦ values_one _ _ _ w.if-g.false (rw (w.page-is, w.blocks-is, w.text-is) at c.lay_value-2.ensures.laid)
+          (rw (w.page-is, w.blocks-is, w.text-is) (rw w.in_ok-lay_value.was at w.lay_value.ensures.laid)) c.lay_value-2.ensures.laid
+      | else-g w ↦ values_one _ _ _ w.if-g.false (rw (w.page-is, w.blocks-is, w.text-is) at c.lay_value-2.ensures.laid)
     ]
