@@ -50,5 +50,12 @@ pub fn read_and_judge(
 {
     let listed = extract(&rest[LENGTH_BYTES..letter.letter], Reading::Plain, page);
     count_in(listed.number, answers);
-    judge(rt, &rest[letter.listing..letter.end], page, listed.bytes, letters, agree)
+    judge(
+        rt,
+        &rest[letter.listing..letter.end],
+        page,
+        listed.bytes,
+        letters,
+        agree,
+    )
 }
