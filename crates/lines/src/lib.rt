@@ -32,7 +32,7 @@ pub fn append(bytes: &[u8], page: &mut [u8], at: usize) -> usize
     end
 }
 
-// A number, and a byte behind it.
+// A number, and a byte behind it. By the kit's `decimal`: std prints numbers too, but promises nothing of a page.
 pub fn number(value: u64, behind: u8, page: &mut [u8], at: usize) -> usize
     requires { at ≤ length page.old }
     ensures { Put page.old at (item value behind) page.new result }
