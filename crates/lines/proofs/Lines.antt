@@ -1,33 +1,19 @@
 -- The lines of records.
---     mark-more, -end                   what stands behind a word
---     signed_up, -down                  a word that stands for a number from 0 on, and one below
+--     signed-down                       a word that stands for a number below 0
 --     line-more, -end                   the words that are left of a record
 --     lines-short, lines_end            a room too short for a record, and no records asked for
 --     lines_next, -last, -of_none       what an iterator over a room's records has left
---     place_none, -some                 a refusal's place, by the answer's number
 -- Assumes nothing.
 use Prim.Native.Nat.{ℕ, zero, suc, ◌+◌, ◌-◌, ◌≤◌, ◌<◌}
 use mathlib.Core.Path.{◌≡◌, refl, sym, ap, ◌∙◌}
 use mathlib.Core.List.{List, [], ◌∷◌, ◌++◌, append_assoc}
 use native.Mathlib.Omega.{arith}
 use mathlib.Core.Bool.{Bool, true, false, cond}
-use borrow.Author.Tests.{ltb-true, ltb-false, lt-ltb, le-ltb, eq-eqb, ne_eqb}
+use borrow.Author.Tests.{ltb-true, ltb-false, lt-ltb, le-ltb}
 use lib.Dec.{ltb}
 use lib.ListN.{length, take, drop, get_or, length-append, length-drop, drop_of_length-le}
 use lib.Seq.{drop-cons, take-append_seam, drop-append_seam}
-use Rattle.lines.specs.Lines.{item, place_item, signed, mark, line, lines}
-
-pub mark-more : {next words : ℕ} → next < words → 32 ≡ mark next words
-unfolding mark
-mark-more {next} {words} h = rw (lt-ltb next words h)
-
-pub mark-end : {next words : ℕ} → words ≤ next → 10 ≡ mark next words
-unfolding mark
-mark-end {next} {words} h = rw (le-ltb next words h)
-
-pub signed_up : (w b : ℕ) → w < 2147483648 → item w b ≡ signed w ++ (b ∷ [])
-unfolding signed
-signed_up w b h = rw (lt-ltb w 2147483648 h)
+use Rattle.lines.specs.Lines.{item, signed, mark, line, lines}
 
 pub signed-down : (w b v : ℕ) → 2147483648 ≤ w → v + w ≡ 4294967296 → (45 ∷ []) ++ item v b ≡ signed w ++ (b ∷ [])
 unfolding signed
@@ -86,12 +72,3 @@ pub lines_of_none : (width count : ℕ) (room : List ℕ) → width ≡ 0 → li
 unfolding lines line
 lines_of_none width zero room e = refl
 lines_of_none width (suc n) room e = rw (e, le-ltb (length room) 0 (omega arith)) (lines_of_none width n room e)
-
--- a refusal's place
-pub place_none : {answer : ℕ} (place : ℕ) → answer ≡ 0 → [] ≡ place_item answer place
-unfolding place_item
-place_none {answer} place e = rw (eq-eqb answer 0 e)
-
-pub place-some : {answer : ℕ} (place : ℕ) → (answer ≡ 0 → ⊥) → item place 32 ≡ place_item answer place
-unfolding place_item
-place-some {answer} place e = rw (ne_eqb answer 0 e)

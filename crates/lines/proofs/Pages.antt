@@ -1,6 +1,5 @@
 -- Bytes put on a page.
 --     put-none            none
---     put_in, put-out     a byte for which there is room, and one for which there is none
 --     put_copied          as many as there is room for, copied at once
 --     put_then            some, and then others
 --     put_as              the same bytes by another name
@@ -9,12 +8,12 @@
 --     whole-front         these are the page's front
 --     left-start, -more, -end   a loop over what is left: whoever puts that has put all
 -- Assumes nothing.
-use Prim.Native.Nat.{ℕ, zero, suc, ◌+◌, ◌-◌, ◌≤◌, ◌<◌, min}
+use Prim.Native.Nat.{ℕ, zero, suc, ◌+◌, ◌-◌, ◌≤◌, min}
 use mathlib.Core.Path.{◌≡◌, refl, sym, ap, ◌∙◌}
 use mathlib.Core.List.{List, [], ◌∷◌, ◌++◌, append-nil, append_assoc}
 use native.Mathlib.Omega.{arith}
-use lib.ListN.{length, take, drop, set, length-take, length-append, take-append-drop}
-use lib.Seq.{take_all, length-take-le, take-suc-set, drop-set-lt, take-append_seam, take-append-add, drop-drop}
+use lib.ListN.{length, take, drop, length-take, length-append, take-append-drop}
+use lib.Seq.{take_all, length-take-le, take-append_seam, take-append-add, drop-drop}
 use borrow.Rule.Slice.PartMut.{put_mid}
 use Rattle.std.proofs.lemmas.List.{take_min}
 use Rattle.std.proofs.lemmas.Slice.{take-put_mid, drop-put_mid}
@@ -36,26 +35,6 @@ module _ {page : List ℕ} {at : ℕ} where
         onwards = omega arith;
         within = h;
         filled = rw append-nil (sym (take_all (length page) (take at page) (simp length-take (omega arith))));
-        behind = refl;
-      }
-
-  pub put_in : {b : ℕ} → at < length page → Put page at (b ∷ []) (set page at b) (at + 1)
-  put_in {b} h =
-      let s : at + 1 ≡ suc at = omega arith in
-      record {
-        onwards = omega arith;
-        within = omega arith;
-        filled = rw s (take-suc-set page at b h ∙ sym (take_all (length page) (take at page ++ (b ∷ [])) (simp (length-append, length-take) (omega arith))));
-        behind = drop-set-lt (at + 1) page at b (omega arith);
-      }
-
-  pub put-out : {b : ℕ} → at ≤ length page → length page ≤ at → Put page at (b ∷ []) page at
-  put-out {b} h g =
-      let e : take at page ≡ page = take_all at page g in
-      record {
-        onwards = omega arith;
-        within = h;
-        filled = rw e (sym (take-append_seam page (b ∷ [])));
         behind = refl;
       }
 

@@ -32,7 +32,7 @@ pub fn append(bytes: &[u8], page: &mut [u8], at: usize) -> usize
     end
 }
 
-// A number, and a byte behind it.
+// A number, and a byte behind it. By the kit's `decimal`: std prints numbers too, but promises nothing of a page.
 pub fn number(value: u64, behind: u8, page: &mut [u8], at: usize) -> usize
     requires { at ≤ length page.old }
     ensures { Put page.old at (item value behind) page.new result }
@@ -44,6 +44,7 @@ pub fn number(value: u64, behind: u8, page: &mut [u8], at: usize) -> usize
 }
 
 // A refusal's place and a space; nothing where the answer's number is 0.
+#[tactic(auto, unfolding(crate::specs::Lines::place_item))]
 pub fn place_item(answer: u32, place: u32, page: &mut [u8], at: usize) -> usize
     requires { at ≤ length page.old }
     ensures { Put page.old at (place_item answer place) page.new result }
@@ -63,6 +64,7 @@ fn below_zero(value: u32) -> u64
 }
 
 // A word as a number of 32 bits in two's complement.
+#[tactic(auto, unfolding(crate::specs::Lines::signed))]
 fn signed(value: u32, behind: u8, page: &mut [u8], at: usize) -> usize
     requires { at ≤ length page.old }
     ensures { Put page.old at (signed_text value ++ (behind ∷ [])) page.new result }
@@ -75,6 +77,7 @@ fn signed(value: u32, behind: u8, page: &mut [u8], at: usize) -> usize
 }
 
 // What stands behind the word before `next`: the last word of a line ends it.
+#[tactic(auto, unfolding(crate::specs::Lines::mark))]
 fn behind(next: usize, words: usize) -> u8
     ensures { result ≡ mark next words }
 {
