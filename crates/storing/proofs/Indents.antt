@@ -1,6 +1,5 @@
 -- Indents, record by record.
---     indent-here, indent-later, indent-none      the first record has one; it has none; there is no record
---     unless-found, unless-none, unless-refused   what is left of an answer
+--     indent-here, indent-later, indent-none   the first record has one; it has none; there is no record
 -- Assumes nothing.
 use mathlib.Core.Path.{◌≡◌}
 use mathlib.Core.List.{List, ◌++◌}
@@ -15,7 +14,7 @@ use Rattle.styles.specs.declared.Style.{Style}
 use Rattle.styles.specs.Styles.{style_at, flush}
 use Rattle.blocks.specs.Pages.{block_words}
 use Rattle.storing.proofs.Fronts.{one_fewer, front-style, front-rest}
-use Rattle.storing.specs.Storing.{indented, unless_indented}
+use Rattle.storing.specs.Storing.{indented}
 use Rattle.std.specs.Prelude.{Result, Ok, Err}
 
 module _ (w ws : List ℕ) (n : length w ≡ block_words) {s : Style} {b : Bool} (e : s ≡ style_at w) (f : b ≡ flush s) where
@@ -30,15 +29,3 @@ module _ (w ws : List ℕ) (n : length w ≡ block_words) {s : Style} {b : Bool}
 pub indent-none : (ws : List ℕ) → length ws < block_words → indented (length ws / block_words) ws ≡ false
 unfolding indented
 indent-none ws h = let z : length ws / block_words ≡ 0 = omega arith in rw z
-
--- what is left of an answer
-module _ {i : Bool} {o : Result ℕ Refusal} where
-  pub unless-found : {n : ℕ} → o ≡ Ok n → {b : Bool} → b ≡ i → b ≡ true → {r : Refusal} → r ≡ refusal IndentNotZero → Err r ≡ unless_indented i o
-  unless-found e f t q = rw (e, ← f, t, q)
-
-  pub unless-none : {n : ℕ} → o ≡ Ok n → {b : Bool} → b ≡ i → b ≡ false → Ok n ≡ unless_indented i o
-  unless-none e f t = rw (e, ← f, t)
-
-pub unless-refused : (i : Bool) (o : Result ℕ Refusal) {r : Refusal} → o ≡ Err r → Err r ≡ unless_indented i o
-unless-refused true o e = rw e
-unless-refused false o e = rw e

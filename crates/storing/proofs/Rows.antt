@@ -64,9 +64,6 @@ pub record Rows (blocks tx : List ℕ) (n : ℕ) (room₀ room ws : List ℕ) (b
   pub same : length room ≡ length room₀
   pub left : Ahead n room₀ (rows_of blocks none 0 tx) at room (rows_of ws (last_of before) p tx)
 
-pub rows_start : (blocks tx : List ℕ) (n : ℕ) (room : List ℕ) → n ≤ 5 → Rows blocks tx n room room blocks None 0 n
-rows_start blocks tx n room h = record { within = omega arith; place = omega arith; same = refl; left = λ r room' w. w }
-
 module _ {blocks tx : List ℕ} {n : ℕ} {room₀ room ws : List ℕ} {before : Option Style} {p at : ℕ}
     (l : Rows blocks tx n room₀ room ws before p at) where
   stops : rows_of ws (last_of before) p tx ≡ stop (refusal StoredField) → {r : Result ℕ Refusal} → r ≡ Err (refusal StoredField)

@@ -3,11 +3,6 @@ use mathlib.Core.Path.{refl, sym, ◌∙◌}
 use Rattle.storing.proofs.Indents.{indent-here, indent-later, indent-none}
 use Rattle.storing.proofs.has_indent.Goals as goal
 
-pub loop-words-init : goal.loop-words-init
-loop-words-init c =
-    let a = c.chunks_exact-words-items.ensures in
-    rw (c.into_iter-words-iterator.ensures.into_iter_gives, a.rest) (record { size = a.size; left = refl })
-
 pub returns-then-not-is_flush : goal.returns-then-not-is_flush
 returns-then-not-is_flush c =
     let inv = c.loop-words.invariant in
