@@ -7,15 +7,11 @@ use mathlib.Core.Bool.{Bool, true, false}
 use Prim.Native.Nat.{ℕ, ◌/◌, ◌<◌}
 use native.Mathlib.Omega.{arith}
 use lib.ListN.{length}
-use Rattle.answers.specs.declared.Refusal.{Refusal}
-use Rattle.answers.specs.declared.Why.TheVariants.{IndentNotZero}
-use Rattle.answers.specs.Answers.{refusal}
 use Rattle.styles.specs.declared.Style.{Style}
 use Rattle.styles.specs.Styles.{style_at, flush}
 use Rattle.blocks.specs.Pages.{block_words}
 use Rattle.storing.proofs.Fronts.{one_fewer, front-style, front-rest}
 use Rattle.storing.specs.Storing.{indented}
-use Rattle.std.specs.Prelude.{Result, Ok, Err}
 
 module _ (w ws : List ℕ) (n : length w ≡ block_words) {s : Style} {b : Bool} (e : s ≡ style_at w) (f : b ≡ flush s) where
   pub indent-here : b ≡ false → indented (length (w ++ ws) / block_words) (w ++ ws) ≡ true

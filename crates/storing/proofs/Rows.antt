@@ -26,7 +26,7 @@ use Rattle.storing.specs.Bytes.{block_bytes}
 use Rattle.storing.proofs.Putting.{Ahead, wrote-length, length-block}
 use Rattle.storing.specs.Lists.{pieces_from, bytes_of}
 use Rattle.answers.specs.declared.Refusal.{Refusal}
-use Rattle.std.specs.Prelude.{Result, Ok, Err, Option, Some, None}
+use Rattle.std.specs.Prelude.{Result, Ok, Err, Option, Some}
 
 -- the bytes of the records that words are
 abbrev pub rows_of : List ℕ → Last → ℕ → List ℕ → Stream Refusal ℕ

@@ -1,5 +1,5 @@
 -- `has_indent` meets its contract.
-use mathlib.Core.Path.{refl, sym, ◌∙◌}
+use mathlib.Core.Path.{sym, ◌∙◌}
 use Rattle.storing.proofs.Indents.{indent-here, indent-later, indent-none}
 use Rattle.storing.proofs.has_indent.Goals as goal
 

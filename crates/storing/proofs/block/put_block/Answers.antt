@@ -1,10 +1,10 @@
 -- `put_block` meets its contract: its numbers, and then its text.
 use mathlib.Core.Path.{ap, ◌∙◌}
 use native.Mathlib.Omega.{arith}
-use lib.ListN.{length, length-set, length-take, take, set}
+use lib.ListN.{length, length-take, take, set}
 use Rattle.styles.specs.Styles.{bare_width}
 use Rattle.fields.specs.Fields.{block_numbers}
-use Rattle.fields.proofs.Styles.{numbers-length, numbers-with}
+use Rattle.fields.proofs.Styles.{numbers-with}
 use Rattle.storing.proofs.Putting.{numbers-place, block-wrote}
 use Rattle.storing.proofs.block.put_block.Goals as goal
 

@@ -1,5 +1,5 @@
 -- `put_bytes` meets its contract: byte by byte.
-use Rattle.storing.proofs.Putting.{bytes-start, bytes-more, bytes-done}
+use Rattle.storing.proofs.Putting.{bytes-more, bytes-done}
 use Rattle.storing.proofs.block.put_bytes.Goals as goal
 
 pub loop-b-preserved : goal.loop-b-preserved

@@ -1,5 +1,5 @@
 -- `put_numbers` meets its contract: number by number.
-use Rattle.storing.proofs.Putting.{numbers-start, numbers_more, numbers-done}
+use Rattle.storing.proofs.Putting.{numbers_more, numbers-done}
 use Rattle.storing.proofs.block.put_numbers.Goals as goal
 
 pub loop-v-preserved : goal.loop-v-preserved

@@ -2,7 +2,7 @@
 use mathlib.Core.Path.{◌∙◌}
 use native.Mathlib.Omega.{arith}
 use lib.ListN.{length-take, length-drop}
-use Rattle.storing.proofs.Rows.{rows_start, rows-stop, rows-over, rows-done, rows_more, row-fit}
+use Rattle.storing.proofs.Rows.{rows-stop, rows-over, rows-done, rows_more, row-fit}
 use Rattle.storing.proofs.list.put_blocks.Goals as goal
 
 pub returns-then-not-fits : goal.returns-then-not-fits

@@ -1,6 +1,5 @@
 -- `put_list` meets its contract: words that are no whole blocks, or the count and then the blocks.
-use native.Mathlib.Omega.{arith}
-use Rattle.storing.proofs.Lists.{list-none, list_wrote, whole-few, number-place}
+use Rattle.storing.proofs.Lists.{list-none, list_wrote, number-place}
 use Rattle.storing.proofs.list.put_list.Goals as goal
 
 pub returns-then-not-blocks-count : goal.returns-then-not-blocks-count
