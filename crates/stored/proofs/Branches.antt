@@ -6,7 +6,6 @@ use mathlib.Core.Path.{◌≡◌, refl, sym, ◌∙◌}
 use mathlib.Core.List.{List}
 use mathlib.Core.Bool.{Bool, true, false, not, ◌&&◌}
 use Prim.Native.Nat.{ℕ, ◌-◌, ◌≤◌, ◌<◌}
-use native.Mathlib.Omega.{arith}
 use borrow.Author.Tests.{le-leb, lt-leb}
 use lib.ListN.{length, take, drop, get_or}
 use lib.Dec.{ltb}
@@ -63,13 +62,6 @@ module _ (l : Last) (s ws : List ℕ) {k : ℕ} (r : Result ℕ Refusal) (z : k 
       go : (x : Found Numbers) → NumbersIn x (length s) r ws → Err f ≡ entry_of l s x
       go (found q) (a, b, c) = absurd (ok_err (sym a ∙ e))
       go (refused g) a = let w : Err f ≡ Err g = sym e ∙ a in let v : f ≡ g = cc in rw v
-
-  pub block_within : {m : ℕ} → r ≡ Ok m → m ≤ length s
-  block_within {m} e = go (numbers_from block_numbers s) numbers
-    where
-      go : (x : Found Numbers) → NumbersIn x (length s) r ws → m ≤ length s
-      go (found q) (a, b, c) = let w : Ok m ≡ Ok q.size = sym e ∙ a in let v : m ≡ q.size = cc in omega (arith, v, c)
-      go (refused g) a = absurd (ok_err (sym e ∙ a))
 
   pub block-entry : {m n : ℕ} {st : Style} {x : Result Entry Refusal} → r ≡ Ok m → st ≡ style_from ws → n ≡ get_or ws bare_width 0
       → x ≡ ruled l st n m (take (length s - m) (drop m s)) → x ≡ entry l s

@@ -25,7 +25,7 @@ use Rattle.stored.proofs.Entries.{part, Entered, entry-is}
 use Rattle.stored.specs.Stored.{entered, blocks_from}
 use Rattle.stored.proofs.Blocks.{blocks-next, blocks-over, over-some, over_none, stored_is, stored-not}
 use Rattle.stored.specs.Checks.{checked}
-use Rattle.std.specs.Prelude.{Result, Ok, Err, Option, Some, None}
+use Rattle.std.specs.Prelude.{Result, Ok, Err, Option, Some}
 
 module _ (b t : ℕ) (l : Last) (x : Piece) (s : Stream Refusal Piece) (e : starts l x.style ≡ true) (h : 0 < b) where
   roomy-next : length x.bytes ≤ t → roomy b t l (x ▸ s) ≡ x ▸ roomy (b - 1) (t - length x.bytes) (last x.style) s
@@ -41,11 +41,6 @@ pub record Checking (k : ℕ) (s t : List ℕ) (i left : ℕ) (before : Option S
   pub short : length t + i ≤ length s
   pub all : (B : ℕ) → length s ≤ B
       → answer 0 (roomy B 2147483647 none (blocks_from k none s)) ≡ answer i (roomy (B - i) left (last_of before) (blocks_from (k - i) (last_of before) t))
-
-pub checking-start : (k : ℕ) (s : List ℕ) → Checking k s s 0 2147483647 None
-checking-start k s =
-    let z : (n : ℕ) → n - 0 ≡ n = λ n. omega arith in
-    record { short = omega arith; all = λ B h. rw (z k, z B) refl }
 
 module _ {k : ℕ} {s t : List ℕ} {i left : ℕ} {before : Option Style} (g : Checking k s t i left before) where
   module _ (h : i < k) where

@@ -1,5 +1,5 @@
 -- The loop over a list's blocks: those that are left, laid here, are all of them, laid at the start.
---     Going, going_start        before the first block
+--     Going                     so many blocks are laid
 --     going-bad, -full, -more   a block that cannot be read, finds no room, or is laid
 --     going-left, -end          behind the last block: bytes are left over, or none are
 -- Assumes nothing.
@@ -15,10 +15,10 @@ use Rattle.answers.specs.Answers.{refusal}
 use Rattle.styles.specs.declared.Style.{Style}
 use Rattle.blocks.specs.declared.Page.{Page}
 use Rattle.answers.specs.declared.Why.{Why}
-use Rattle.std.specs.Prelude.{Result, Ok, Err, Option, Some, None}
+use Rattle.std.specs.Prelude.{Result, Ok, Err, Option, Some}
 use Rattle.blocks.specs.Pages.{none, last}
 use Rattle.blocks.specs.Laying.{Laying, on, off, roomed, blank, add_of, lay_all, Ready}
-use Rattle.blocks.proofs.Laying.{lay-off, ready-blank}
+use Rattle.blocks.proofs.Laying.{lay-off}
 use Rattle.fields.specs.Fields.{last_of}
 use Rattle.stored.specs.declared.entry.Entry.{Entry}
 use Rattle.stored.specs.Entries.{entry}
@@ -32,11 +32,6 @@ pub record Going (k : ℕ) (s b₀ x₀ t : List ℕ) (i : ℕ) (p : Page) (befo
   pub wide : length b ≡ length b₀
   pub long : length x ≡ length x₀
   pub all : lay_all (on blank b₀ x₀) (blocks_from k none s) ≡ lay_all (on p b x) (blocks_from (k - i) (last_of before) t)
-
-pub going_start : (k : ℕ) (s b x : List ℕ) → Going k s b x s 0 blank None b x
-going_start k s b x =
-    let z : k - 0 ≡ k = omega arith in
-    record { ready = ready-blank (length b) (length x); wide = refl; long = refl; all = rw z }
 
 module _ {k : ℕ} {s b₀ x₀ t : List ℕ} {i : ℕ} {p : Page} {before : Option Style} {b x : List ℕ}
     (g : Going k s b₀ x₀ t i p before b x) where

@@ -17,10 +17,6 @@ use Rattle.stored.specs.Entries.{Numbers, behind, and_more, numbers_from, Number
 use Rattle.stored.proofs.Entries.{part}
 use Rattle.std.specs.Prelude.{Result, Ok, Err}
 
-behind-none : (x : Found Numbers) → behind [] 0 x ≡ x
-behind-none (found q) = let z : 0 + q.size ≡ q.size = omega arith in rw z refl
-behind-none (refused r) = refl
-
 behind_more : (vs : List ℕ) (m v k : ℕ) (x : Found Numbers)
     → behind vs m (behind (v ∷ []) k x) ≡ behind (vs ++ (v ∷ [])) (m + k) x
 behind_more vs m v k (found q) =
@@ -34,12 +30,6 @@ pub record Reading (s : List ℕ) (total i : ℕ) (t ws : List ℕ) : Type 0 whe
   pub held : i ≤ total
   pub left : length t ≤ length s
   pub all : numbers_from total s ≡ behind (take i ws) (length s - length t) (numbers_from (total - i) t)
-
-pub reading-start : (s ws : List ℕ) → Reading s (length ws) 0 s ws
-reading-start s ws =
-    let z : length s - length s ≡ 0 = omega arith in
-    let y : length ws - 0 ≡ length ws = omega arith in
-    record { wide = refl; held = omega arith; left = omega arith; all = rw (z, y) (sym (behind-none (numbers_from (length ws) s))) }
 
 module _ {s : List ℕ} {total i : ℕ} {t ws : List ℕ} (g : Reading s total i t ws) where
   module _ (h : i < length ws) where

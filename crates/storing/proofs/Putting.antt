@@ -53,9 +53,6 @@ pub record Numbers (ws : List ℕ) (n : ℕ) (room₀ room : List ℕ) (at i : �
   pub same : length room ≡ length room₀
   pub left : Ahead n room₀ (streamed (numbers_bytes ws)) at room (streamed (numbers_bytes (drop i ws)))
 
-pub numbers-start : (ws : List ℕ) (n : ℕ) (room : List ℕ) → Numbers ws n room room n 0
-numbers-start ws n room = record { within = omega arith; place = omega arith; same = refl; left = λ r room' w. w }
-
 module _ {ws : List ℕ} {n : ℕ} {room₀ room : List ℕ} {at i : ℕ} (l : Numbers ws n room₀ room at i) where
   pub numbers_more : i < length ws → {at' : ℕ} {room' : List ℕ}
       → Wrote byte_layout at room (streamed (written (get_or ws i 0))) (Ok at') room' → Numbers ws n room₀ room' at' (i + 1)
@@ -87,9 +84,6 @@ pub record Bytes (bs : List ℕ) (n : ℕ) (room₀ room : List ℕ) (at i : ℕ
   pub place : at ≡ n + i
   pub same : length room ≡ length room₀
   pub left : Ahead n room₀ (streamed bs) at room (streamed (drop i bs))
-
-pub bytes-start : (bs : List ℕ) (n : ℕ) (room : List ℕ) → Bytes bs n room room n 0
-bytes-start bs n room = record { within = omega arith; place = omega arith; same = refl; left = λ r room' w. w }
 
 module _ {bs : List ℕ} {n : ℕ} {room₀ room : List ℕ} {at i : ℕ} (l : Bytes bs n room₀ room at i) where
   pub bytes-more : i < length bs → {room' : List ℕ} → room' ≡ put 1 room at (get_or bs i 0 ∷ [])

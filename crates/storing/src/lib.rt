@@ -29,13 +29,11 @@ use styles::{Style, is_flush};
 fn has_indent(blocks: &[u32]) -> bool
     ensures { result ≡ indented (length blocks.now / block_words) blocks.now }
 {
-    let mut words = blocks;
-    while BLOCK_WORDS <= words.len() {
+    for words in blocks.chunks_exact(BLOCK_WORDS) {
         let s = Style::at(words);
         if !is_flush(s) {
             return true;
         }
-        words = &words[BLOCK_WORDS..];
     }
     false
 }

@@ -33,11 +33,10 @@ fn put_blocks(blocks: &[u32], text: &[u8], room: &mut [u8], n: usize) -> Result<
         (bytes_of (pieces_from (length blocks.now / block_words) none 0 blocks.now text.now))
         result room.new }
 {
-    let mut words = blocks;
     let mut before = None;
     let mut p: usize = 0;
     let mut at = n;
-    while BLOCK_WORDS <= words.len() {
+    for words in blocks.chunks_exact(BLOCK_WORDS) {
         if !fits(before, p, words, text) {
             return unfit();
         }
@@ -46,7 +45,6 @@ fn put_blocks(blocks: &[u32], text: &[u8], room: &mut [u8], n: usize) -> Result<
         at = put_block(style, &text[p..end], room, at);
         before = Some(style);
         p = end;
-        words = &words[BLOCK_WORDS..];
     }
     if p < text.len() {
         return unfit();

@@ -5,11 +5,8 @@ use lib.ListN.{length-take, length-drop}
 use Rattle.std.proofs.lemmas.Result.{err_from_is_err_and}
 use Rattle.stored.proofs.Entries.{entry-is}
 use Rattle.stored.proofs.Mapped.{mapped_ok, mapped_err}
-use Rattle.stored.proofs.Laying.{going_start, going-bad, going-full, going_more, going-left, going_end}
+use Rattle.stored.proofs.Laying.{going-bad, going-full, going_more, going-left, going_end}
 use Rattle.stored.proofs.lay_blocks.Goals as goal
-
-pub loop-init : goal.loop-init
-loop-init c = rw c.blank-page.ensures (going_start _ _ _ _)
 
 pub returns-in_err-e-clause-laid : goal.returns-in_err-e-clause-laid
 returns-in_err-e-clause-laid c =
@@ -30,11 +27,6 @@ pub slice_bounds-add-end : goal.slice_bounds-add-end
 slice_bounds-add-end c =
     let w = entry-is _ _ (sym c.block_at.ensures ∙ c.in_ok-e.was) in
     simp (length-take, length-drop) (omega (arith, w.within))
-
-pub add-requires : goal.add-requires
-add-requires c =
-    let inv = c.loop.invariant in
-    rw (inv.wide, inv.long) inv.ready
 
 pub returns-in_err-map_err-clause-laid : goal.returns-in_err-map_err-clause-laid
 returns-in_err-map_err-clause-laid c =

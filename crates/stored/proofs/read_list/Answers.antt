@@ -1,15 +1,6 @@
 -- `read_list` meets its contract: all blocks find room, or both rooms are cleared.
-use native.Mathlib.Omega.{arith}
-use lib.ListN.{length}
-use Rattle.blocks.proofs.Settling.{count-words}
 use Rattle.stored.proofs.Whole.{list_full, list-laid}
 use Rattle.stored.proofs.read_list.Goals as goal
-
-pub overflow_mul-count : goal.overflow_mul-count
-overflow_mul-count c =
-    let b = c.well_formed in
-    let h = count-words (length c.args.blocks.now) (length c.args.text.now) (rw c.in-Ok.is at c.lay_list-laid.ensures.still) in
-    omega arith
 
 pub returns-in-Err : goal.returns-in-Err
 returns-in-Err c =

@@ -3,12 +3,9 @@ use native.Mathlib.Omega.{arith}
 use mathlib.Core.Path.{sym, ◌∙◌}
 use Rattle.std.proofs.lemmas.Result.{err_from_is_err_and}
 use Rattle.stored.proofs.Entries.{entry-is}
-use Rattle.stored.proofs.Checking.{checking-start, checking-bad, checking-text}
+use Rattle.stored.proofs.Checking.{checking-bad, checking-text}
 use Rattle.stored.proofs.Checking.{checking-more, checking-left, checking-end}
 use Rattle.stored.proofs.check.check_blocks.Goals as goal
-
-pub loop-init : goal.loop-init
-loop-init c = checking-start _ _
 
 pub returns-in_err-e : goal.returns-in_err-e
 returns-in_err-e c =

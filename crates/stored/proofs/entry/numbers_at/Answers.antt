@@ -4,11 +4,8 @@ use native.Mathlib.Omega.{arith}
 use Rattle.std.proofs.lemmas.Result.{err_from_is_err_and}
 use Rattle.sevens.proofs.Sevens.{number-within}
 use Rattle.stored.proofs.Mapped.{mapped_ok, mapped_err}
-use Rattle.stored.proofs.Reading.{reading-start, reading-more, reading-not, reading-end}
+use Rattle.stored.proofs.Reading.{reading-more, reading-not, reading-end}
 use Rattle.stored.proofs.entry.numbers_at.Goals as goal
-
-pub loop-word-init : goal.loop-word-init
-loop-word-init c = reading-start _ _
 
 pub slice_bounds-t-count : goal.slice_bounds-t-count
 slice_bounds-t-count c =
@@ -30,9 +27,6 @@ returns-in_err-n c =
     let p = err_from_is_err_and c.from_residual.result c.from_residual.ensures.1 in
     let w = mapped_err c.number_at.result c.map_err.ensures.cases c.in_err-n.was in
     rw p.1 (reading-not c.loop-word.invariant (omega arith) _ _ (sym c.number_at.ensures ∙ w.1) (p.2 ∙ w.2))
-
-pub overflow_sub-result : goal.overflow_sub-result
-overflow_sub-result c = let w = c.loop-word.invariant.left in omega arith
 
 pub returns : goal.returns
 returns c = reading-end c.loop-word.invariant (omega arith)

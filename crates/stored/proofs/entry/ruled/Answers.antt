@@ -1,6 +1,4 @@
 -- `ruled` meets its contract: the rules in their order.
-use native.Mathlib.Omega.{arith}
-use lib.ListN.{length-take}
 use Rattle.fields.specs.Fields.{last_of}
 use Rattle.stored.proofs.Branches.{ruled-field, ruled-short, ruled-is, ruled-bytes}
 use Rattle.stored.proofs.entry.ruled.Goals as goal
@@ -16,9 +14,6 @@ returns-then-t-n c =
     let a = c.args in
     ruled-short (last_of a.before) a.s a.n a.m a.t.now
     c.in_range.ensures c.follows.ensures c.if-not-in_range-n.false-raw c.if-t-n.true c.of-then-t-n.ensures
-
-pub slice_bounds-is_utf8-end : goal.slice_bounds-is_utf8-end
-slice_bounds-is_utf8-end c = omega (arith, length-take c.args.n c.args.t.now)
 
 pub returns-then-is_utf8 : goal.returns-then-is_utf8
 returns-then-is_utf8 c =

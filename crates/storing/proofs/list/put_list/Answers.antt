@@ -1,15 +1,10 @@
 -- `put_list` meets its contract: words that are no whole blocks, or the count and then the blocks.
-use native.Mathlib.Omega.{arith}
-use Rattle.storing.proofs.Lists.{list-none, list_wrote, whole-few, number-place}
+use Rattle.storing.proofs.Lists.{list-none, list_wrote, number-place}
 use Rattle.storing.proofs.list.put_list.Goals as goal
 
 pub returns-then-not-blocks-count : goal.returns-then-not-blocks-count
 returns-then-not-blocks-count c =
     list-none c.args.blocks.now c.args.text.now c.if-not-blocks-count.true-raw c.unfit.ensures
-
-pub overflow_cast-number : goal.overflow_cast-number
-overflow_cast-number c =
-    omega (arith, whole-few c.args.blocks.now c.if-not-blocks-count.false-raw)
 
 pub put_blocks-requires : goal.put_blocks-requires
 put_blocks-requires c = number-place _ c.put_number-start.ensures
