@@ -50,6 +50,7 @@ fn is_row(names: &Table, w: &[u8], row: usize) -> bool
 
 // The number of a name, 0 to 48; 49 for any other word. `names` is the table, as `table()` gives it. Only names that
 // start with the word's first letter are looked at: the table links each to the next.
+// No `Option`: records hold the number, and every caller's clauses name `word_number`.
 pub fn number_of(names: &Table, w: &[u8]) -> u32
     requires { names.now ≡ rows }
     ensures number { result ≡ word_number w.now }

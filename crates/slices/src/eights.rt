@@ -40,7 +40,7 @@ pub fn marks_of(eight: &[u8; 8]) -> u64
     marks(u64::from_le_bytes(*eight))
 }
 
-// 128 in the place of each byte of eight that starts a slice in standard reading.
+// 128 in the place of each byte of eight that starts a slice in standard reading. What differs is the callee alone.
 pub fn starts_of(eight: &[u8; 8]) -> u64
     ensures { result ≡ packed (marked is_start eight.now) }
 {

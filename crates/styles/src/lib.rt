@@ -65,7 +65,7 @@ impl Style {
         ]
     }
 
-    // The style that words start with.
+    // The style that words start with. No `From`: it takes longer slices too, and not shorter ones.
     pub fn at(words: &[u32]) -> Style
         requires { style_width ≤ length words.now }
         ensures { result ≡ style_at words.now }

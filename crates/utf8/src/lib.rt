@@ -26,6 +26,7 @@ fn tail_of(x: u32) -> u8
     ((x & 63) | 128) as u8
 }
 
+// A function for each length: one with the length as a parameter would be a loop, with a table of marks beside it.
 fn two(c: u32) -> Encoded
     requires { c < 2048 }
     ensures { result ≡ padded ((192 + c / 64) ∷ (tail c ∷ [])) }
