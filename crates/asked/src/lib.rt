@@ -8,16 +8,15 @@ use readings::Reading;
 use std::env::Env;
 
 // By the argument's first byte.
+#[tactic(auto, unfolding(crate::specs::Asked::asked_by))]
 fn by_digit(b: u8) -> Reading
     ensures { result ≡ asked_by b }
 {
-    if b == b'1' {
-        return Reading::Paragraphs;
+    match b {
+        b'1' => Reading::Paragraphs,
+        b'2' => Reading::Standard,
+        _ => Reading::Plain,
     }
-    if b == b'2' {
-        return Reading::Standard;
-    }
-    Reading::Plain
 }
 
 // An argument of more than one byte is plain too.

@@ -19,7 +19,6 @@ use lib.ListN.{length, take, drop, replicate, length-append, length-set}
 use lib.Seq.{sets, sets-eq, length-sets, length-take-le, take_at}
 use lib.Dec.{ltb, eqb}
 use Rattle.answers.specs.declared.Refusal.{Refusal}
-use Rattle.answers.specs.declared.Outcome.TheVariants.{Done, Refused}
 use Rattle.answers.specs.declared.Why.TheVariants.{BlockRoom, TextRoom}
 use Rattle.answers.specs.Answers.{refusal}
 use Rattle.rooms.specs.Streams.{Stream, end, stop, ◌▸◌, count, items, answer, ended}
@@ -36,6 +35,7 @@ use Rattle.styles.proofs.Styles.{same_style-eq}
 use Rattle.blocks.proofs.Blocks.{length-record, length-records}
 use Rattle.blocks.proofs.Records.{style-last, record-grown}
 use Rattle.blocks.proofs.Laying.{lay-off}
+use Rattle.std.specs.Prelude.{Ok, Err}
 
 -- words behind what stands before them
 sets-take : (l : List ℕ) (i : ℕ) (vs : List ℕ) → i + length vs ≤ length l → take (i + length vs) (sets l i vs) ≡ take i l ++ vs
@@ -189,10 +189,10 @@ record Settled (w v k : ℕ) (W T : List ℕ) (place : ℕ) (bs : List Piece) (u
 
 abbrev Meets : ℕ → ℕ → ℕ → List ℕ → List ℕ → ℕ → (List Piece → List Piece) → Stream Refusal Piece → Laying → Type 0
 Meets w v k W T place join q (on p b t) =
-    Settled w v k W T place (join (items q)) (text_of (items q)) p b t × ((m : ℕ) → answer m q ≡ Done (m + count q))
-Meets w v k W T place join q (off r) = (m : ℕ) → answer m q ≡ Refused r
+    Settled w v k W T place (join (items q)) (text_of (items q)) p b t × ((m : ℕ) → answer m q ≡ Ok (m + count q))
+Meets w v k W T place join q (off r) = (m : ℕ) → answer m q ≡ Err r
 
-more-done : (q : Stream Refusal Piece) (m n : ℕ) → answer (m + 1) q ≡ Done (m + 1 + n) → answer (m + 1) q ≡ Done (m + suc n)
+more-done : (q : Stream Refusal Piece) (m n : ℕ) → answer (m + 1) q ≡ Ok (m + 1 + n) → answer (m + 1) q ≡ Ok (m + suc n)
 more-done q m n e = let z : m + 1 + n ≡ m + suc n = omega arith in e ∙ rw z
 
 module _ (w v k place : ℕ) (W : List ℕ) (x : Piece) (q : Stream Refusal Piece) where
@@ -276,7 +276,7 @@ settle-end w v B C k n f st W P D b t g = (
     fits = omega (arith, g.left);
     room = omega (arith, g.room);
   },
-  λ m. ap (λ (j : ℕ). Done j) (let z : m ≡ m + 0 = omega arith in z),
+  λ m. ap (λ (j : ℕ). Ok j) (let z : m ≡ m + 0 = omega arith in z),
 )
 
 settle-stop : (w v : ℕ) (r : Refusal) → Settles w v (stop r)
@@ -374,7 +374,7 @@ begin-end b t =
         fits = zero-le (capacity block_words (length b));
         room = zero-le (text_capacity (length t));
       },
-      λ m. ap (λ (j : ℕ). Done j) (let z : m ≡ m + 0 = omega arith in z),
+      λ m. ap (λ (j : ℕ). Ok j) (let z : m ≡ m + 0 = omega arith in z),
     )
 
 begin-stop : (b t : List ℕ) (r : Refusal) → Begins b t (stop r)
@@ -438,7 +438,7 @@ begins b t (x ▸ s) = begin-more b t x s
 
 -- what the rooms hold when all the pieces of q are laid
 pub record Joined (q : Stream Refusal Piece) (b t : List ℕ) (p : Page) (b' t' : List ℕ) : Type 0 where
-  pub done : answer 0 q ≡ Done (count q)
+  pub done : answer 0 q ≡ Ok (count q)
   pub counted : p.blocks ≡ length (blocks (items q))
   pub text : p.text ≡ length (text_of (items q))
   pub words : take (p.blocks * block_words) b' ≡ records 0 (blocks (items q))
@@ -452,7 +452,7 @@ pub record Joined (q : Stream Refusal Piece) (b t : List ℕ) (p : Page) (b' t' 
 abbrev pub placed : List ℕ → List ℕ → Stream Refusal Piece → Stream Refusal Piece
 placed b t s = roomy (capacity block_words (length b)) (text_capacity (length t)) none s
 
-pub lay-refuses : (s : Stream Refusal Piece) (b t : List ℕ) {r : Refusal} → lay_all (on blank b t) s ≡ off r → answer 0 (placed b t s) ≡ Refused r
+pub lay-refuses : (s : Stream Refusal Piece) (b t : List ℕ) {r : Refusal} → lay_all (on blank b t) s ≡ off r → answer 0 (placed b t s) ≡ Err r
 lay-refuses s b t e = (rw e at (begins b t s)) 0
 
 pub lay-joins : (s : Stream Refusal Piece) (b t : List ℕ) {p : Page} {b' t' : List ℕ} → lay_all (on blank b t) s ≡ on p b' t' → Joined (placed b t s) b t p b' t'
@@ -463,7 +463,7 @@ lay-joins s b t {p} {b'} {t'} e = joined (rw e at (begins b t s))
         let g = h.0 in
         let z : (n : ℕ) → 0 + n ≡ n = λ n. omega arith in
         record {
-          done = h.1 0 ∙ ap (λ (n : ℕ). Done n) (z (count (placed b t s)));
+          done = h.1 0 ∙ ap (λ (n : ℕ). Ok n) (z (count (placed b t s)));
           counted = g.counted ∙ z (length (blocks (items (placed b t s))));
           text = g.text ∙ z (length (text_of (items (placed b t s))));
           words = g.words;

@@ -21,7 +21,9 @@ use Rattle.styles.specs.declared.Style.{Style}
 use Rattle.styles.specs.Styles.{style_words, same_style}
 use Rattle.blocks.specs.declared.Page.{Page}
 use Rattle.blocks.specs.Pages.{block_words, block_record, text_capacity, starts}
-use Rattle.blocks.specs.Laying.{Laying, on, off, page_of, style_in, last_in, opened, longer, measured, start_of, laid_if, append_of, add_of, ReadyBlocks, Ready, page_words, Held}
+use Rattle.blocks.specs.Laying.{Laying, on, off, style_in, last_in, opened, longer, measured, start_of, roomed, append_of, add_of, ReadyBlocks, Ready}
+use Rattle.std.specs.Prelude.{Result, Ok, Err}
+use Rattle.answers.specs.declared.Why.{Why}
 
 pub cap-in : (n : ℕ) → n < 2147483647 → n ≡ text_capacity n
 cap-in n h = rw (lt-ltb n 2147483647 h)
@@ -88,53 +90,12 @@ still-more p w v m n h e k l =
     record { page = record { blocks = h.blocks; small = omega arith; from = omega (arith, h.from) }; text = rw (← e) (omega arith) }
 
 module _ (p : Page) (s : Style) (bytes b t : List ℕ) where
-  module _ (q : Page) (b' : List ℕ) (x : Bool) (e : laid_if BlockRoom x q b' t ≡ start_of p s b t) where
-    pub add-full : not x ≡ true → off (refusal BlockRoom) ≡ add_of p s bytes b t
+  module _ (q : Page) (b' : List ℕ) (x : Result Unit Why) (e : roomed x q b' t ≡ start_of p s b t) where
+    pub add-full : (why : Why) → x ≡ Err why → off (refusal why) ≡ add_of p s bytes b t
     unfolding add_of
-    add-full h = rw (← e, not-true x h)
+    add-full why h = rw (← e, h)
 
-    add-begun : not x ≡ false → add_of p s bytes b t ≡ append_of q bytes b' t
+    -- the text of what has started
+    pub add-begun : (u : Unit) → x ≡ Ok u → {z : Laying} → z ≡ append_of q bytes b' t → z ≡ add_of p s bytes b t
     unfolding add_of
-    add-begun h = rw (← e, not-false x h)
-
-    module _ (h : not x ≡ false) (q' : Page) (b'' t'' : List ℕ) (y : Bool) (f : laid_if TextRoom y q' b'' t'' ≡ append_of q bytes b' t) where
-      pub add-long : not y ≡ true → off (refusal TextRoom) ≡ add_of p s bytes b t
-      add-long k = rw (add-begun h, ← f, not-true y k)
-
-      pub add-on : not y ≡ false → on q' b'' t'' ≡ add_of p s bytes b t
-      add-on k = rw (add-begun h, ← f, not-false y k)
-
--- a page's words stored
-page-opened : (l : List ℕ) → length l ≡ page_words → (a c : ℕ) → page_of (set (set l 0 a) 2 c) ≡ record { blocks = a; text = get_or l 1 0; from = c }
-page-opened [] e a c = absurd (omega arith)
-page-opened (x ∷ []) e a c = absurd (omega arith)
-page-opened (x ∷ y ∷ []) e a c = absurd (omega arith)
-page-opened (x ∷ y ∷ z ∷ []) e a c = refl
-page-opened (x ∷ y ∷ z ∷ w ∷ l) e a c = absurd (omega arith)
-
-page-longer : (l : List ℕ) → length l ≡ page_words → (n : ℕ) → page_of (set l 1 n) ≡ record { blocks = get_or l 0 0; text = n; from = get_or l 2 0 }
-page-longer [] e n = absurd (omega arith)
-page-longer (x ∷ []) e n = absurd (omega arith)
-page-longer (x ∷ y ∷ []) e n = absurd (omega arith)
-page-longer (x ∷ y ∷ z ∷ []) e n = refl
-page-longer (x ∷ y ∷ z ∷ w ∷ l) e n = absurd (omega arith)
-
-module _ (l : List ℕ) (three : length l ≡ page_words) where
-  pub page-new : (b t : List ℕ) {z : Laying} → on (opened (page_of l)) b t ≡ z → on (page_of (set (set l 0 (get_or l 0 0 + 1)) 2 (get_or l 1 0))) b t ≡ z
-  page-new b t h = ap (λ (p : Page). on p b t) (page-opened l three (get_or l 0 0 + 1) (get_or l 1 0)) ∙ h
-
-  pub held_new : (w v : ℕ) → ReadyBlocks (page_of l) w → get_or l 0 0 < capacity block_words w → get_or l 1 0 ≤ text_capacity v
-      → Held (set (set l 0 (get_or l 0 0 + 1)) 2 (get_or l 1 0)) w v
-  held_new w v h k q = record {
-    words = length-set (set l 0 (get_or l 0 0 + 1)) 2 (get_or l 1 0) ∙ length-set l 0 (get_or l 0 0 + 1) ∙ three;
-    ready = rw (page-opened l three (get_or l 0 0 + 1) (get_or l 1 0)) (still-new (page_of l) w v h k q);
-  }
-
-  pub begun-new : 0 < get_or (set (set l 0 (get_or l 0 0 + 1)) 2 (get_or l 1 0)) 0 0
-  begun-new = let e : get_or (set (set l 0 (get_or l 0 0 + 1)) 2 (get_or l 1 0)) 0 0 ≡ get_or l 0 0 + 1 = ap (λ (p : Page). p.blocks) (page-opened l three (get_or l 0 0 + 1) (get_or l 1 0)) in omega arith
-
-  pub page-more : (n : ℕ) (b t : List ℕ) {z : Laying} → on (longer (page_of l) n) b t ≡ z → on (page_of (set l 1 (get_or l 1 0 + n))) b t ≡ z
-  page-more n b t h = ap (λ (p : Page). on p b t) (page-longer l three (get_or l 1 0 + n)) ∙ h
-
-  pub held_more : (w v n : ℕ) → Ready (longer (page_of l) n) w v → Held (set l 1 (get_or l 1 0 + n)) w v
-  held_more w v n h = record { words = length-set l 1 (get_or l 1 0 + n) ∙ three; ready = rw (page-longer l three (get_or l 1 0 + n)) h }
+    add-begun u h f = rw (← e, h) f

@@ -11,11 +11,8 @@ use Rattle.rooms.specs.Rooms.{capacity, put}
 use Rattle.styles.specs.declared.Style.{Style}
 use Rattle.styles.specs.Styles.{style_at}
 use Rattle.blocks.specs.declared.Page.{Page}
-use Rattle.blocks.specs.declared.Laid.{Laid}
-use Rattle.blocks.specs.declared.Laid.TheVariants.{On, Full}
-use Rattle.blocks.specs.declared.Room.{Room}
-use Rattle.blocks.specs.declared.Room.TheVariants.{Fits, NoBlock, NoText}
 use Rattle.blocks.specs.Pages.{Piece, block_record, block_words, text_capacity, Last, none, last, starts}
+use Rattle.std.specs.Prelude.{Result, Ok, Err}
 
 -- a page with its two rooms, or a refusal
 pub data Laying : Type 0 where
@@ -23,27 +20,14 @@ pub data Laying : Type 0 where
   off : Refusal → Laying
 
 -- what a function that lays text answers, with the rooms that it leaves
-abbrev pub told : Laid → List ℕ → List ℕ → Laying
-told (On p) b t = on p b t
-told (Full r) b t = off r
-
--- a page in an array of words, as the code carries it
-abbrev pub page_words : ℕ
-page_words = 3
-
-abbrev pub page_of : List ℕ → Page
-page_of l = record { blocks = get_or l 0 0; text = get_or l 1 0; from = get_or l 2 0 }
+abbrev pub told : Result Page Refusal → List ℕ → List ℕ → Laying
+told (Ok p) b t = on p b t
+told (Err r) b t = off r
 
 -- what a step answers, with the page and the rooms that it leaves: it is done, or there is no room for it
-abbrev pub laid_if : Why → Bool → Page → List ℕ → List ℕ → Laying
-laid_if why true p b t = on p b t
-laid_if why false p b t = off (refusal why)
-
--- and what two of them answer
-abbrev pub roomed : Room → Page → List ℕ → List ℕ → Laying
-roomed Fits p b t = on p b t
-roomed NoBlock p b t = off (refusal BlockRoom)
-roomed NoText p b t = off (refusal TextRoom)
+abbrev pub roomed : Result Unit Why → Page → List ℕ → List ℕ → Laying
+roomed (Ok u) p b t = on p b t
+roomed (Err why) p b t = off (refusal why)
 
 -- nothing is laid yet
 abbrev pub blank : Page
@@ -117,11 +101,6 @@ pub record Ready (p : Page) (w v : ℕ) : Type 0 where
   pub page : ReadyBlocks p w
   pub text : p.text ≤ text_capacity v
 
-abbrev pub Still : Laid → ℕ → ℕ → Type 0
-Still (On p) w v = Ready p w v
-Still (Full r) w v = 0 ≤ v
-
--- a page in its array, which fits its rooms
-pub record Held (l : List ℕ) (w v : ℕ) : Type 0 where
-  pub words : length l ≡ page_words
-  pub ready : Ready (page_of l) w v
+abbrev pub Still : Result Page Refusal → ℕ → ℕ → Type 0
+Still (Ok p) w v = Ready p w v
+Still (Err r) w v = 0 ≤ v

@@ -23,20 +23,20 @@ use Rattle.walk.specs.Walk.{Step, step_of, passed_by, walk}
 use Rattle.walk.proofs.Walk.{walk-one, walk_end}
 use Rattle.units.specs.declared.Run.{Run}
 use Rattle.units.specs.declared.Gave.{Gave}
+use Rattle.units.specs.Units.{before}
 use Rattle.machine.specs.Stack.{moved, stack_of, held}
 use Rattle.machine.specs.Machine.{Deed, at, ended, parts, gave, left as rest_of, owed_behind, move_of, onward, said, step_of as unit_of, owes_of, machine, ◌▸▸◌}
 use Rattle.blocks.specs.declared.Page.{Page}
 use Rattle.blocks.specs.Pages.{Piece}
-use Rattle.blocks.specs.Laying.{Laying, on, off, page_of, blank, lay_all, Held}
+use Rattle.blocks.specs.Laying.{Laying, on, off, blank, lay_all, Ready}
 use Rattle.blocks.proofs.Laying.{lay-end, lay-stop, lay-off, ready-blank, Placeless}
-use Rattle.deeds.specs.declared.stack.Moved.{Moved}
-use Rattle.deeds.specs.declared.stack.Moved.TheVariants.{Holds, Refuses}
-use Rattle.runs.specs.Runs.{rows, steps_by, run_words, run_of, laid_all}
+use Rattle.runs.specs.Runs.{rows, steps_by, laid_all}
 use Rattle.body.specs.Body.{act_of, acts, body}
 use Rattle.deeds.specs.Turns.{deed_at, moved_by, Turned, goes, ends, turned, turn_of, Turns}
 use Rattle.runs.proofs.Saying.{lay-said, laid-placeless}
 use Rattle.deeds.specs.Deeds.{token_deed}
 use Rattle.body.proofs.Groups.{at-step}
+use Rattle.std.specs.Prelude.{Result, Ok, Err}
 
 -- what is said of tokens, from a stack and a run on, where o characters are still to be passed over
 abbrev from : Reading → List (List ℕ) → Run → ℕ → List Token → Stream Refusal Piece
@@ -45,19 +45,18 @@ from rd st run o ts = machine rows (steps_by rd) st run o (acts rd (walk ts))
 abbrev whole : Reading → List ℕ → List ℕ → List ℕ → List ℕ → ℕ → Laying
 whole rd src b₀ t₀ tokens count = lay_all (on blank b₀ t₀) (body rd (walk (tokens_all src count tokens)))
 
-pub record Loop (rd : Reading) (src b₀ t₀ tokens : List ℕ) (count : ℕ) (b t : List ℕ) (states : List (List ℕ)) (depth : ℕ) (run : List ℕ) (o : ℕ) (page ws : List ℕ) (n : ℕ) : Type 0 where
+pub record Loop (rd : Reading) (src b₀ t₀ tokens : List ℕ) (count : ℕ) (b t : List ℕ) (states : List (List ℕ)) (depth : ℕ) (run : Run) (o : ℕ) (page : Page) (ws : List ℕ) (n : ℕ) : Type 0 where
   pub deep : depth ≤ 64
   pub all : length states ≡ 64
   pub words : n * token_words ≤ length ws
   pub few : n ≤ 65536
   pub long-b : length b ≡ length b₀
   pub long-t : length t ≡ length t₀
-  pub three : length run ≡ run_words
-  pub paged : Held page (length b) (length t)
-  pub left : lay_all (on (page_of page) b t) (from rd (held [] states depth) (run_of run) o (tokens_all src n ws)) ≡ whole rd src b₀ t₀ tokens count
+  pub paged : Ready page (length b) (length t)
+  pub left : lay_all (on page b t) (from rd (held [] states depth) run o (tokens_all src n ws)) ≡ whole rd src b₀ t₀ tokens count
 
 pub loop-start : (rd : Reading) (src b t tokens : List ℕ) (count : ℕ) {row : List ℕ} → row ≡ fresh_row → (count * token_words ≤ length tokens) × (count ≤ 65536)
-    → Loop rd src b t tokens count b t (set (replicate 64 (replicate width 0)) 0 row) 1 (0 ∷ 0 ∷ 0 ∷ []) 0 (0 ∷ 0 ∷ 0 ∷ []) tokens count
+    → Loop rd src b t tokens count b t (set (replicate 64 (replicate width 0)) 0 row) 1 before 0 blank tokens count
 unfolding held body
 loop-start rd src b t tokens count e h = record {
   deep = omega arith;
@@ -66,8 +65,7 @@ loop-start rd src b t tokens count e h = record {
   few = h.1;
   long-b = refl;
   long-t = refl;
-  three = refl;
-  paged = record { words = refl; ready = ready-blank (length b) (length t) };
+  paged = ready-blank (length b) (length t);
   left = rw e refl;
 }
 
@@ -120,12 +118,12 @@ onward-at rd src ws h o st more = go (ltb 0 h)
 words-behind : (k n : ℕ) (ws : List ℕ) → n * token_words ≤ length ws → (n - k) * token_words ≤ length (rest ws (k * token_words))
 words-behind k n ws h = simp (length-take, length-drop) (omega arith)
 
-module _ {rd : Reading} {src b₀ t₀ tokens : List ℕ} {count : ℕ} {b t : List ℕ} {states : List (List ℕ)} {depth : ℕ} {run : List ℕ} {o : ℕ} {page ws : List ℕ} {n : ℕ}
+module _ {rd : Reading} {src b₀ t₀ tokens : List ℕ} {count : ℕ} {b t : List ℕ} {states : List (List ℕ)} {depth : ℕ} {run : Run} {o : ℕ} {page : Page} {ws : List ℕ} {n : ℕ}
     (l : Loop rd src b₀ t₀ tokens count b t states depth run o page ws n) where
-  pub loop-end : n ≤ 0 → {z : Laying} → z ≡ laid_all (on (page_of page) b t) (said rows (held [] states depth) (ended (run_of run)) parts) → z ≡ whole rd src b₀ t₀ tokens count
+  pub loop-end : n ≤ 0 → {z : Laying} → z ≡ laid_all (on page b t) (said rows (held [] states depth) (ended run) parts) → z ≡ whole rd src b₀ t₀ tokens count
   loop-end y h =
-      let p : Page = page_of page in
-      let r : Run = run_of run in
+      let p : Page = page in
+      let r : Run = run in
       h
       ∙ sym (lay-end (laid_all (on p b t) (said rows (held [] states depth) (ended r) parts)))
       ∙ sym (lay-said (on p b t) (said rows (held [] states depth) (ended r) parts) end)
@@ -141,7 +139,7 @@ module _ {rd : Reading} {src b₀ t₀ tokens : List ℕ} {count : ℕ} {b t : L
     stack = held [] states depth
 
     abbrev gives : Gave
-    gives = gave (unit_of (steps_by rd) stack) (run_of run) deed
+    gives = gave (unit_of (steps_by rd) stack) run deed
 
     abbrev owed : ℕ
     owed = owed_behind (owes_of (steps_by rd) stack) o (deed_at rd src ws h)
@@ -162,41 +160,40 @@ module _ {rd : Reading} {src b₀ t₀ tokens : List ℕ} {count : ℕ} {b t : L
     passes : h ≡ passed_by (shown_of src (item_at ws)) (shown_by (tokens_all src (n - 1) (rest ws token_words)))
     passes = q.0 src ∙ ap (passed_by (shown_of src (item_at ws))) (sym (tokens-shown src (n - 1) (rest ws token_words)))
 
-    front : from rd stack (run_of run) o (tokens_all src n ws) ≡ said rows stack gives deed ▸▸ onward (slice_at ws) next (more (stack_of next) gives.run)
+    front : from rd stack run o (tokens_all src n ws) ≡ said rows stack gives deed ▸▸ onward (slice_at ws) next (more (stack_of next) gives.run)
     front =
         let ts : List Token = tokens_all src (n - 1) (rest ws token_words) in
-        ap (from rd stack (run_of run) o) (tokens-some src n ws y)
-        ∙ from_one rd stack (run_of run) o (token_at src ws) ts (at-step rd src ws ts h passes) refl refl
+        ap (from rd stack run o) (tokens-some src n ws y)
+        ∙ from_one rd stack run o (token_at src ws) ts (at-step rd src ws ts h passes) refl refl
         ∙ ap (λ (s : Stream Refusal Piece). said rows stack gives deed ▸▸ s) (onward-at rd src ws h o stack (from rd (stack_of next) gives.run owed (drop (passed_by (shown_of src (item_at ws)) (shown_by ts)) ts)))
         ∙ ap (λ (j : ℕ). said rows stack gives deed ▸▸ onward (slice_at ws) next (from rd (stack_of next) gives.run owed (drop j ts))) (sym passes)
         ∙ ap (λ (us : List Token). said rows stack gives deed ▸▸ onward (slice_at ws) next (from rd (stack_of next) gives.run owed us)) behind
 
-    leads : after (slice_at ws) (turn_of stack (page_of page) b t gives deed) more ≡ whole rd src b₀ t₀ tokens count
+    leads : after (slice_at ws) (turn_of stack page b t gives deed) more ≡ whole rd src b₀ t₀ tokens count
     unfolding turn_of
     leads =
-        let x : Laying = laid_all (on (page_of page) b t) (said rows stack gives deed) in
-        sym (after-turned (slice_at ws) x (laid-placeless (on (page_of page) b t) (said rows stack gives deed) tt) next gives.run more)
-        ∙ sym (lay-said (on (page_of page) b t) (said rows stack gives deed) (onward (slice_at ws) next (more (stack_of next) gives.run)))
-        ∙ ap (lay_all (on (page_of page) b t)) (sym front)
+        let x : Laying = laid_all (on page b t) (said rows stack gives deed) in
+        sym (after-turned (slice_at ws) x (laid-placeless (on page b t) (said rows stack gives deed) tt) next gives.run more)
+        ∙ sym (lay-said (on page b t) (said rows stack gives deed) (onward (slice_at ws) next (more (stack_of next) gives.run)))
+        ∙ ap (lay_all (on page b t)) (sym front)
         ∙ l.left
 
-    module _ {m : Moved} {states' : List (List ℕ)} {r' : Run} {page' b' t' : List ℕ} (k : Turns m states' r' page' b' t' (length b) (length t) (turn_of stack (page_of page) b t gives deed)) where
-      goes_on_lem : after (slice_at ws) (turned (on (page_of page') b' t') (moved_by m states') r') more ≡ whole rd src b₀ t₀ tokens count
+    module _ {m : Result ℕ Why} {states' : List (List ℕ)} {r' : Run} {page' : Page} {b' t' : List ℕ} (k : Turns m states' r' page' b' t' (length b) (length t) (turn_of stack page b t gives deed)) where
+      goes_on_lem : after (slice_at ws) (turned (on page' b' t') (moved_by m states') r') more ≡ whole rd src b₀ t₀ tokens count
       goes_on_lem = ap (λ (z : Turned). after (slice_at ws) z more) k.does ∙ leads
 
-      pub turn-refused : {why : Why} {p : ℕ} {r : Refusal} → m ≡ Refuses why → p ≡ slice_at ws → r ≡ refusal_at why p → off r ≡ whole rd src b₀ t₀ tokens count
+      pub turn-refused : {why : Why} {p : ℕ} {r : Refusal} → m ≡ Err why → p ≡ slice_at ws → r ≡ refusal_at why p → off r ≡ whole rd src b₀ t₀ tokens count
       turn-refused {why} u e w = ap off (w ∙ ap (refusal_at why) e) ∙ (rw u at goes_on_lem)
 
-      pub turn_on : {d : ℕ} → m ≡ Holds d → {run' : List ℕ} → r' ≡ run_of run' → length run' ≡ run_words → length b' ≡ length b → length t' ≡ length t → {o' : ℕ} → o' ≡ owed
-          → Loop rd src b₀ t₀ tokens count b' t' states' d run' o' page' (rest ws ((h + 1) * token_words)) (n - (h + 1))
-      turn_on {d} u e three lb lt w = record {
+      pub turn_on : {d : ℕ} → m ≡ Ok d → length b' ≡ length b → length t' ≡ length t → {o' : ℕ} → o' ≡ owed
+          → Loop rd src b₀ t₀ tokens count b' t' states' d r' o' page' (rest ws ((h + 1) * token_words)) (n - (h + 1))
+      turn_on {d} u lb lt w = record {
         deep = rw u at k.deep;
         all = k.all;
         words = words-behind (h + 1) n ws l.words;
         few = let x : n ≤ 65536 = l.few in omega arith;
         long-b = lb ∙ l.long-b;
         long-t = lt ∙ l.long-t;
-        three = three;
-        paged = rw (lb, lt) k.held;
-        left = rw w (rw (u, e) at goes_on_lem);
+        paged = rw (lb, lt) k.ready;
+        left = rw w (rw u at goes_on_lem);
       }

@@ -4,7 +4,7 @@
 //
 // What one token does is said in `deeds`; `group` tells what of the tokens the walk passes over.
 //
-// States, run and page are lent as arrays: a struct that goes through the loop by value is copied at each token.
+// States are lent as an array, run and page as structs: what goes through the loop by value is copied at each token.
 #![tactic(auto)]
 
 mod group;
@@ -15,45 +15,39 @@ ghost use Rattle.tokens.specs.Items.{tokens_all};
 ghost use Rattle.walk.specs.Walk.{walk};
 ghost use Rattle.machine.specs.Stack.{stack_limit, held};
 ghost use Rattle.machine.specs.Machine.{ended, parts, said};
-ghost use Rattle.blocks.specs.Laying.{told, on, lay_all, page_of, blank as blank_page, Held, Still};
-ghost use Rattle.runs.specs.Runs.{rows, run_of, run_words, laid_all};
+ghost use Rattle.blocks.specs.Laying.{told, on, lay_all, blank as blank_page, Ready, Still};
+ghost use Rattle.runs.specs.Runs.{rows, laid_all};
 ghost use Rattle.body.specs.Body.{body};
 
 use crate::group::passed;
-use answers::{Refusal, Why};
-use blocks::{BLOCKS, FROM, Laid, PAGE_WORDS, Page, Room, TEXT};
+use answers::Refusal;
+use blocks::Page;
 use deeds::passing::owed_behind;
-use deeds::stack::Moved;
 use deeds::turn;
 use readings::Reading;
-use runs::{RUN_WORDS, end_run};
+use runs::end_run;
 use settings::rows::STATES;
 use settings::{State, WIDTH};
 use tokens::TOKEN_WORDS;
 use tokens::item::slice_at;
+use units::Run;
 
 // What a run that is under way at the end still owes, and the page.
 fn finish(
     states: &[[u32; WIDTH]; STATES],
     depth: usize,
-    run: &mut [u32; RUN_WORDS],
-    page: &mut [usize; PAGE_WORDS],
+    run: &mut Run,
+    page: &mut Page,
     blocks: &mut [u32],
     text: &mut [u8],
-) -> Laid
-    requires { (depth ≤ stack_limit) × (length states.now ≡ stack_limit) × (length run.old ≡ run_words) × Held page.old (length blocks.old) (length text.old) }
-    ensures laid { told result blocks.new text.new ≡ laid_all (on (page_of page.old) blocks.old text.old) (said rows (held [] states.now depth) (ended (run_of run.old)) parts) }
+) -> Result<Page, Refusal>
+    requires { (depth ≤ stack_limit) × (length states.now ≡ stack_limit) × Ready page.old (length blocks.old) (length text.old) }
+    ensures laid { told result blocks.new text.new ≡ laid_all (on page.old blocks.old text.old) (said rows (held [] states.now depth) (ended run.old) parts) }
     ensures still { Still result (length blocks.old) (length text.old) }
 {
-    let room = end_run(states, depth, run, page, blocks, text);
-    match room {
-        Room::NoBlock => Laid::Full(Refusal::of(Why::BlockRoom)),
-        Room::NoText => Laid::Full(Refusal::of(Why::TextRoom)),
-        Room::Fits => Laid::On(Page {
-            blocks: page[BLOCKS],
-            text: page[TEXT],
-            from: page[FROM],
-        }),
+    match end_run(states, depth, run, page, blocks, text) {
+        Ok(()) => Ok(*page),
+        Err(why) => Err(Refusal::of(why)),
     }
 }
 
@@ -65,7 +59,7 @@ pub fn lay_body(
     count: usize,
     blocks: &mut [u32],
     text: &mut [u8],
-) -> Laid
+) -> Result<Page, Refusal>
     requires { (count * token_words ≤ length tokens.now) × (count ≤ 65536) }
     ensures laid { told result blocks.new text.new ≡ lay_all (on blank_page blocks.old text.old) (body reading (walk (tokens_all source.now count tokens.now))) }
     ensures still { Still result (length blocks.old) (length text.old) }
@@ -73,9 +67,9 @@ pub fn lay_body(
     let mut states = [[0u32; WIDTH]; STATES];
     states[0] = State::fresh().row();
     let mut depth: usize = 1;
-    let mut run = [0u32; RUN_WORDS];
+    let mut run = Run::before();
     let mut owed: usize = 0;
-    let mut page = [0usize; PAGE_WORDS];
+    let mut page = Page::blank();
     let mut t = tokens;
     let mut n = count;
     while 0 < n {
@@ -100,10 +94,10 @@ pub fn lay_body(
         t = &t[at..];
         n -= h + 1;
         match moved {
-            Moved::Refuses(why) => {
-                return Laid::Full(Refusal::at(why, slice_at(here)));
+            Err(why) => {
+                return Err(Refusal::at(why, slice_at(here)));
             }
-            Moved::Holds(d) => {
+            Ok(d) => {
                 depth = d;
             }
         }

@@ -1,3 +1,4 @@
--- Bytes: classes and runs. Texts: a quoted text as bytes.
+-- Bytes: classes and runs. Eights: eight bytes as one number. Texts: a quoted text as bytes.
 pub mod Bytes
+pub mod Eights
 pub mod Texts

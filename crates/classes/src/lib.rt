@@ -4,9 +4,12 @@
 //   lead_of  how many bytes of a class a slice starts with
 //   body_of  a slice's length without the bytes of a class that it ends with
 //   has_high whether a byte is above 127
+//   eights   the first marked byte of eight that are looked at as one number
 //
 // Every function is total. Tests join by `|` and `&`, which ask no proof by cases.
 #![tactic(auto)]
+
+pub mod eights;
 
 ghost use Rattle.std.specs.Prelude.{◌≡◌, ◌≤◌, length};
 ghost use Rattle.classes.specs.Bytes.{is_white, ends_word, is_numeral, is_special, is_letter, is_alpha, is_high, in_class, any, lead, body};
@@ -89,15 +92,7 @@ pub fn lead_of(s: &[u8], class: Class) -> usize
     ensures count { result ≡ lead (in_class class) s.now }
     ensures within { result ≤ length s.now }
 {
-    let mut i = 0;
-    while i < s.len() {
-        let b = s[i];
-        if !is_in(b, class) {
-            return i;
-        }
-        i += 1;
-    }
-    i
+    s.iter().take_while(|b| is_in(**b, class)).count()
 }
 
 // The length of s without the bytes of the class that it ends with.
@@ -105,16 +100,8 @@ pub fn body_of(s: &[u8], class: Class) -> usize
     ensures count { result ≡ body (in_class class) s.now }
     ensures within { result ≤ length s.now }
 {
-    let mut e = s.len();
-    while 0 < e {
-        let last = e - 1;
-        let b = s[last];
-        if !is_in(b, class) {
-            return e;
-        }
-        e = last;
-    }
-    e
+    let trimmed = s.iter().rev().take_while(|b| is_in(**b, class)).count();
+    s.len() - trimmed
 }
 
 // Whether a byte of s is above 127. Every byte is looked at, with no way out before the end: so the compiler takes many
@@ -122,19 +109,5 @@ pub fn body_of(s: &[u8], class: Class) -> usize
 pub fn has_high(s: &[u8]) -> bool
     ensures { result ≡ any is_high s.now }
 {
-    let mut found = false;
-    let mut i = 0;
-    while i < s.len() {
-        let b = s[i];
-        found = found | (127 < b);
-        i += 1;
-    }
-    found
-}
-
-// A byte as a number that an index or a length is.
-pub fn wide(b: u8) -> usize
-    ensures { result ≡ b }
-{
-    b as usize
+    s.iter().fold(false, |found, b| found | (127 < *b))
 }

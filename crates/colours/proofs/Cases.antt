@@ -6,18 +6,18 @@ use Prim.Native.Nat.{ℕ}
 use lib.ListN.{length, replicate}
 use Rattle.answers.specs.declared.Why.TheVariants.{NumberField, ColourRoom}
 use Rattle.answers.specs.Answers.{refusal, refusal_at, Found, found, refused}
-use Rattle.tokens.specs.declared.Property.TheVariants.{None, Value}
 use Rattle.tokens.specs.Tokens.{Shown, Token, token}
 use Rattle.colours.specs.Colours.{colours, colours_from, colour_token, colour_word_of}
+use Rattle.std.specs.Prelude.{Some, None}
 
 red : ℕ → ℕ → Token
-red p v = token p 0 (Shown.word 37 (Value v))
+red p v = token p 0 (Shown.word 37 (Some v))
 
 green : ℕ → ℕ → Token
-green p v = token p 0 (Shown.word 38 (Value v))
+green p v = token p 0 (Shown.word 38 (Some v))
 
 blue : ℕ → ℕ → Token
-blue p v = token p 0 (Shown.word 39 (Value v))
+blue p v = token p 0 (Shown.word 39 (Some v))
 
 bare-word : ℕ → ℕ → Token
 bare-word p w = token p 0 (Shown.word w None)

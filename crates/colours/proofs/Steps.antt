@@ -17,10 +17,8 @@ use lib.Dec.{eqb, ltb}
 use lib.Seq.{length-take-le, take-suc-set, drop-set-lt, drop-drop}
 use Rattle.answers.specs.declared.Why.TheVariants.{NumberField, ColourRoom}
 use Rattle.answers.specs.declared.Refusal.{Refusal}
-use Rattle.answers.specs.declared.Outcome.TheVariants.{Done, Refused}
 use Rattle.answers.specs.Answers.{refusal, refusal_at, Found, found, refused, Fate, becomes, fails, found_at}
 use Rattle.rooms.specs.Rooms.{table_limit}
-use Rattle.tokens.specs.declared.Property.{Property}
 use Rattle.tokens.specs.Tokens.{Token, value_of, token_words}
 use Rattle.tokens.specs.declared.item.Item.{Item}
 use Rattle.tokens.specs.declared.item.Item.TheVariants.{Text, Opening, Closing, LineBreak, Ignorable, Word, Unknown, Symbol}
@@ -33,6 +31,7 @@ use Rattle.colours.specs.Colours.{Colours, black, no_colours, colour_word, kept,
 use Rattle.colours.specs.Colours.{colour_word_of, colour_token, colours_from, table_of, colours, ReadColours}
 use Rattle.colours.specs.Effects.{fitted, word_effect, effect_of, Small}
 use Rattle.colours.proofs.Tables.{colours-refused}
+use Rattle.std.specs.Prelude.{Ok, Err, Option}
 
 pub limit-small : (n : ℕ) → n < 256 → n ≡ table_limit colour_words n
 unfolding table_limit
@@ -79,7 +78,7 @@ either : (limit : ℕ) (cs : List ℕ) (t : Bool) (x y : Fate Colours) (d e : Ef
 either limit cs true x y d e p q = p
 either limit cs false x y d e p q = q
 
-word-token : (limit w : ℕ) (num : Property) (cs : List ℕ) (c : Colour)
+word-token : (limit w : ℕ) (num : Option ℕ) (cs : List ℕ) (c : Colour)
     → colour_word_of limit w num (record { table = cs; colour = c }) ≡ applied limit cs (word_effect w (value_of num) c)
 unfolding colour_word_of word_effect
 word-token limit w num cs c =
@@ -175,13 +174,13 @@ module _ {tokens : List ℕ} {count : ℕ} {room₀ : List ℕ} {limit : ℕ} {r
   ended src x e = rw (← l.limited) (ap table_of e)
 
   stopped : (src : List ℕ) (q : Refusal) (ts : List Token) → colours_from limit (refused q) ts ≡ colours_from limit (found no_colours) (tokens_all src count tokens)
-      → ReadColours (colours (table_limit colour_words (length room₀)) (tokens_all src count tokens)) room₀ (Refused q) room
+      → ReadColours (colours (table_limit colour_words (length room₀)) (tokens_all src count tokens)) room₀ (Err q) room
   stopped src q ts e =
       let z : refused q ≡ colours (table_limit colour_words (length room₀)) (tokens_all src count tokens) = ended src (refused q) (sym (colours-refused limit q ts) ∙ e) in
       rw (← z) refl
 
   -- no token is left
-  pub loop-end : n ≤ 0 → (src : List ℕ) → ReadColours (colours (table_limit colour_words (length room₀)) (tokens_all src count tokens)) room₀ (Done k) room
+  pub loop-end : n ≤ 0 → (src : List ℕ) → ReadColours (colours (table_limit colour_words (length room₀)) (tokens_all src count tokens)) room₀ (Ok k) room
   unfolding colours_from
   loop-end h src =
       let e : state room k c ≡ colours_from limit (found no_colours) (tokens_all src count tokens) = rw (tokens_none src n ws h) at (l.left src) in
@@ -217,7 +216,7 @@ module _ {tokens : List ℕ} {count : ℕ} {room₀ : List ℕ} {limit : ℕ} {r
 
     -- 12, a number that does not fit
     pub loop-unfit : (p : ℕ) → p ≡ slice_at ws → (q : Refusal) → q ≡ refusal_at NumberField p → e ≡ Unfit → (src : List ℕ)
-        → ReadColours (colours (table_limit colour_words (length room₀)) (tokens_all src count tokens)) room₀ (Refused q) room
+        → ReadColours (colours (table_limit colour_words (length room₀)) (tokens_all src count tokens)) room₀ (Err q) room
     loop-unfit p z q y x src = rw (y, z) (stopped src (refusal_at NumberField (slice_at ws)) (tokens_all src (n - 1) (rest ws token_words)) (rw x at (turned src)))
 
     module _ (d : Colour) (x : e ≡ Store d) where
@@ -230,7 +229,7 @@ module _ {tokens : List ℕ} {count : ℕ} {room₀ : List ℕ} {limit : ℕ} {r
 
       -- 18, a colour too many
       pub loop-full : limit ≤ k → (q : Refusal) → q ≡ refusal ColourRoom → (src : List ℕ)
-          → ReadColours (colours (table_limit colour_words (length room₀)) (tokens_all src count tokens)) room₀ (Refused q) room
+          → ReadColours (colours (table_limit colour_words (length room₀)) (tokens_all src count tokens)) room₀ (Err q) room
       loop-full g q y src =
           let t : ltb (length (take k room)) limit ≡ false = le-ltb (length (take k room)) limit (rw filled g) in
           rw y (stopped src (refusal ColourRoom) (tokens_all src (n - 1) (rest ws token_words)) (rw t at (stored-turned src)))

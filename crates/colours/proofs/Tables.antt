@@ -19,12 +19,12 @@ use Rattle.answers.specs.declared.Refusal.{Refusal}
 use Rattle.answers.specs.Answers.{Found, found, refused, Fate, becomes, fails, found_at}
 use Rattle.rooms.specs.Rooms.{table_limit}
 use Rattle.rooms.proofs.Rooms.{limit-256}
-use Rattle.tokens.specs.declared.Property.{Property}
 use Rattle.tokens.specs.Tokens.{Shown, Token, slice_of, shown_in, value_of}
 use Rattle.colours.specs.declared.Colour.{Colour}
 use Rattle.colours.specs.Colours.{Colours, black, no_colours, colour_word, fitting, blued, kept, colour_words}
 use Rattle.colours.specs.Colours.{colour_word_of, colour_token, next_colour, colours_from, table_of, colours}
 use Rattle.colours.specs.Effects.{Small}
+use Rattle.std.specs.Prelude.{Option}
 
 pub colours-refused : (limit : ℕ) (r : Refusal) (ts : List Token) → colours_from limit (refused r) ts ≡ refused r
 unfolding colours_from
@@ -75,7 +75,7 @@ sound-either : (limit : ℕ) (t : Bool) (x y : Fate Colours) → SoundFate limit
 sound-either limit true x y p q = p
 sound-either limit false x y p q = q
 
-sound-fitting : (limit : ℕ) (num : Property) (x : Fate Colours) → (value_of num ≤ 255 → SoundFate limit x) → SoundFate limit (fitting num x)
+sound-fitting : (limit : ℕ) (num : Option ℕ) (x : Fate Colours) → (value_of num ≤ 255 → SoundFate limit x) → SoundFate limit (fitting num x)
 sound-fitting limit num x f = go (ltb (value_of num) 256) refl
   where
     go : (t : Bool) → ltb (value_of num) 256 ≡ t → SoundFate limit (cond t x (fails NumberField))
@@ -96,7 +96,7 @@ sound-kept limit s w m = go (ltb (length s.table) limit) refl
         }
     go false q = tt
 
-sound-word : (limit w : ℕ) (num : Property) (s : Colours) → Sound limit s → SoundFate limit (colour_word_of limit w num s)
+sound-word : (limit w : ℕ) (num : Option ℕ) (s : Colours) → Sound limit s → SoundFate limit (colour_word_of limit w num s)
 unfolding colour_word_of
 sound-word limit w num s h =
     sound-either limit (eqb w 37) _ _

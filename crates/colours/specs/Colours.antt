@@ -1,14 +1,13 @@
 -- 01, Header walk, "Colours", and 02, A4: the colour table that a group's tokens give, or a refusal. Assumes nothing: these are definitions.
 use Rattle.std.specs.Prelude.{ℕ, ◌+◌, ◌*◌, ◌≡◌, List, [], ◌∷◌, ◌++◌, cond, length, eqb, ltb}
 use Rattle.answers.specs.declared.Why.TheVariants.{NumberField, ColourRoom}
-use Rattle.answers.specs.declared.Outcome.{Outcome}
-use Rattle.answers.specs.declared.Outcome.TheVariants.{Done, Refused}
 use Rattle.answers.specs.Answers.{Found, found, refused, Fate, becomes, fails, found_at}
 use Rattle.rooms.specs.Rooms.{overlaid}
-use Rattle.tokens.specs.declared.Property.{Property}
 use Rattle.tokens.specs.Tokens.{Shown, Token, slice_of, shown_in, value_of}
 use Rattle.colours.specs.declared.Colour.{Colour}
 use Rattle.tokens.specs.WordNumbers as words
+use Rattle.std.specs.Prelude.{Result, Ok, Err, Option}
+use Rattle.answers.specs.declared.Refusal.{Refusal}
 
 -- a record is one word
 abbrev pub colour_words : ℕ
@@ -30,7 +29,7 @@ abbrev pub no_colours : Colours
 no_colours = record { table = []; colour = black }
 
 -- "0 to 255, no number means 0"; 12: "a number does not fit its field"
-abbrev pub fitting : Property → Fate Colours → Fate Colours
+abbrev pub fitting : Option ℕ → Fate Colours → Fate Colours
 fitting num c = cond (ltb (value_of num) 256) c (fails NumberField)
 
 abbrev pub reddened : ℕ → Colours → Colours
@@ -50,7 +49,7 @@ kept limit s =
 
 -- a word: `red`, `green` and `blue` are numbers 37 to 39. A blue value that does not fit is refused before the room is asked,
 -- as in the crate
-unfoldable pub colour_word_of : ℕ → ℕ → Property → Colours → Fate Colours
+unfoldable pub colour_word_of : ℕ → ℕ → Option ℕ → Colours → Fate Colours
 colour_word_of limit w num s =
     cond (eqb w words.colour_red) (fitting num (becomes (reddened (value_of num) s)))
     (cond (eqb w words.colour_green) (fitting num (becomes (greened (value_of num) s)))
@@ -88,6 +87,6 @@ colours limit ts = table_of (colours_from limit (found no_colours) ts)
 
 -- what a function that reads a colour table into a room answers, and the room that it leaves: the records, a word each, over what stood
 -- there. After a refusal `reader::read` clears the room
-abbrev pub ReadColours : Found (List ℕ) → List ℕ → Outcome → List ℕ → Type 0
-ReadColours (found cs) room r room' = (r ≡ Done (length cs)) × (room' ≡ overlaid cs room)
-ReadColours (refused q) room r room' = r ≡ Refused q
+abbrev pub ReadColours : Found (List ℕ) → List ℕ → Result ℕ Refusal → List ℕ → Type 0
+ReadColours (found cs) room r room' = (r ≡ Ok (length cs)) × (room' ≡ overlaid cs room)
+ReadColours (refused q) room r room' = r ≡ Err q

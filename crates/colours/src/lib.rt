@@ -15,9 +15,9 @@ ghost use Rattle.colours.specs.Colours.{colours as colours_of, colour_word, Read
 ghost use Rattle.colours.specs.Effects.{fitted as fitted_of, word_effect, effect_of, Small};
 ghost use Rattle.tokens.specs.Tokens.{token_words};
 
-use answers::{Outcome, Refusal, Why};
+use answers::{Refusal, Why};
 use tokens::item::{Item, item_at, slice_at};
-use tokens::{Property, TOKEN_WORDS, words};
+use tokens::{TOKEN_WORDS, words};
 
 // How many words a colour's record has.
 pub const COLOUR_WORDS: usize = 1;
@@ -96,7 +96,7 @@ fn step(i: Item, c: Colour) -> Effect
 {
     match i {
         Item::Word(w, number) => {
-            let v = number.value();
+            let v = number.unwrap_or(0);
             word_effect(w, v, c)
         }
         Item::Text(_, _) => Effect::Set(c),
@@ -119,7 +119,7 @@ fn colour_word(c: Colour) -> u32
 }
 
 // Reads the table of a group's tokens, which starts anew.
-pub fn read_colours(tokens: &[u32], count: usize, room: &mut [u32]) -> Outcome
+pub fn read_colours(tokens: &[u32], count: usize, room: &mut [u32]) -> Result<usize, Refusal>
     requires { (count * token_words ≤ length tokens.now) × (count ≤ 65536) }
     ensures { (src : List ℕ) → ReadColours (colours_of (table_limit colour_words (length room.old)) (tokens_all src count tokens.now)) room.old result room.new }
 {
@@ -144,7 +144,7 @@ pub fn read_colours(tokens: &[u32], count: usize, room: &mut [u32]) -> Outcome
             }
             Effect::Store(next) => {
                 if limit <= stored {
-                    return Outcome::Refused(Refusal::of(Why::ColourRoom));
+                    return Err(Refusal::of(Why::ColourRoom));
                 }
                 let w = colour_word(next);
                 room[stored] = w;
@@ -153,9 +153,9 @@ pub fn read_colours(tokens: &[u32], count: usize, room: &mut [u32]) -> Outcome
             }
             Effect::Unfit => {
                 let place = slice_at(here);
-                return Outcome::Refused(Refusal::at(Why::NumberField, place));
+                return Err(Refusal::at(Why::NumberField, place));
             }
         }
     }
-    Outcome::Done(stored)
+    Ok(stored)
 }

@@ -14,14 +14,11 @@ use borrow.Author.Tests.{ltb-true}
 use lib.ListN.{length, take, drop, length-append, length-drop}
 use lib.Seq.{take-length, take-append_seam, drop-append_seam, take-append-le, drop-append-le, drop-append-add}
 use lib.Dec.{ltb}
-use Rattle.numbers.specs.declared.Number.{Number}
-use Rattle.numbers.specs.declared.Number.TheVariants.{Is, Bad}
 use Rattle.names.specs.Names.{word_number}
 use Rattle.rooms.proofs.Streams.{Each}
-use Rattle.tokens.specs.declared.Property.{Property}
-use Rattle.tokens.specs.declared.Property.TheVariants.{Value}
 use Rattle.tokens.specs.Tokens.{Shown, value_of}
 use Rattle.controls.specs.Controls.{shown_word, numbered}
+use Rattle.std.specs.Prelude.{Option, Some, None}
 
 -- the bytes bs stand at source place q, where s stands at p
 pub record At (s : List ℕ) (p q : ℕ) (bs : List ℕ) : Type 0 where
@@ -55,7 +52,7 @@ pub at_front : (x y : List ℕ) (p : ℕ) → At (x ++ y) p p x
 at_front x y p = record { from = 0; place = omega arith; fits = rw length-append (omega arith); same = take-append_seam x y }
 
 -- "that number modulo 2^32"
-abbrev pub Small : Property → Type 0
+abbrev pub Small : Option ℕ → Type 0
 Small num = value_of num < 4294967296
 
 -- what a token shows stands in s, which stands at p: the bytes of a text, of an unknown word; numbers fit their words, and a symbol's is
@@ -89,7 +86,7 @@ stands-before y s p = stands-moved (λ q bs. at_before y)
 
 module _ (p : ℕ) where
   -- a word's name is the front of what stands behind the backslash
-  pub shown-stands : (x y : List ℕ) (num : Property) → Small num → Stands (92 ∷ (x ++ y)) p (shown_word p x num)
+  pub shown-stands : (x y : List ℕ) (num : Option ℕ) → Small num → Stands (92 ∷ (x ++ y)) p (shown_word p x num)
   unfolding shown_word
   shown-stands x y num h = go (ltb (word_number x) 49) refl
     where
@@ -97,7 +94,7 @@ module _ (p : ℕ) where
       go true e = (ltb-true (word_number x) 49 e, h)
       go false e = (at_front (92 ∷ x) y p, h)
 
-  pub numbered-stands : (x y : List ℕ) (n : Number) → ((v : ℕ) → n ≡ Is v → v < 4294967296) → Each (Stands (92 ∷ (x ++ y)) p) (numbered p x n)
+  pub numbered-stands : (x y : List ℕ) (n : Option ℕ) → ((v : ℕ) → n ≡ Some v → v < 4294967296) → Each (Stands (92 ∷ (x ++ y)) p) (numbered p x n)
   unfolding numbered
-  numbered-stands x y (Is v) h = (shown-stands x y (Value v) (h v refl), tt)
-  numbered-stands x y Bad h = tt
+  numbered-stands x y (Some v) h = (shown-stands x y (Some v) (h v refl), tt)
+  numbered-stands x y None h = tt

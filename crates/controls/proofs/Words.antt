@@ -11,16 +11,13 @@ use borrow.Author.Tests.{lt-ltb, le-ltb}
 use lib.ListN.{length}
 use Rattle.answers.specs.declared.Why.TheVariants.{NumberBad}
 use Rattle.names.specs.Names.{word_number}
-use Rattle.numbers.specs.declared.Number.{Number}
-use Rattle.numbers.specs.declared.Number.TheVariants.{Is, Bad}
 use Rattle.rooms.specs.Streams.{end, stop, ◌▸◌, count}
-use Rattle.tokens.specs.declared.Property.{Property}
-use Rattle.tokens.specs.declared.Property.TheVariants.{Value}
 use Rattle.tokens.specs.declared.Record.{Record}
 use Rattle.tokens.specs.Tokens.{word_record, unknown_record, record_of}
 use Rattle.controls.specs.Controls.{shown_word, numbered}
+use Rattle.std.specs.Prelude.{Option, Some, None}
 
-module _ (p : ℕ) (name : List ℕ) (num : Property) (w : ℕ) (q : w ≡ word_number name) (r : Record) where
+module _ (p : ℕ) (name : List ℕ) (num : Option ℕ) (w : ℕ) (q : w ≡ word_number name) (r : Record) where
   pub record-known : w < 49 → r ≡ word_record w num → r ≡ record_of (shown_word p name num)
   unfolding record_of shown_word
   record-known h e = rw (← q, lt-ltb w 49 h) e
@@ -31,16 +28,16 @@ module _ (p : ℕ) (name : List ℕ) (num : Property) (w : ℕ) (q : w ≡ word_
       let one : 1 + length name ≡ suc (length name) = omega arith in
       rw (← q, le-ltb w 49 h) (rw one at e)
 
-module _ (p : ℕ) (name : List ℕ) (x r : Number) (q : r ≡ x) where
-  pub numbered-bad : r ≡ Bad → numbered p name x ≡ stop NumberBad
+module _ (p : ℕ) (name : List ℕ) (x r : Option ℕ) (q : r ≡ x) where
+  pub numbered-bad : r ≡ None → numbered p name x ≡ stop NumberBad
   unfolding numbered
   numbered-bad b = ap (numbered p name) (sym q ∙ b)
 
-  pub numbered_is : (v : ℕ) → r ≡ Is v → numbered p name x ≡ shown_word p name (Value v) ▸ end
+  pub numbered_is : (v : ℕ) → r ≡ Some v → numbered p name x ≡ shown_word p name (Some v) ▸ end
   unfolding numbered
   numbered_is v b = ap (numbered p name) (sym q ∙ b)
 
-pub count-numbered : (p : ℕ) (name : List ℕ) (x : Number) → count (numbered p name x) ≤ 1
+pub count-numbered : (p : ℕ) (name : List ℕ) (x : Option ℕ) → count (numbered p name x) ≤ 1
 unfolding numbered count
-count-numbered p name (Is v) = omega arith
-count-numbered p name Bad = omega arith
+count-numbered p name (Some v) = omega arith
+count-numbered p name None = omega arith

@@ -3,19 +3,16 @@ use Rattle.std.specs.Prelude.{ℕ, List, ◌∷◌, cond, ltb}
 use Rattle.answers.specs.declared.Why.{Why}
 use Rattle.answers.specs.declared.Why.TheVariants.{NumberBad}
 use Rattle.names.specs.Names.{word_number}
-use Rattle.numbers.specs.declared.Number.{Number}
-use Rattle.numbers.specs.declared.Number.TheVariants.{Is, Bad}
 use Rattle.rooms.specs.Streams.{Stream, end, stop, ◌▸◌}
-use Rattle.tokens.specs.declared.Property.{Property}
-use Rattle.tokens.specs.declared.Property.TheVariants.{Value}
 use Rattle.tokens.specs.Tokens.{Shown}
 use Rattle.tokens.specs.WordNumbers as words
+use Rattle.std.specs.Prelude.{Option, Some, None}
 
 -- a word by its name: "49 is unknown", and shows "its backslash, without its number"
-unfoldable pub shown_word : ℕ → List ℕ → Property → Shown
+unfoldable pub shown_word : ℕ → List ℕ → Option ℕ → Shown
 shown_word p name num = cond (ltb (word_number name) words.unknown) (Shown.word (word_number name) num) (Shown.unknown p (92 ∷ name) num)
 
 -- a word by its name and what its number's bytes say; 5 of the answer numbers
-unfoldable pub numbered : ℕ → List ℕ → Number → Stream Why Shown
-numbered p name (Is v) = shown_word p name (Value v) ▸ end
-numbered p name Bad = stop NumberBad
+unfoldable pub numbered : ℕ → List ℕ → Option ℕ → Stream Why Shown
+numbered p name (Some v) = shown_word p name (Some v) ▸ end
+numbered p name None = stop NumberBad

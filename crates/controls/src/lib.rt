@@ -11,17 +11,16 @@ ghost use Rattle.std.specs.Prelude.{◌≡◌, ◌+◌, ◌≤◌, length};
 ghost use Rattle.names.specs.Names.{rows};
 ghost use Rattle.numbers.specs.Numbers.{decimal};
 ghost use Rattle.rooms.specs.Rooms.{Wrote};
-ghost use Rattle.rooms.specs.Streams.{by_name};
 ghost use Rattle.tokens.specs.Tokens.{shown_layout, record_of};
 ghost use Rattle.controls.specs.Controls.{shown_word, numbered};
 
-use answers::{Why, Written};
+use answers::Why;
 use names::Table;
-use numbers::{Number, decimal_of};
-use tokens::{Property, Record, put, words};
+use numbers::decimal_of;
+use tokens::{Record, put, words};
 
 // The record of a word. One without a number of its own is unknown, and shows where it stands.
-pub fn word_record(name: &[u8], property: Property, place: usize, names: &Table) -> Record
+pub fn word_record(name: &[u8], property: Option<u32>, place: usize, names: &Table) -> Record
     requires { (place + (1 + length name.now) ≤ 65536) × (names.now ≡ rows) }
     ensures { result ≡ record_of (shown_word place name.now property) }
 {
@@ -41,16 +40,11 @@ pub fn numbered_word(
     names: &Table,
     room: &mut [u32],
     n: usize,
-) -> Written
+) -> Result<usize, Why>
     requires { (place + (1 + length name.now) ≤ 65536) × (n ≤ place) × (names.now ≡ rows) }
-    ensures { Wrote shown_layout by_name n room.old (numbered place name.now (decimal digits.now)) result room.new }
+    ensures { Wrote shown_layout n room.old (numbered place name.now (decimal digits.now)) result room.new }
 {
-    let number = decimal_of(digits);
-    match number {
-        Number::Bad => Written::Refused(Why::NumberBad),
-        Number::Is(v) => {
-            put(room, n, word_record(name, Property::Value(v), place, names));
-            Written::Done(n + 1)
-        }
-    }
+    let v = decimal_of(digits).ok_or(Why::NumberBad)?;
+    put(room, n, word_record(name, Some(v), place, names));
+    Ok(n + 1)
 }

@@ -5,7 +5,7 @@ use mathlib.Core.Bool.{Bool, true, false, ◌&&◌}
 use Prim.Native.Nat.{ℕ}
 use Prim.Native.String.{String}
 use lib.Dec.{eqb}
-use Rattle.answers.specs.Answers.{outcome_number, outcome_count, outcome_place}
+use Rattle.answers.specs.Answers.{answer_number, outcome_count, answer_place}
 use Rattle.classes.specs.Bytes.{lead, body, any}
 use Rattle.classes.specs.Texts.{bytes_of}
 use Rattle.names.specs.Names.{same_bytes, place_in, word_number}
@@ -94,7 +94,7 @@ right : Reading → Case → Bool
 right rd c =
     let src = bytes_of c.letter in
     let o = cut_answer rd src c.room in
-    ((eqb (outcome_number o) c.number && eqb (outcome_place o) c.place) && eqb (outcome_count o) c.count) && same_room (cut_room rd src c.room) c.holds
+    ((eqb (answer_number o) c.number && eqb (answer_place o) c.place) && eqb (outcome_count o) c.count) && same_room (cut_room rd src c.room) c.holds
 
 every : Reading → List Case → Bool
 every rd [] = true

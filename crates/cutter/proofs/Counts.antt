@@ -9,8 +9,6 @@ use lib.ListN.{length, length-append, length-take, length-drop}
 use lib.Dec.{ltb, leb, eqb}
 use Rattle.answers.specs.declared.Why.{Why}
 use Rattle.answers.specs.declared.Why.TheVariants.{SourceTooLong, NotAscii, LastSlice, TokenRoom}
-use Rattle.answers.specs.declared.Outcome.{Outcome}
-use Rattle.answers.specs.declared.Outcome.TheVariants.{Done, Refused}
 use Rattle.answers.specs.Answers.{refusal, refusal_at, outcome_count}
 use Rattle.classes.specs.Bytes.{is_high, any}
 use Rattle.readings.specs.declared.Reading.{Reading}
@@ -27,6 +25,7 @@ use Rattle.standard.specs.Closing.{is_bracket}
 use Rattle.cutter.specs.Cutting.{tokens_by, located, last, last_by, all_slices, cut_by, trim_start, trimmed, token_stream, cut_answer}
 use Rattle.cutter.proofs.ByReading.{count_by}
 use Rattle.cutter.proofs.Closing.{cut_all}
+use Rattle.std.specs.Prelude.{Result, Ok, Err}
 
 module _ (rd : Reading) where
   count-located : (p : ℕ) (s : List ℕ) → count (located rd p s) ≤ length s
@@ -82,14 +81,14 @@ module _ (rd : Reading) where
   unfolding cut_answer settled
   count-answer src total = go (answer 0 (token_stream rd src)) refl
     where
-      pick : (n : ℕ) → n ≤ 65536 → (t : Bool) → outcome_count (cond t (Done n) (Refused (refusal TokenRoom))) ≤ 65536
+      pick : (n : ℕ) → n ≤ 65536 → (t : Bool) → outcome_count (cond t (Ok n) (Err (refusal TokenRoom))) ≤ 65536
       pick n h true = h
       pick n h false = omega arith
 
-      go : (o : Outcome) → answer 0 (token_stream rd src) ≡ o → outcome_count (settled token_layout (refusal TokenRoom) total o) ≤ 65536
-      go (Done n) e = pick n (omega (arith, answer-count (token_stream rd src) 0 n e, count-stream src)) (leb n (capacity token_words total))
-      go (Refused r) e = omega arith
+      go : (o : Result ℕ Refusal) → answer 0 (token_stream rd src) ≡ o → outcome_count (settled token_layout (refusal TokenRoom) total o) ≤ 65536
+      go (Ok n) e = pick n (omega (arith, answer-count (token_stream rd src) 0 n e, count-stream src)) (leb n (capacity token_words total))
+      go (Err r) e = omega arith
 
   -- the same, in a caller's terms
-  pub counted : (src : List ℕ) (total : ℕ) {o : Outcome} {k : ℕ} → o ≡ cut_answer rd src total → k ≡ outcome_count o → k ≤ 65536
+  pub counted : (src : List ℕ) (total : ℕ) {o : Result ℕ Refusal} {k : ℕ} → o ≡ cut_answer rd src total → k ≡ outcome_count o → k ≤ 65536
   counted src total e q = rw (q, e) (count-answer src total)

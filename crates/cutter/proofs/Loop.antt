@@ -7,17 +7,13 @@ use native.Mathlib.Omega.{arith}
 use lib.ListN.{length, take, drop, length-take, length-drop}
 use lib.Seq.{take_all, take-length, drop-length}
 use Rattle.answers.specs.declared.Refusal.{Refusal}
-use Rattle.answers.specs.declared.Outcome.{Outcome}
-use Rattle.answers.specs.declared.Outcome.TheVariants.{Done, Refused}
 use Rattle.answers.specs.declared.Why.{Why}
 use Rattle.answers.specs.declared.Why.TheVariants.{LastSlice}
-use Rattle.answers.specs.declared.Written.{Written}
-use Rattle.answers.specs.declared.Written.TheVariants.{Done as Up, Refused as Stopped}
 use Rattle.answers.specs.Answers.{refusal_at}
 use Rattle.readings.specs.declared.Reading.{Reading}
 use Rattle.readings.specs.declared.Reading.TheVariants.{Standard}
-use Rattle.rooms.proofs.Streams.{refusal-apart, name-apart, ended-count, ended-each, ended-then}
-use Rattle.rooms.specs.Streams.{end, stop, and_then, ended, by_refusal, by_name, answer}
+use Rattle.rooms.proofs.Streams.{ended-count, ended-each, ended-then, ok_err}
+use Rattle.rooms.specs.Streams.{end, stop, and_then, ended, answer}
 use Rattle.rooms.specs.Rooms.{Wrote, put_all}
 use Rattle.rooms.proofs.Rooms.{wrote_none, wrote_then, wrote-stops, Left, left-start, left_end, left-stop, left-more, length-put_all}
 use Rattle.slices.specs.Slices.{slices_by, length_by}
@@ -28,38 +24,39 @@ use Rattle.standard.specs.Standard.{tokens as standard_tokens}
 use Rattle.standard.specs.Closing.{is_bracket}
 use Rattle.cutter.specs.Cutting.{tokens_by, located, last_by, all_slices}
 use Rattle.cutter.proofs.ByReading.{next-by, none-by}
+use Rattle.std.specs.Prelude.{Result, Ok, Err}
 
 -- the bytes behind the first slice, as the code has them
 abbrev pub part : List ℕ → ℕ → List ℕ
 part t e = take (length t - e) (drop e t)
 
 -- the answer of a slice at p, as the loop gives it
-abbrev refusing : ℕ → Written → Outcome
-refusing p (Up n) = Done n
-refusing p (Stopped why) = Refused (refusal_at why p)
+abbrev refusing : ℕ → Result ℕ Why → Result ℕ Refusal
+refusing p (Ok n) = Ok n
+refusing p (Err why) = Err (refusal_at why p)
 
 -- a slice that was cut: what it shows was written, or a refusal; and then the slice's place behind each token
-module _ (rd : Reading) (p : ℕ) (s : List ℕ) {n : ℕ} {room room' : List ℕ} {r : Written} (w : Wrote shown_layout by_name n room (tokens_by rd p s) r room') where
+module _ (rd : Reading) (p : ℕ) (s : List ℕ) {n : ℕ} {room room' : List ℕ} {r : Result ℕ Why} (w : Wrote shown_layout n room (tokens_by rd p s) r room') where
   says-slice : refusing p r ≡ answer n (located rd p s)
   unfolding located
   says-slice =
       ap (refusing p) w.says
-      ∙ sym (ended-each (λ (w : Why). refusal_at w p) (token p (length s)) by_name by_refusal (refusing p) (λ n. refl) (λ q. refl) (tokens_by rd p s) n)
+      ∙ sym (ended-each (λ (w : Why). refusal_at w p) (token p (length s)) (refusing p) (λ n. refl) (λ q. refl) (tokens_by rd p s) n)
 
-  slice-stop : {why : Why} {k : Refusal} → r ≡ Stopped why → k ≡ refusal_at why p → Wrote token_layout by_refusal n room (located rd p s) (Refused k) room'
+  slice-stop : {why : Why} {k : Refusal} → r ≡ Err why → k ≡ refusal_at why p → Wrote token_layout n room (located rd p s) (Err k) room'
   slice-stop {why} {k} d j =
-      let m : Refused k ≡ refusing p r = ap Refused j ∙ ap (refusing p) (sym d) in
-      record { says = m ∙ says-slice; holds = λ x y. absurd (refusal-apart.apart (sym y)); long = w.long }
+      let m : Err k ≡ refusing p r = ap Err j ∙ ap (refusing p) (sym d) in
+      record { says = m ∙ says-slice; holds = λ x y. absurd (ok_err (sym y)); long = w.long }
 
-  module _ {m : ℕ} (d : r ≡ Up m) where
+  module _ {m : ℕ} (d : r ≡ Ok m) where
     pub slice-above : n ≤ m
-    slice-above = omega (arith, ended-count name-apart (tokens_by rd p s) n m (sym w.says ∙ d))
+    slice-above = omega (arith, ended-count (tokens_by rd p s) n m (sym w.says ∙ d))
 
     -- behind a slice that is not sealed: enough where the answer is a refusal
-    slice-says : Done m ≡ answer n (located rd p s)
+    slice-says : Ok m ≡ answer n (located rd p s)
     slice-says = ap (refusing p) (sym d) ∙ says-slice
 
-    slice-wrote : {room'' : List ℕ} → room'' ≡ sealed_all p (length s) room' n (m - n) → Wrote token_layout by_refusal n room (located rd p s) (Done m) room''
+    slice-wrote : {room'' : List ℕ} → room'' ≡ sealed_all p (length s) room' n (m - n) → Wrote token_layout n room (located rd p s) (Ok m) room''
     unfolding located
     slice-wrote {room''} z =
         let g : room'' ≡ put_all token_layout room n (located rd p s) = sealed-wrote p (length s) (λ (w : Why). refusal_at w p) w d z in
@@ -97,7 +94,7 @@ module _ (rd : Reading) where
     pub fits : p + length t ≤ 65536
     pub below : n ≤ p
     pub long : length room ≡ length room₀
-    pub left : Left token_layout by_refusal (all_slices rd place (slices_by rd s)) room₀ (all_slices rd p (slices_by rd t)) n room
+    pub left : Left token_layout (all_slices rd place (slices_by rd s)) room₀ (all_slices rd p (slices_by rd t)) n room
 
   -- what `slice_end_by` promises
   abbrev pub First : List ℕ → ℕ → Type 0
@@ -105,22 +102,22 @@ module _ (rd : Reading) where
 
   pub loop-start : (place : ℕ) (s room : List ℕ) → (length s ≡ 0 → ⊥) → place + length s ≤ 65536 → Loop place s room room s place 0
   loop-start place s room h f =
-      record { some = omega arith; fits = f; below = omega arith; long = refl; left = left-start token_layout by_refusal }
+      record { some = omega arith; fits = f; below = omega arith; long = refl; left = left-start token_layout }
 
   module _ {place : ℕ} {s room₀ room t : List ℕ} {p n e : ℕ} (l : Loop place s room₀ room t p n) (f : First t e) where
     pub loop-falls : e < length t → length (part t e) < length t
     loop-falls h = simp (length-take, length-drop) (omega (arith, f.1.1 l.some))
 
-    pub loop-last : length t ≤ e → {r : Outcome} {room' : List ℕ} → Wrote token_layout by_refusal n room (last_by rd p t) r room' → Wrote token_layout by_refusal 0 room₀ (all_slices rd place (slices_by rd s)) r room'
-    loop-last h w = left_end token_layout by_refusal l.left (all-last p e t l.some f.0 (omega (arith, f.1.0))) w
+    pub loop-last : length t ≤ e → {r : Result ℕ Refusal} {room' : List ℕ} → Wrote token_layout n room (last_by rd p t) r room' → Wrote token_layout 0 room₀ (all_slices rd place (slices_by rd s)) r room'
+    loop-last h w = left_end token_layout l.left (all-last p e t l.some f.0 (omega (arith, f.1.0))) w
 
-    module _ (h : e < length t) {r : Written} {room' : List ℕ} (w : Wrote shown_layout by_name n room (tokens_by rd p (take e t)) r room') where
-      pub loop-stop : {why : Why} {q : ℕ} {k : Refusal} → r ≡ Stopped why → q ≡ p → k ≡ refusal_at why q → Wrote token_layout by_refusal 0 room₀ (all_slices rd place (slices_by rd s)) (Refused k) room'
+    module _ (h : e < length t) {r : Result ℕ Why} {room' : List ℕ} (w : Wrote shown_layout n room (tokens_by rd p (take e t)) r room') where
+      pub loop-stop : {why : Why} {q : ℕ} {k : Refusal} → r ≡ Err why → q ≡ p → k ≡ refusal_at why q → Wrote token_layout 0 room₀ (all_slices rd place (slices_by rd s)) (Err k) room'
       loop-stop {why} {q} {k} d i j =
-          left-stop token_layout by_refusal l.left refusal-apart (all_slices rd (p + e) (slices_by rd (part t e))) (all_first p e t l.some f.0 h)
+          left-stop token_layout l.left (all_slices rd (p + e) (slices_by rd (part t e))) (all_first p e t l.some f.0 h)
           (slice-stop rd p (take e t) w d (j ∙ ap (refusal_at why) i)) refl
 
-      module _ {m : ℕ} (d : r ≡ Up m) where
+      module _ {m : ℕ} (d : r ≡ Ok m) where
         pub next-above : n ≤ m
         next-above = slice-above rd p (take e t) w d
 
@@ -139,26 +136,26 @@ module _ (rd : Reading) where
               fits = omega (arith, l.fits);
               below = omega (arith, l.below, next-below);
               long = v.long ∙ l.long;
-              left = left-more token_layout by_refusal l.left refusal-apart (all_slices rd (p + e) (slices_by rd (part t e))) (all_first p e t l.some f.0 h) v refl;
+              left = left-more token_layout l.left (all_slices rd (p + e) (slices_by rd (part t e))) (all_first p e t l.some f.0 h) v refl;
             }
 
 -- ---- the last slice by the specification
 
-module _ (p : ℕ) (s : List ℕ) {n : ℕ} {room room' : List ℕ} {r : Written} (w : Wrote shown_layout by_name n room (standard_tokens p s) r room') where
-  pub last-stop : {why : Why} {k : Refusal} → r ≡ Stopped why → k ≡ refusal_at why p → Wrote token_layout by_refusal n room (last_by Standard p s) (Refused k) room'
-  last-stop d j = wrote-stops token_layout refusal-apart (cond (is_bracket s) end (stop (refusal_at LastSlice p))) refl (slice-stop Standard p s w d j) refl
+module _ (p : ℕ) (s : List ℕ) {n : ℕ} {room room' : List ℕ} {r : Result ℕ Why} (w : Wrote shown_layout n room (standard_tokens p s) r room') where
+  pub last-stop : {why : Why} {k : Refusal} → r ≡ Err why → k ≡ refusal_at why p → Wrote token_layout n room (last_by Standard p s) (Err k) room'
+  last-stop d j = wrote-stops token_layout (cond (is_bracket s) end (stop (refusal_at LastSlice p))) refl (slice-stop Standard p s w d j) refl
 
-  module _ {m : ℕ} (d : r ≡ Up m) {b : Bool} (q : b ≡ is_bracket s) where
-    pub last-open : b ≡ false → {k : Refusal} → k ≡ refusal_at LastSlice p → Wrote token_layout by_refusal n room (last_by Standard p s) (Refused k) room'
+  module _ {m : ℕ} (d : r ≡ Ok m) {b : Bool} (q : b ≡ is_bracket s) where
+    pub last-open : b ≡ false → {k : Refusal} → k ≡ refusal_at LastSlice p → Wrote token_layout n room (last_by Standard p s) (Err k) room'
     unfolding ended
     last-open e {k} j =
         let g : is_bracket s ≡ false = sym q ∙ e in
-        let t : answer n (last_by Standard p s) ≡ Refused k =
-        ended-then refusal-apart (cond (is_bracket s) end (stop (refusal_at LastSlice p))) (located Standard p s) n m (sym (slice-says Standard p s w d)) ∙ rw (g, j) refl in
-        record { says = sym t; holds = λ x y. absurd (refusal-apart.apart (sym y)); long = w.long }
+        let t : answer n (last_by Standard p s) ≡ Err k =
+        ended-then (cond (is_bracket s) end (stop (refusal_at LastSlice p))) (located Standard p s) n m (sym (slice-says Standard p s w d)) ∙ rw (g, j) refl in
+        record { says = sym t; holds = λ x y. absurd (ok_err (sym y)); long = w.long }
 
-    pub last-closed : b ≡ true → {u k : ℕ} {room'' : List ℕ} → u ≡ p → k ≡ length s → room'' ≡ sealed_all u k room' n (m - n) → Wrote token_layout by_refusal n room (last_by Standard p s) (Done m) room''
+    pub last-closed : b ≡ true → {u k : ℕ} {room'' : List ℕ} → u ≡ p → k ≡ length s → room'' ≡ sealed_all u k room' n (m - n) → Wrote token_layout n room (last_by Standard p s) (Ok m) room''
     last-closed e {room'' = room''} x y z =
         let g : is_bracket s ≡ true = sym q ∙ e in
-        wrote_then token_layout refusal-apart (cond (is_bracket s) end (stop (refusal_at LastSlice p))) refl (slice-wrote Standard p s w d (rw (x, y) at z)) refl
+        wrote_then token_layout (cond (is_bracket s) end (stop (refusal_at LastSlice p))) refl (slice-wrote Standard p s w d (rw (x, y) at z)) refl
         (wrote_none token_layout (rw g))

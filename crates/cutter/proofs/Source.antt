@@ -11,14 +11,11 @@ use lib.Dec.{eqb}
 use Rattle.answers.specs.declared.Refusal.{Refusal}
 use Rattle.answers.specs.declared.Why.TheVariants.{SourceTooLong, NotAscii, LastSlice, TokenRoom}
 use Rattle.answers.specs.declared.Why.{Why}
-use Rattle.answers.specs.declared.Written.TheVariants.{Done as Up}
-use Rattle.answers.specs.declared.Outcome.{Outcome}
-use Rattle.answers.specs.declared.Outcome.TheVariants.{Done, Refused}
 use Rattle.answers.specs.Answers.{refusal, refusal_at}
 use Rattle.classes.specs.declared.Class.TheVariants.{White}
 use Rattle.classes.specs.Bytes.{is_high, in_class, lead, body, any}
 use Rattle.readings.specs.declared.Reading.{Reading}
-use Rattle.rooms.specs.Streams.{Stream, end, stop, ◌▸◌, count, each, by_refusal, by_name}
+use Rattle.rooms.specs.Streams.{Stream, end, stop, ◌▸◌, count, each}
 use Rattle.rooms.specs.Rooms.{capacity, put, put_all, Wrote, encode, settled, content}
 use Rattle.rooms.proofs.Streams.{answer-count}
 use Rattle.rooms.proofs.Rooms.{wrote_one, length-encode, put_all-front, settled-fits, settled-over}
@@ -30,6 +27,7 @@ use Rattle.tokens.proofs.Sealing.{sealed-wrote}
 use Rattle.standard.specs.Closing.{is_bracket}
 use Rattle.cutter.proofs.Closing.{cut_all}
 use Rattle.cutter.specs.Cutting.{trim_start, last, all_slices, trimmed, token_stream, cut_answer, cut_room}
+use Rattle.std.specs.Prelude.{Result, Ok, Err}
 
 module _ (p : ℕ) where
   pub last-long : (s : List ℕ) → (length s ≡ 1 → ⊥) → last p s ≡ stop (refusal_at LastSlice p)
@@ -52,10 +50,10 @@ module _ (p : ℕ) where
 
 -- the bracket's record, and then its slice
 pub last-wrote : {x : Stream Refusal Token} {p n : ℕ} {room room' room'' : List ℕ} {r : Record} → x ≡ token p 1 Shown.closing ▸ end → r ≡ bare_record 2
-    → room' ≡ put token_words room n (record_words r) → room'' ≡ sealed_all p 1 room' n (n + 1 - n) → Wrote token_layout by_refusal n room x (Done (n + 1)) room''
+    → room' ≡ put token_words room n (record_words r) → room'' ≡ sealed_all p 1 room' n (n + 1 - n) → Wrote token_layout n room x (Ok (n + 1)) room''
 unfolding each put_all
 last-wrote {p = p} {n = n} {room = room} e q h k =
-    let w : Wrote shown_layout by_name n room (Shown.closing ▸ end) (Up (n + 1)) _ = wrote-token refl (closing-record q) h in
+    let w : Wrote shown_layout n room (Shown.closing ▸ end) (Ok (n + 1)) _ = wrote-token refl (closing-record q) h in
     wrote_one token_layout e (sealed-wrote p 1 (λ (w : Why). refusal_at w p) w refl k)
 
 module _ (rd : Reading) where
@@ -82,34 +80,34 @@ module _ (rd : Reading) where
             trimmed-as t = rw (y, t, ← x) refl
 
   -- what `whole` wrote, settled
-  module _ (src : List ℕ) {room room' : List ℕ} {r : Outcome} (w : Wrote token_layout by_refusal 0 room (token_stream rd src) r room') where
+  module _ (src : List ℕ) {room room' : List ℕ} {r : Result ℕ Refusal} (w : Wrote token_layout 0 room (token_stream rd src) r room') where
     length-wrote : length room' ≡ length room
     length-wrote = w.long
 
-    pub settle-refused : {q : Refusal} → r ≡ Refused q → Refused q ≡ cut_answer rd src (length room)
+    pub settle-refused : {q : Refusal} → r ≡ Err q → Err q ≡ cut_answer rd src (length room)
     unfolding cut_answer settled
     settle-refused e = ap (settled token_layout (refusal TokenRoom) (length room)) (sym e ∙ w.says)
 
-    pub settle-fits : {n : ℕ} → r ≡ Done n → n ≤ capacity token_words (length room') → Done n ≡ cut_answer rd src (length room)
+    pub settle-fits : {n : ℕ} → r ≡ Ok n → n ≤ capacity token_words (length room') → Ok n ≡ cut_answer rd src (length room)
     unfolding cut_answer
     settle-fits {n} e h =
         sym (settled-fits token_layout (refusal TokenRoom) (length room) n (rw length-wrote at h))
         ∙ ap (settled token_layout (refusal TokenRoom) (length room)) (sym e ∙ w.says)
 
-    pub settle-over : {n : ℕ} {q : Refusal} → r ≡ Done n → capacity token_words (length room') < n → q ≡ refusal TokenRoom → Refused q ≡ cut_answer rd src (length room)
+    pub settle-over : {n : ℕ} {q : Refusal} → r ≡ Ok n → capacity token_words (length room') < n → q ≡ refusal TokenRoom → Err q ≡ cut_answer rd src (length room)
     unfolding cut_answer
     settle-over {n} e h f =
-        ap Refused f
+        ap Err f
         ∙ sym (settled-over token_layout (refusal TokenRoom) (length room) n (rw length-wrote at h))
         ∙ ap (settled token_layout (refusal TokenRoom) (length room)) (sym e ∙ w.says)
 
     -- the room after a refusal: zeros
-    pub room-refused : {q : Refusal} → Refused q ≡ cut_answer rd src (length room) → {room'' : List ℕ} → room'' ≡ replicate (length room') 0 → room'' ≡ cut_room rd src (length room)
+    pub room-refused : {q : Refusal} → Err q ≡ cut_answer rd src (length room) → {room'' : List ℕ} → room'' ≡ replicate (length room') 0 → room'' ≡ cut_room rd src (length room)
     unfolding cut_room content
     room-refused e z = z ∙ rw (← e, length-wrote)
 
     -- the room after success: the records, and zeros behind them
-    pub room_fits : {n : ℕ} → r ≡ Done n → n ≤ capacity token_words (length room') → {room'' : List ℕ} → room'' ≡ take (n * token_words) room' ++ replicate (length room' - n * token_words) 0 → room'' ≡ cut_room rd src (length room)
+    pub room_fits : {n : ℕ} → r ≡ Ok n → n ≤ capacity token_words (length room') → {room'' : List ℕ} → room'' ≡ take (n * token_words) room' ++ replicate (length room' - n * token_words) 0 → room'' ≡ cut_room rd src (length room)
     unfolding cut_room content
     room_fits {n} e h z =
         let c : n ≡ count (token_stream rd src) = answer-count (token_stream rd src) 0 n (sym w.says ∙ e) ∙ omega arith in

@@ -16,12 +16,11 @@ use Rattle.answers.specs.declared.Refusal.{Refusal}
 use Rattle.answers.specs.Answers.{refusal, refusal_at, Told}
 use Rattle.answers.proofs.Refusals.{told_at, told_none, told-weaken}
 use Rattle.classes.specs.declared.Class.TheVariants.{White}
-use Rattle.answers.specs.declared.Outcome.TheVariants.{Refused}
 use Rattle.classes.specs.Bytes.{in_class, is_high, any}
 use Rattle.classes.proofs.Runs.{lead-length}
 use Rattle.readings.specs.declared.Reading.{Reading}
 use Rattle.rooms.specs.Streams.{Stream, end, stop, ◌▸◌, and_then, each, items, answer, ended}
-use Rattle.rooms.proofs.Streams.{Each, done_refused}
+use Rattle.rooms.proofs.Streams.{Each, ok_err}
 use Rattle.readings.specs.declared.Reading.TheVariants.{Plain, Paragraphs, Standard}
 use Rattle.slices.specs.Slices.{starts_slice, onto, split, slices, slices_by, is_return, starts_with_feed, take_feed, with_feeds}
 use Rattle.slices.specs.Slices.{Behind, anything, starts_standard, behind, split_standard, standard_slices}
@@ -32,6 +31,7 @@ use Rattle.standard.specs.Closing.{is_bracket}
 use Rattle.cutter.specs.Cutting.{tokens_by, located, last, last_by, all_slices, cut_by, trim_start, trimmed, token_stream, starts_from, SliceAt, SlicesIn}
 use Rattle.cutter.proofs.Closing.{cut_all}
 use Rattle.cutter.proofs.Places.{Placed, stream-places}
+use Rattle.std.specs.Prelude.{Err}
 
 -- ---- no slice is empty
 
@@ -211,12 +211,12 @@ module _ (rd : Reading) where
   pub stream-slices : (src : List ℕ) → SlicesIn rd src (items (token_stream rd src))
   stream-slices src = slices-in src (token_stream rd src) (all-stream src) (stream-places rd src)
 
-  stops_at : (P : ℕ → Type 0) (s : Stream Refusal Token) (n : ℕ) {q : Refusal} → All P s → answer n s ≡ Refused q → Told P q
+  stops_at : (P : ℕ → Type 0) (s : Stream Refusal Token) (n : ℕ) {q : Refusal} → All P s → answer n s ≡ Err q → Told P q
   unfolding ended
-  stops_at P end n {q} h e = absurd (done_refused e)
+  stops_at P end n {q} h e = absurd (ok_err e)
   stops_at P (stop r) n {q} h e = let d : r ≡ q = cc in rw d at h
   stops_at P (t ▸ s) n {q} h e = stops_at P s (n + 1) h.1 e
 
   -- a slice starts at the place that a refusal of cutting carries
-  pub stream-stops : (src : List ℕ) {q : Refusal} → answer 0 (token_stream rd src) ≡ Refused q → Told (SliceAt rd src) q
+  pub stream-stops : (src : List ℕ) {q : Refusal} → answer 0 (token_stream rd src) ≡ Err q → Told (SliceAt rd src) q
   stream-stops src e = stops_at (SliceAt rd src) (token_stream rd src) 0 (all-stream src) e

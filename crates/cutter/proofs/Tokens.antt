@@ -15,15 +15,11 @@ use borrow.Author.Tests.{ne_eqb, leb-true}
 use lib.ListN.{length, replicate}
 use lib.Dec.{leb, eqb}
 use Rattle.answers.specs.declared.Why.TheVariants.{TokenRoom}
-use Rattle.answers.specs.declared.Outcome.{Outcome}
-use Rattle.answers.specs.declared.Outcome.TheVariants.{Done, Refused}
 use Rattle.answers.specs.Answers.{refusal, outcome_count}
 use Rattle.readings.specs.declared.Reading.{Reading}
 use Rattle.rooms.specs.Streams.{Stream, end, stop, ◌▸◌, count, items, answer}
 use Rattle.rooms.specs.Rooms.{encode, capacity, filled, settled, content}
-use Rattle.rooms.proofs.Streams.{Each, answer-count, done_refused}
-use Rattle.tokens.specs.declared.Property.{Property}
-use Rattle.tokens.specs.declared.Property.TheVariants.{None, Value}
+use Rattle.rooms.proofs.Streams.{Each, answer-count, ok_err}
 use Rattle.tokens.specs.Tokens.{Shown, Token, token, has_of, value_of, record_of, record_words, slice_words, token_layout, token_words}
 use Rattle.tokenize.proofs.Places.{At, Stands}
 use Rattle.cutter.specs.Cutting.{token_stream, cut_answer, cut_room, Cuts}
@@ -33,10 +29,11 @@ use Rattle.cutter.proofs.Counts.{count-stream}
 use Rattle.tokens.specs.declared.item.Item.TheVariants.{Unknown, Word}
 use Rattle.tokens.specs.Items.{property_of, item_of, item_at, part, shown_of, token_at, tokens_all}
 use Rattle.answers.specs.declared.Refusal.{Refusal}
+use Rattle.std.specs.Prelude.{Result, Ok, Err, Option, Some, None}
 
-number-back : (num : Property) → property_of (has_of num) (value_of num) ≡ num
+number-back : (num : Option ℕ) → property_of (has_of num) (value_of num) ≡ num
 number-back None = refl
-number-back (Value v) = refl
+number-back (Some v) = refl
 
 bytes_back : (src : List ℕ) (p : ℕ) (bs : List ℕ) → At src 0 p bs → part src p (length bs) ≡ bs
 unfolding part
@@ -76,23 +73,23 @@ length-items (stop r) = refl
 length-items (x ▸ s) = ap suc (length-items s)
 
 module _ (rd : Reading) where
-  module _ (src : List ℕ) (total : ℕ) {o : Outcome} {n : ℕ} (e : o ≡ cut_answer rd src total) (d : o ≡ Done n) where
+  module _ (src : List ℕ) (total : ℕ) {o : Result ℕ Refusal} {n : ℕ} (e : o ≡ cut_answer rd src total) (d : o ≡ Ok n) where
     cut-counts : (n ≡ count (token_stream rd src)) × (n * token_words ≤ total)
     unfolding cut_answer settled
     cut-counts = go (answer 0 (token_stream rd src)) refl (sym d ∙ e)
       where
-        pick : (m : ℕ) → answer 0 (token_stream rd src) ≡ Done m → (u : Bool) → leb m (capacity token_words total) ≡ u → Done n ≡ cond u (Done m) (Refused (refusal TokenRoom))
+        pick : (m : ℕ) → answer 0 (token_stream rd src) ≡ Ok m → (u : Bool) → leb m (capacity token_words total) ≡ u → Ok n ≡ cond u (Ok m) (Err (refusal TokenRoom))
             → (n ≡ count (token_stream rd src)) × (n * token_words ≤ total)
         pick m a true b q =
             let x : n ≡ m = cc in
             let y : m ≡ 0 + count (token_stream rd src) = answer-count (token_stream rd src) 0 m a in
             let k : m ≤ capacity token_words total = leb-true m (capacity token_words total) b in
             (omega arith, rw x (le_trans (mul-le-mul_right token_words k) (div-mul-le_self total token_words)))
-        pick m a false b q = absurd (done_refused q)
+        pick m a false b q = absurd (ok_err q)
 
-        go : (a : Outcome) → answer 0 (token_stream rd src) ≡ a → Done n ≡ settled token_layout (refusal TokenRoom) total a → (n ≡ count (token_stream rd src)) × (n * token_words ≤ total)
-        go (Done m) a q = pick m a (leb m (capacity token_words total)) refl q
-        go (Refused r) a q = absurd (done_refused q)
+        go : (a : Result ℕ Refusal) → answer 0 (token_stream rd src) ≡ a → Ok n ≡ settled token_layout (refusal TokenRoom) total a → (n ≡ count (token_stream rd src)) × (n * token_words ≤ total)
+        go (Ok m) a q = pick m a (leb m (capacity token_words total)) refl q
+        go (Err r) a q = absurd (ok_err q)
 
     cut-few : n ≤ 65536
     cut-few = let h = cut-counts.0 in let k = count-stream rd src in omega arith
@@ -100,7 +97,7 @@ module _ (rd : Reading) where
     -- the room's content is the records and zeros
     cut-room : cut_room rd src total ≡ filled total (encode token_layout (token_stream rd src))
     unfolding cut_room content
-    cut-room = ap (λ (a : Outcome). content token_layout total a (token_stream rd src)) (sym e ∙ d)
+    cut-room = ap (λ (a : Result ℕ Refusal). content token_layout total a (token_stream rd src)) (sym e ∙ d)
 
     cut-tokens : {room : List ℕ} → room ≡ cut_room rd src total → tokens_all src n room ≡ items (token_stream rd src)
     cut-tokens {room} q =
@@ -109,11 +106,11 @@ module _ (rd : Reading) where
         ∙ tokens-stream src (token_stream rd src) (replicate (total - length (encode token_layout (token_stream rd src))) 0) (stream-places rd src)
 
   -- an answer that is no count counts nothing
-  few-counted : (src : List ℕ) (total : ℕ) (o : Outcome) → o ≡ cut_answer rd src total → (outcome_count o ≤ 65536) × (outcome_count o * token_words ≤ total)
-  few-counted src total (Done n) e = (cut-few src total e refl, (cut-counts src total e refl).1)
-  few-counted src total (Refused r) e = (omega arith, omega arith)
+  few-counted : (src : List ℕ) (total : ℕ) (o : Result ℕ Refusal) → o ≡ cut_answer rd src total → (outcome_count o ≤ 65536) × (outcome_count o * token_words ≤ total)
+  few-counted src total (Ok n) e = (cut-few src total e refl, (cut-counts src total e refl).1)
+  few-counted src total (Err r) e = (omega arith, omega arith)
 
-  pub cuts : (src room : List ℕ) {r : Outcome} {room' : List ℕ} → r ≡ cut_answer rd src (length room) → room' ≡ cut_room rd src (length room) → Cuts rd src room r room'
+  pub cuts : (src room : List ℕ) {r : Result ℕ Refusal} {room' : List ℕ} → r ≡ cut_answer rd src (length room) → room' ≡ cut_room rd src (length room) → Cuts rd src room r room'
   cuts src room {r} {room'} e q =
       let f = few-counted src (length room) r e in
       record {

@@ -3,8 +3,6 @@
 use Rattle.std.specs.Prelude.{ℕ, ◌+◌, ◌*◌, ◌≤◌, ◌<◌, ◌≡◌, List, [], ◌∷◌, Bool, true, false, cond, ◌||◌, length, take, drop, ltb, eqb}
 use Rattle.answers.specs.declared.Why.{Why}
 use Rattle.answers.specs.declared.Why.TheVariants.{SourceTooLong, NotAscii, LastSlice, TokenRoom}
-use Rattle.answers.specs.declared.Outcome.{Outcome}
-use Rattle.answers.specs.declared.Outcome.TheVariants.{Done}
 use Rattle.answers.specs.Answers.{refusal, refusal_at, outcome_count}
 use Rattle.classes.specs.declared.Class.TheVariants.{White}
 use Rattle.classes.specs.Bytes.{is_high, in_class, lead, body, any}
@@ -19,6 +17,7 @@ use Rattle.tokenize.specs.Tokenize.{tokens}
 use Rattle.standard.specs.Standard.{tokens as standard_tokens}
 use Rattle.standard.specs.Closing.{is_closing, is_bracket}
 use Rattle.answers.specs.declared.Refusal.{Refusal}
+use Rattle.std.specs.Prelude.{Result, Ok}
 
 -- the tokens of a slice at place p by the reading; 02, A1: "Cutting, by rules of its own"
 abbrev pub tokens_by : Reading → ℕ → List ℕ → Stream Why Shown
@@ -88,7 +87,7 @@ token_stream rd src =
     (cut_by rd (trim_start src) (slices_by rd (trimmed src))))
 
 -- the one answer for a source and a room of so many words: "more tokens than the token room holds" is 7
-unfoldable pub cut_answer : Reading → List ℕ → ℕ → Outcome
+unfoldable pub cut_answer : Reading → List ℕ → ℕ → Result ℕ Refusal
 cut_answer rd src total = settled token_layout (refusal TokenRoom) total (answer 0 (token_stream rd src))
 
 -- the one content of that room
@@ -119,11 +118,11 @@ SlicesIn rd src (t ∷ ts) = SliceIn rd src t × SlicesIn rd src ts
 -- What `cut` promises: the one answer, and the one content of the room. What who reads the tokens needs follows from these two, and
 -- is said with them: there are at most 65,536 tokens, their records are in the room, there is one for each token, read back they are
 -- the source's tokens, and the slice of each stands in the source.
-pub record Cuts (rd : Reading) (src room : List ℕ) (r : Outcome) (room' : List ℕ) : Type 0 where
+pub record Cuts (rd : Reading) (src room : List ℕ) (r : Result ℕ Refusal) (room' : List ℕ) : Type 0 where
   pub answer : r ≡ cut_answer rd src (length room)
   pub content : room' ≡ cut_room rd src (length room)
   pub few : outcome_count r ≤ 65536
   pub fits : outcome_count r * token_words ≤ length room
-  pub counts : (n : ℕ) → r ≡ Done n → n ≡ length (items (token_stream rd src))
-  pub reads : (n : ℕ) → r ≡ Done n → tokens_all src n room' ≡ items (token_stream rd src)
+  pub counts : (n : ℕ) → r ≡ Ok n → n ≡ length (items (token_stream rd src))
+  pub reads : (n : ℕ) → r ≡ Ok n → tokens_all src n room' ≡ items (token_stream rd src)
   pub slices : SlicesIn rd src (items (token_stream rd src))

@@ -17,9 +17,8 @@ ghost use Rattle.slices.specs.Slices.{slices_by};
 ghost use Rattle.standard.specs.Closing.{is_bracket};
 ghost use Rattle.tokens.specs.Tokens.{shown_layout, token_layout};
 ghost use Rattle.cutter.specs.Cutting.{tokens_by, last as last_of, last_by, all_slices, token_stream, Cuts};
-ghost use Rattle.rooms.specs.Streams.{by_name, by_refusal};
 
-use answers::{Outcome, Refusal, Why, Written};
+use answers::{Refusal, Why};
 use classes::{Class, body_of, has_high, lead_of};
 use names::Table;
 use readings::Reading;
@@ -29,20 +28,20 @@ use tokenize::quick::slice_tokens;
 use tokens::{Record, TOKEN_WORDS, put, seal};
 
 // The last slice: a closing bracket alone.
-fn last(s: &[u8], place: usize, room: &mut [u32], n: usize) -> Outcome
+fn last(s: &[u8], place: usize, room: &mut [u32], n: usize) -> Result<usize, Refusal>
     requires { (n < 65536) × (place ≤ 65536) }
-    ensures { Wrote token_layout by_refusal n room.old (last_of place s.now) result room.new }
+    ensures { Wrote token_layout n room.old (last_of place s.now) result room.new }
 {
     let p = place as u32;
     if s.len() != 1 {
-        return Outcome::Refused(Refusal::at(Why::LastSlice, p));
+        return Err(Refusal::at(Why::LastSlice, p));
     }
     if s[0] != b'}' {
-        return Outcome::Refused(Refusal::at(Why::LastSlice, p));
+        return Err(Refusal::at(Why::LastSlice, p));
     }
     put(room, n, Record::bare(2));
     seal(room, n, n + 1, p, 1);
-    Outcome::Done(n + 1)
+    Ok(n + 1)
 }
 
 // The tokens of a slice, by the reading's rules.
@@ -53,9 +52,9 @@ fn cut_slice(
     names: &Table,
     room: &mut [u32],
     n: usize,
-) -> Written
+) -> Result<usize, Why>
     requires { (place + length s.now ≤ 65536) × (n ≤ place) × (names.now ≡ rows) }
-    ensures { Wrote shown_layout by_name n room.old (tokens_by reading place s.now) result room.new }
+    ensures { Wrote shown_layout n room.old (tokens_by reading place s.now) result room.new }
 {
     if reading.is_standard() {
         return standard::slice_tokens(s, place, names, room, n);
@@ -73,22 +72,23 @@ fn is_bracket(s: &[u8]) -> bool
 }
 
 // The last slice by the specification: it is cut as the others first.
-fn standard_last(s: &[u8], place: usize, names: &Table, room: &mut [u32], n: usize) -> Outcome
+fn standard_last(
+    s: &[u8],
+    place: usize,
+    names: &Table,
+    room: &mut [u32],
+    n: usize,
+) -> Result<usize, Refusal>
     requires { (place + length s.now ≤ 65536) × (n ≤ place) × (names.now ≡ rows) }
-    ensures { Wrote token_layout by_refusal n room.old (last_by Reading.Standard place s.now) result room.new }
+    ensures { Wrote token_layout n room.old (last_by Reading.Standard place s.now) result room.new }
 {
     let p = place as u32;
-    let one = standard::slice_tokens(s, place, names, room, n);
-    match one {
-        Written::Refused(why) => Outcome::Refused(Refusal::at(why, p)),
-        Written::Done(m) => {
-            if is_bracket(s) {
-                seal(room, n, m, p, s.len() as u32);
-                return Outcome::Done(m);
-            }
-            Outcome::Refused(Refusal::at(Why::LastSlice, p))
-        }
+    let m = standard::slice_tokens(s, place, names, room, n).map_err(|why| Refusal::at(why, p))?;
+    if !is_bracket(s) {
+        return Err(Refusal::at(Why::LastSlice, p));
     }
+    seal(room, n, m, p, s.len() as u32);
+    Ok(m)
 }
 
 // The last slice by the reading.
@@ -99,9 +99,9 @@ fn last_by(
     names: &Table,
     room: &mut [u32],
     n: usize,
-) -> Outcome
+) -> Result<usize, Refusal>
     requires { (place + length s.now ≤ 65536) × (n < 65536) × (n ≤ place) × (names.now ≡ rows) }
-    ensures { Wrote token_layout by_refusal n room.old (last_by reading place s.now) result room.new }
+    ensures { Wrote token_layout n room.old (last_by reading place s.now) result room.new }
 {
     if reading.is_standard() {
         return standard_last(s, place, names, room, n);
@@ -110,12 +110,18 @@ fn last_by(
 }
 
 // All slices of a trimmed source that stands at `place`.
-fn all_slices(reading: Reading, s: &[u8], place: usize, names: &Table, room: &mut [u32]) -> Outcome
+fn all_slices(
+    reading: Reading,
+    s: &[u8],
+    place: usize,
+    names: &Table,
+    room: &mut [u32],
+) -> Result<usize, Refusal>
     requires { (place + length s.now ≤ 65536) × (names.now ≡ rows) }
-    ensures { Wrote token_layout by_refusal 0 room.old (all_slices reading place (slices_by reading s.now)) result room.new }
+    ensures { Wrote token_layout 0 room.old (all_slices reading place (slices_by reading s.now)) result room.new }
 {
     if s.len() == 0 {
-        return Outcome::Done(0);
+        return Ok(0);
     }
     let mut t = s;
     let mut p = place;
@@ -125,32 +131,26 @@ fn all_slices(reading: Reading, s: &[u8], place: usize, names: &Table, room: &mu
         if t.len() <= e {
             break;
         }
-        let one = cut_slice(reading, &t[..e], p, names, room, n);
-        match one {
-            Written::Refused(why) => {
-                return Outcome::Refused(Refusal::at(why, p as u32));
-            }
-            Written::Done(m) => {
-                seal(room, n, m, p as u32, e as u32);
-                n = m;
-            }
-        }
+        let at = p as u32;
+        let m = cut_slice(reading, &t[..e], p, names, room, n).map_err(|why| Refusal::at(why, at))?;
+        seal(room, n, m, at, e as u32);
+        n = m;
         t = &t[e..];
-        p = p + e;
+        p += e;
     }
     last_by(reading, t, p, names, room, n)
 }
 
 // The source, if it is short enough and of bytes below 128, trimmed and cut.
-fn whole(reading: Reading, source: &[u8], names: &Table, room: &mut [u32]) -> Outcome
+fn whole(reading: Reading, source: &[u8], names: &Table, room: &mut [u32]) -> Result<usize, Refusal>
     requires { names.now ≡ rows }
-    ensures { Wrote token_layout by_refusal 0 room.old (token_stream reading source.now) result room.new }
+    ensures { Wrote token_layout 0 room.old (token_stream reading source.now) result room.new }
 {
     if 65536 < source.len() {
-        return Outcome::Refused(Refusal::of(Why::SourceTooLong));
+        return Err(Refusal::of(Why::SourceTooLong));
     }
     if has_high(source) {
-        return Outcome::Refused(Refusal::of(Why::NotAscii));
+        return Err(Refusal::of(Why::NotAscii));
     }
     let start = lead_of(source, Class::White);
     let t = &source[start..];
@@ -159,26 +159,25 @@ fn whole(reading: Reading, source: &[u8], names: &Table, room: &mut [u32]) -> Ou
 }
 
 // A refusal, and the whole room zero.
-fn refuse(refusal: Refusal, room: &mut [u32]) -> Outcome
-    ensures answer { result ≡ Outcome.Refused refusal }
+fn refuse(refusal: Refusal, room: &mut [u32]) -> Result<usize, Refusal>
+    ensures answer { result ≡ Err refusal }
     ensures content { room.new ≡ replicate (length room.old) 0 }
 {
-    clear_from(room, 0);
-    Outcome::Refused(refusal)
+    clear_from(room, 0, 0);
+    Err(refusal)
 }
 
 // Cuts a source into tokens by the reading. Every word of the room is written once or set to zero once.
-pub fn cut(source: &[u8], reading: Reading, room: &mut [u32]) -> Outcome
+pub fn cut(source: &[u8], reading: Reading, room: &mut [u32]) -> Result<usize, Refusal>
     ensures { Cuts reading source.now room.old result room.new }
 {
     let names = names::table();
-    let outcome = whole(reading, source, &names, room);
-    match outcome {
-        Outcome::Refused(refusal) => refuse(refusal, room),
-        Outcome::Done(n) => {
+    match whole(reading, source, &names, room) {
+        Err(refusal) => refuse(refusal, room),
+        Ok(n) => {
             if n <= room.len() / TOKEN_WORDS {
-                clear_from(room, n * TOKEN_WORDS);
-                return Outcome::Done(n);
+                clear_from(room, n * TOKEN_WORDS, 0);
+                return Ok(n);
             }
             refuse(Refusal::of(Why::TokenRoom), room)
         }

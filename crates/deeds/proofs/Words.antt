@@ -14,7 +14,6 @@ use lib.ListN.{length, get_or, drop}
 use lib.Dec.{eqb, ltb, leb}
 use Rattle.answers.specs.declared.Why.TheVariants.{IgnorableInBody}
 use Rattle.readings.specs.declared.Reading.{Reading}
-use Rattle.tokens.specs.declared.Property.{Property}
 use Rattle.tokens.specs.declared.item.Item.TheVariants.{Text, Opening, Closing, LineBreak, Ignorable, Word, Unknown, Symbol}
 use Rattle.tokens.specs.Tokens.{Shown}
 use Rattle.tokens.specs.Items.{item_at, item_of, word_item, number_at, shown_of, part}
@@ -28,6 +27,7 @@ use Rattle.machine.proofs.Left.{is_telling, left-told}
 use Rattle.classes.proofs.Runs.{and_left, and_right, or_left, or_right}
 use Rattle.deeds.specs.Deeds.{doing, symbol_effect, token_deed}
 use Rattle.deeds.specs.Turns.{deed_at}
+use Rattle.std.specs.Prelude.{Option}
 
 -- ---- the token that words start with
 
@@ -69,7 +69,7 @@ module _ (rd : Reading) (src ws : List ℕ) where
   kind-symbol e = rw e
 
   -- a word's item: an unknown one does nothing, as words that are none of 01's effects
-  word-item : (w p n : ℕ) (num : Property) → (b : Bool) → eqb w 49 ≡ b → cond (eqb w 2) (Deed.unit num) (doing (effect rd w num)) ≡ token_deed rd (shown_of src (cond b (Unknown p n num) (Word w num)))
+  word-item : (w p n : ℕ) (num : Option ℕ) → (b : Bool) → eqb w 49 ≡ b → cond (eqb w 2) (Deed.unit num) (doing (effect rd w num)) ≡ token_deed rd (shown_of src (cond b (Unknown p n num) (Word w num)))
   unfolding effect painter_word paragraph_word character_word ending_word indent_word
   word-item w p n num true q = rw (eqb-true w 49 q)
   word-item w p n num false q = refl
@@ -106,7 +106,7 @@ is_unit Deed.parts = false
 is_unit (Deed.stops why) = false
 is_unit Deed.passes = false
 
-module _ (step : Run → Property → Gave) (run : Run) where
+module _ (step : Run → Option ℕ → Gave) (run : Run) where
   gave-other : (d : Deed Setting) → is_unit d ≡ false → is_passed d ≡ false → ended run ≡ gave step run d
   unfolding gave is_unit
   gave-other (Deed.unit num) e p = absurd (true≢false e)
@@ -159,7 +159,7 @@ doing-other (does.sets ss) = refl
 doing-other (does.says c) = refl
 doing-other (does.refuses why) = refl
 
-module _ (rd : Reading) (src : List ℕ) (w p n : ℕ) (num : Property) where
+module _ (rd : Reading) (src : List ℕ) (w p n : ℕ) (num : Option ℕ) where
   word-other : (u : Bool) → eqb w 2 ≡ u → u ≡ false → (x : Bool) → is_unit (token_deed rd (shown_of src (cond x (Unknown p n num) (Word w num)))) ≡ false
   unfolding is_unit
   word-other u q f true = refl
@@ -190,7 +190,7 @@ module _ (rd : Reading) (src ws : List ℕ) (h : ℕ) where
   pub owes-other : (owes : ℕ) → (eqb (get_or ws 0 0) 5 && eqb (get_or ws 1 0) 2) ≡ false → owing owes (deed_at rd src ws h) ≡ 0
   owes-other owes q = owing-other owes (deed_at rd src ws h) (deed-other q)
 
-  pub gave-ended : (n : ℕ) (step : Run → Property → Gave) (run : Run) → (eqb (get_or ws 0 0) 5 && eqb (get_or ws 1 0) 2) ≡ false → is_passed (left n (deed_at rd src ws h)) ≡ false
+  pub gave-ended : (n : ℕ) (step : Run → Option ℕ → Gave) (run : Run) → (eqb (get_or ws 0 0) 5 && eqb (get_or ws 1 0) 2) ≡ false → is_passed (left n (deed_at rd src ws h)) ≡ false
       → ended run ≡ gave step run (left n (deed_at rd src ws h))
   gave-ended n step run q p = gave-other step run (left n (deed_at rd src ws h)) (left_other n (deed_at rd src ws h) (deed-other q)) p
 
@@ -202,7 +202,7 @@ doing-flat (does.sets ss) = (refl, refl)
 doing-flat (does.says c) = (refl, refl)
 doing-flat (does.refuses why) = (refl, refl)
 
-word_flat : (rd : Reading) (w : ℕ) (num : Property) (u : Bool) → (is_brace (cond u (Deed.unit num) (doing (effect rd w num))) ≡ false) × (counts (cond u (Deed.unit num) (doing (effect rd w num))) ≡ 1)
+word_flat : (rd : Reading) (w : ℕ) (num : Option ℕ) (u : Bool) → (is_brace (cond u (Deed.unit num) (doing (effect rd w num))) ≡ false) × (counts (cond u (Deed.unit num) (doing (effect rd w num))) ≡ 1)
 word_flat rd w num true = (refl, refl)
 word_flat rd w num false = doing-flat (effect rd w num)
 
@@ -294,7 +294,7 @@ doing-telling (does.sets ss) = refl
 doing-telling (does.says c) = refl
 doing-telling (does.refuses why) = refl
 
-word-telling : (rd : Reading) (w : ℕ) (num : Property) (u : Bool) → is_telling (cond u (Deed.unit num) (doing (effect rd w num))) ≡ false
+word-telling : (rd : Reading) (w : ℕ) (num : Option ℕ) (u : Bool) → is_telling (cond u (Deed.unit num) (doing (effect rd w num))) ≡ false
 word-telling rd w num true = refl
 word-telling rd w num false = doing-telling (effect rd w num)
 

@@ -2,7 +2,6 @@
 use Rattle.std.specs.Prelude.{ℕ, [], ◌∷◌, cond, eqb}
 use Rattle.answers.specs.declared.Why.TheVariants.{IgnorableInBody}
 use Rattle.readings.specs.declared.Reading.{Reading}
-use Rattle.tokens.specs.declared.Property.{Property}
 use Rattle.tokens.specs.Tokens.{Shown, value_of}
 use Rattle.tokens.specs.WordNumbers as words
 use Rattle.utf8.specs.Utf8.{written}
@@ -11,6 +10,7 @@ use Rattle.settings.specs.Fields.{Setting}
 use Rattle.settings.specs.Effects.{Effect, effect}
 use Rattle.settings.specs.Effects as does
 use Rattle.machine.specs.Machine.{Deed, opens, closes, sets, says, tells, unit, refuses, stops}
+use Rattle.std.specs.Prelude.{Option}
 
 -- a word's effect
 abbrev pub doing : Effect → Deed Setting
@@ -19,7 +19,7 @@ doing (does.says c) = says (written c)
 doing (does.refuses why) = refuses why
 
 -- 02, A1: "`\~ \_ \-`: U+00A0, U+2011, U+00AD."; "Hex escapes go through the published Windows-1252 table"; "Any other symbol gives nothing"
-unfoldable pub symbol_effect : ℕ → Property → Effect
+unfoldable pub symbol_effect : ℕ → Option ℕ → Effect
 symbol_effect b num =
     cond (eqb b 39) (does.says (windows1252 (value_of num)))
     (cond (eqb b 126) (does.says 160)

@@ -2,7 +2,6 @@
 -- definitions.
 use Rattle.std.specs.Prelude.{ℕ, ◌≤◌, ◌<◌, ◌≡◌, List, [], cond, length, get_or, ltb, eqb}
 use Rattle.answers.specs.declared.Why.{Why}
-use Rattle.answers.specs.declared.Why.TheVariants.{BlockRoom, TextRoom}
 use Rattle.answers.specs.Answers.{Fate, becomes, fails}
 use Rattle.readings.specs.declared.Reading.{Reading}
 use Rattle.tokens.specs.Items.{item_at, shown_of, number_at}
@@ -13,13 +12,11 @@ use Rattle.units.specs.declared.Gave.{Gave}
 use Rattle.machine.specs.Stack.{stack_limit, moved, held}
 use Rattle.machine.specs.Machine.{Deed, parts, move_of, said}
 use Rattle.blocks.specs.declared.Page.{Page}
-use Rattle.blocks.specs.declared.Room.{Room}
-use Rattle.blocks.specs.declared.Room.TheVariants.{Fits, NoBlock, NoText}
-use Rattle.blocks.specs.Laying.{Laying, on, off, page_of, Held}
-use Rattle.deeds.specs.declared.stack.Moved.{Moved}
-use Rattle.deeds.specs.declared.stack.Moved.TheVariants.{Holds, Refuses}
+use Rattle.blocks.specs.Laying.{Laying, on, off, Ready}
 use Rattle.runs.specs.Runs.{rows, laid_all}
 use Rattle.deeds.specs.Deeds.{token_deed, symbol_effect}
+use Rattle.std.specs.Prelude.{Result, Ok, Err}
+use Rattle.std.specs.Result.{result_and}
 
 -- what the token that words start with does, where the walk passes over h tokens behind it
 unfoldable pub deed_at : Reading → List ℕ → List ℕ → ℕ → Deed Setting
@@ -30,22 +27,20 @@ unfoldable pub effect_at : Reading → List ℕ → Effect
 effect_at rd ws = cond (eqb (get_or ws 0 0) 5) (effect rd (get_or ws 1 0) (number_at ws)) (symbol_effect (get_or ws 1 0) (number_at ws))
 
 -- what an answer says of the states that it leaves
-abbrev pub moved_by : Moved → List (List ℕ) → Fate (List (List ℕ))
-moved_by (Holds d) states = becomes (held [] states d)
-moved_by (Refuses why) states = fails why
+abbrev pub moved_by : Result ℕ Why → List (List ℕ) → Fate (List (List ℕ))
+moved_by (Ok d) states = becomes (held [] states d)
+moved_by (Err why) states = fails why
 
 -- where text was laid the stack stays as it is
-abbrev pub stays_by : Room → ℕ → Moved
-stays_by NoBlock d = Refuses BlockRoom
-stays_by NoText d = Refuses TextRoom
-stays_by Fits d = Holds d
+abbrev pub stays_by : Result Unit Why → ℕ → Result ℕ Why
+stays_by room d = result_and room (Ok d)
 
 -- its place is in the array
-abbrev pub Deep : Moved → Type 0
-Deep (Holds d) = d ≤ stack_limit
-Deep (Refuses why) = 0 < stack_limit
+abbrev pub Deep : Result ℕ Why → Type 0
+Deep (Ok d) = d ≤ stack_limit
+Deep (Err why) = 0 < stack_limit
 
-pub record Took (r : Moved) (states : List (List ℕ)) (m : Fate (List (List ℕ))) : Type 0 where
+pub record Took (r : Result ℕ Why) (states : List (List ℕ)) (m : Fate (List (List ℕ))) : Type 0 where
   pub does : moved_by r states ≡ m
   pub deep : Deep r
   pub all : length states ≡ stack_limit
@@ -66,8 +61,8 @@ unfoldable pub turn_of : List (List ℕ) → Page → List ℕ → List ℕ → 
 turn_of st p b t g d = turned (laid_all (on p b t) (said rows st g d)) (moved fresh_row st (move_of rows d)) g.run
 
 -- what the code's answer says, with the states, the run and the page that it leaves
-pub record Turns (r : Moved) (states : List (List ℕ)) (run : Run) (page b t : List ℕ) (w v : ℕ) (z : Turned) : Type 0 where
-  pub does : turned (on (page_of page) b t) (moved_by r states) run ≡ z
+pub record Turns (r : Result ℕ Why) (states : List (List ℕ)) (run : Run) (page : Page) (b t : List ℕ) (w v : ℕ) (z : Turned) : Type 0 where
+  pub does : turned (on page b t) (moved_by r states) run ≡ z
   pub deep : Deep r
   pub all : length states ≡ stack_limit
-  pub held : Held page w v
+  pub ready : Ready page w v

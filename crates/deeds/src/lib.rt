@@ -16,41 +16,31 @@ ghost use Rattle.settings.specs.Effects.{meaning, Within};
 ghost use Rattle.units.specs.Units.{before};
 ghost use Rattle.machine.specs.Stack.{stack_limit, held};
 ghost use Rattle.machine.specs.Machine.{says, tells, unit as unit_of, left, is_passed, ended, gave, step_of};
-ghost use Rattle.blocks.specs.Laying.{page_of, Held};
-ghost use Rattle.runs.specs.Runs.{steps_by, run_words, run_of};
+ghost use Rattle.blocks.specs.Laying.{Ready};
+ghost use Rattle.runs.specs.Runs.{steps_by};
 ghost use Rattle.deeds.specs.Deeds.{doing, symbol_effect};
-ghost use Rattle.deeds.specs.Turns.{deed_at, effect_at, stays_by, turn_of, Turns};
+ghost use Rattle.deeds.specs.Turns.{deed_at, effect_at, turn_of, Turns};
 
 use crate::passing::passed_over;
-use crate::stack::{Moved, close, open};
+use crate::stack::{close, open};
 use answers::Why;
-use blocks::{PAGE_WORDS, Room};
+use blocks::Page;
 use readings::Reading;
 use runs::say::{character, lay};
-use runs::{RUN_WORDS, end_run, unit};
+use runs::{end_run, unit};
 use settings::rows::{STATES, reset_painter, reset_paragraph, set_field, set_line};
 use settings::{Act, WIDTH, act_of};
 use tokens::item::{number_at, part};
-use tokens::{Property, words};
+use tokens::words;
+use units::Run;
 use windows::character as windows_character;
 
-// Where text was laid, and the stack stays as it is.
-fn stays(room: Room, depth: usize) -> Moved
-    ensures { result ≡ stays_by room depth }
-{
-    match room {
-        Room::NoBlock => Moved::Refuses(Why::BlockRoom),
-        Room::NoText => Moved::Refuses(Why::TextRoom),
-        Room::Fits => Moved::Holds(depth),
-    }
-}
-
 // What a symbol does: a character, or nothing. `\'` has the byte that its digits say.
-fn symbol(byte: u32, number: Property) -> Act
+fn symbol(byte: u32, number: Option<u32>) -> Act
     ensures { (meaning result ≡ symbol_effect byte number) × Within result }
 {
     match byte {
-        0x27 => Act::Says(windows_character(number.value())),
+        0x27 => Act::Says(windows_character(number.unwrap_or(0))),
         0x7E => Act::Says(0xA0),
         0x5F => Act::Says(0x2011),
         0x2D => Act::Says(0xAD),
@@ -75,37 +65,37 @@ fn act(
     act: Act,
     states: &mut [[u32; WIDTH]; STATES],
     depth: usize,
-    page: &mut [usize; PAGE_WORDS],
+    page: &mut Page,
     blocks: &mut [u32],
     text: &mut [u8],
-) -> Moved
-    requires { (depth ≤ stack_limit) × (length states.old ≡ stack_limit) × Held page.old (length blocks.old) (length text.old) × Within act }
-    ensures { Turns result states.new before page.new blocks.new text.new (length blocks.old) (length text.old) (turn_of (held [] states.old depth) (page_of page.old) blocks.old text.old (ended before) (doing (meaning act))) }
+) -> Result<usize, Why>
+    requires { (depth ≤ stack_limit) × (length states.old ≡ stack_limit) × Ready page.old (length blocks.old) (length text.old) × Within act }
+    ensures { Turns result states.new before page.new blocks.new text.new (length blocks.old) (length text.old) (turn_of (held [] states.old depth) page.old blocks.old text.old (ended before) (doing (meaning act))) }
 {
     if depth == 0 {
-        return Moved::Refuses(Why::NoState);
+        return Err(Why::NoState);
     }
     let d = depth - 1;
     match act {
-        Act::Nothing => Moved::Holds(depth),
+        Act::Nothing => Ok(depth),
         Act::Sets(f, v) => {
             set_field(states, d, f, v);
-            Moved::Holds(depth)
+            Ok(depth)
         }
         Act::Lines(kind, v) => {
             set_line(states, d, kind, v);
-            Moved::Holds(depth)
+            Ok(depth)
         }
         Act::Plain => {
             reset_painter(states, d);
-            Moved::Holds(depth)
+            Ok(depth)
         }
         Act::Pard => {
             reset_paragraph(states, d);
-            Moved::Holds(depth)
+            Ok(depth)
         }
-        Act::Says(c) => stays(character(states, d, c, page, blocks, text), depth),
-        Act::Refuses(why) => Moved::Refuses(why),
+        Act::Says(c) => character(states, d, c, page, blocks, text).and(Ok(depth)),
+        Act::Refuses(why) => Err(why),
     }
 }
 
@@ -113,17 +103,17 @@ fn act(
 fn break_token(
     states: &[[u32; WIDTH]; STATES],
     depth: usize,
-    page: &mut [usize; PAGE_WORDS],
+    page: &mut Page,
     blocks: &mut [u32],
     text: &mut [u8],
-) -> Moved
-    requires { (depth ≤ stack_limit) × (length states.now ≡ stack_limit) × Held page.old (length blocks.old) (length text.old) }
-    ensures { Turns result states.now before page.new blocks.new text.new (length blocks.old) (length text.old) (turn_of (held [] states.now depth) (page_of page.old) blocks.old text.old (ended before) (says (10 ∷ []))) }
+) -> Result<usize, Why>
+    requires { (depth ≤ stack_limit) × (length states.now ≡ stack_limit) × Ready page.old (length blocks.old) (length text.old) }
+    ensures { Turns result states.now before page.new blocks.new text.new (length blocks.old) (length text.old) (turn_of (held [] states.now depth) page.old blocks.old text.old (ended before) (says (10 ∷ []))) }
 {
     if depth == 0 {
-        return Moved::Refuses(Why::NoState);
+        return Err(Why::NoState);
     }
-    stays(character(states, depth - 1, 10, page, blocks, text), depth)
+    character(states, depth - 1, 10, page, blocks, text).and(Ok(depth))
 }
 
 // A text of the source.
@@ -131,41 +121,37 @@ fn text_token(
     bytes: &[u8],
     states: &[[u32; WIDTH]; STATES],
     depth: usize,
-    page: &mut [usize; PAGE_WORDS],
+    page: &mut Page,
     blocks: &mut [u32],
     text: &mut [u8],
-) -> Moved
-    requires { (depth ≤ stack_limit) × (length states.now ≡ stack_limit) × Held page.old (length blocks.old) (length text.old) }
-    ensures { Turns result states.now before page.new blocks.new text.new (length blocks.old) (length text.old) (turn_of (held [] states.now depth) (page_of page.old) blocks.old text.old (ended before) (tells bytes.now)) }
+) -> Result<usize, Why>
+    requires { (depth ≤ stack_limit) × (length states.now ≡ stack_limit) × Ready page.old (length blocks.old) (length text.old) }
+    ensures { Turns result states.now before page.new blocks.new text.new (length blocks.old) (length text.old) (turn_of (held [] states.now depth) page.old blocks.old text.old (ended before) (tells bytes.now)) }
 {
     if depth == 0 {
-        return Moved::Refuses(Why::NoState);
+        return Err(Why::NoState);
     }
-    stays(lay(states, depth - 1, bytes, page, blocks, text), depth)
+    lay(states, depth - 1, bytes, page, blocks, text).and(Ok(depth))
 }
 
 // A `u` word.
 fn unit_token(
     reading: Reading,
-    number: Property,
+    number: Option<u32>,
     states: &[[u32; WIDTH]; STATES],
     depth: usize,
-    run: &mut [u32; RUN_WORDS],
-    page: &mut [usize; PAGE_WORDS],
+    run: &mut Run,
+    page: &mut Page,
     blocks: &mut [u32],
     text: &mut [u8],
-) -> Moved
-    requires { (depth ≤ stack_limit) × (length states.now ≡ stack_limit) × Held page.old (length blocks.old) (length text.old) × (length run.old ≡ run_words) }
-    ensures turns { Turns result states.now (run_of run.new) page.new blocks.new text.new (length blocks.old) (length text.old) (turn_of (held [] states.now depth) (page_of page.old) blocks.old text.old (step_of (steps_by reading) (held [] states.now depth) (run_of run.old) number) (unit_of number)) }
-    ensures run_len { length run.new ≡ run_words }
+) -> Result<usize, Why>
+    requires { (depth ≤ stack_limit) × (length states.now ≡ stack_limit) × Ready page.old (length blocks.old) (length text.old) }
+    ensures { Turns result states.now run.new page.new blocks.new text.new (length blocks.old) (length text.old) (turn_of (held [] states.now depth) page.old blocks.old text.old (step_of (steps_by reading) (held [] states.now depth) run.old number) (unit_of number)) }
 {
     if depth == 0 {
-        return Moved::Refuses(Why::NoState);
+        return Err(Why::NoState);
     }
-    stays(
-        unit(reading, states, depth - 1, number, run, page, blocks, text),
-        depth,
-    )
+    unit(reading, states, depth - 1, number, run, page, blocks, text).and(Ok(depth))
 }
 
 // What is left of a text where `owed` characters are passed over.
@@ -187,15 +173,15 @@ fn token(
     owed: usize,
     states: &mut [[u32; WIDTH]; STATES],
     depth: usize,
-    page: &mut [usize; PAGE_WORDS],
+    page: &mut Page,
     blocks: &mut [u32],
     text: &mut [u8],
-) -> Moved
-    requires { (depth ≤ stack_limit) × (length states.old ≡ stack_limit) × Held page.old (length blocks.old) (length text.old) × (token_words ≤ length t.now) × (is_passed (left owed (deed_at reading source.now t.now h)) ≡ false) }
-    ensures { Turns result states.new before page.new blocks.new text.new (length blocks.old) (length text.old) (turn_of (held [] states.old depth) (page_of page.old) blocks.old text.old (ended before) (left owed (deed_at reading source.now t.now h))) }
+) -> Result<usize, Why>
+    requires { (depth ≤ stack_limit) × (length states.old ≡ stack_limit) × Ready page.old (length blocks.old) (length text.old) × (token_words ≤ length t.now) × (is_passed (left owed (deed_at reading source.now t.now h)) ≡ false) }
+    ensures { Turns result states.new before page.new blocks.new text.new (length blocks.old) (length text.old) (turn_of (held [] states.old depth) page.old blocks.old text.old (ended before) (left owed (deed_at reading source.now t.now h))) }
 {
     if 0 < h {
-        return Moved::Holds(depth);
+        return Ok(depth);
     }
     let kind = t[0];
     if (kind == 5) | (kind == 6) {
@@ -212,7 +198,7 @@ fn token(
         return break_token(states, depth, page, blocks, text);
     }
     if kind == 4 {
-        return Moved::Refuses(Why::IgnorableInBody);
+        return Err(Why::IgnorableInBody);
     }
     let bytes = rest_of(part(source, t[4], t[5]), owed);
     text_token(bytes, states, depth, page, blocks, text)
@@ -227,17 +213,16 @@ pub fn turn(
     owed: usize,
     states: &mut [[u32; WIDTH]; STATES],
     depth: usize,
-    run: &mut [u32; RUN_WORDS],
-    page: &mut [usize; PAGE_WORDS],
+    run: &mut Run,
+    page: &mut Page,
     blocks: &mut [u32],
     text: &mut [u8],
-) -> Moved
-    requires { (depth ≤ stack_limit) × (length states.old ≡ stack_limit) × Held page.old (length blocks.old) (length text.old) × (token_words ≤ length t.now) × (length run.old ≡ run_words) × (0 < h → get_or t.now 0 0 ≡ 1) }
-    ensures turns { Turns result states.new (run_of run.new) page.new blocks.new text.new (length blocks.old) (length text.old) (turn_of (held [] states.old depth) (page_of page.old) blocks.old text.old (gave (step_of (steps_by reading) (held [] states.old depth)) (run_of run.old) (left owed (deed_at reading source.now t.now h))) (left owed (deed_at reading source.now t.now h))) }
-    ensures run_len { length run.new ≡ run_words }
+) -> Result<usize, Why>
+    requires { (depth ≤ stack_limit) × (length states.old ≡ stack_limit) × Ready page.old (length blocks.old) (length text.old) × (token_words ≤ length t.now) × (0 < h → get_or t.now 0 0 ≡ 1) }
+    ensures { Turns result states.new run.new page.new blocks.new text.new (length blocks.old) (length text.old) (turn_of (held [] states.old depth) page.old blocks.old text.old (gave (step_of (steps_by reading) (held [] states.old depth)) run.old (left owed (deed_at reading source.now t.now h))) (left owed (deed_at reading source.now t.now h))) }
 {
     if passed_over(source, t, owed) {
-        return Moved::Holds(depth);
+        return Ok(depth);
     }
     if (t[0] == 5) & (t[1] == words::UNICODE) {
         return unit_token(
@@ -251,12 +236,8 @@ pub fn turn(
             text,
         );
     }
-    let room = end_run(states, depth, run, page, blocks, text);
-    match room {
-        Room::NoBlock => Moved::Refuses(Why::BlockRoom),
-        Room::NoText => Moved::Refuses(Why::TextRoom),
-        Room::Fits => token(
-            source, reading, t, h, owed, states, depth, page, blocks, text,
-        ),
-    }
+    end_run(states, depth, run, page, blocks, text)?;
+    token(
+        source, reading, t, h, owed, states, depth, page, blocks, text,
+    )
 }

@@ -19,17 +19,16 @@ use Rattle.readings.specs.declared.Reading.{Reading}
 use Rattle.blocks.specs.Pages.{text_of}
 use Rattle.parser.specs.Parsing.{Letter, answer_counts}
 use Rattle.parser.specs.declared.Counts.{Counts}
-use Rattle.parser.specs.declared.Answer.{Answer}
-use Rattle.parser.specs.declared.Answer.TheVariants.{Read, Refuses}
 use Rattle.reader.specs.Reading.{letter_of, answered, holding, read_answer, text_room}
 use Rattle.extraction.specs.Extractor.{extractor_rooms, longer, extracted_answer, extracted_text, text_in, letter_text, TextOf}
+use Rattle.std.specs.Prelude.{Result, Ok, Err}
 
 module _ (rd : Reading) (letter : List ℕ) where
   pub text-count : (answer_counts (extracted_answer rd letter)).text ≡ length (letter_text rd letter)
   unfolding extracted_answer letter_text read_answer
   text-count = go (longer letter) (letter_of rd letter extractor_rooms)
     where
-      go : (t : Bool) (x : Found Letter) → (answer_counts (cond t (Refuses (refusal SourceTooLong)) (answered rd letter x))).text ≡ length (cond t [] (text_in x))
+      go : (t : Bool) (x : Found Letter) → (answer_counts (cond t (Err (refusal SourceTooLong)) (answered rd letter x))).text ≡ length (cond t [] (text_in x))
       go true x = refl
       go false (found l) = refl
       go false (refused r) = refl
@@ -53,11 +52,11 @@ module _ (rd : Reading) (letter : List ℕ) where
       let a = length-append ws (replicate (extractor_rooms.text - length ws) 0) in
       omega (arith, e, n, f, a)
 
-module _ {rd : Reading} {letter : List ℕ} {r : Answer} {room : List ℕ} (w : TextOf rd letter r room) where
+module _ {rd : Reading} {letter : List ℕ} {r : Result Counts Refusal} {room : List ℕ} (w : TextOf rd letter r room) where
   pub text-room : length room ≡ extractor_rooms.text
   text-room =
       let ws : List ℕ = letter_text rd letter in
-      let n = ap (λ (a : Answer). (answer_counts a).text) w.answer ∙ text-count rd letter in
+      let n = ap (λ (a : Result Counts Refusal). (answer_counts a).text) w.answer ∙ text-count rd letter in
       let f = ap length (w.text ∙ text-filled rd letter) in
       let a = length-append ws (replicate (extractor_rooms.text - length ws) 0) in
       let z = length-replicate {A = ℕ} (extractor_rooms.text - length ws) 0 in
@@ -67,8 +66,8 @@ module _ {rd : Reading} {letter : List ℕ} {r : Answer} {room : List ℕ} (w : 
   pub text-front : take (answer_counts r).text room ≡ letter_text rd letter
   text-front = rw (w.answer, text-count rd letter, w.text, text-filled rd letter) (take-append_seam (letter_text rd letter) _)
 
-  pub text-read : {n : Counts} → r ≡ Read n → (n.text ≤ length room) × (take n.text room ≡ letter_text rd letter)
+  pub text-read : {n : Counts} → r ≡ Ok n → (n.text ≤ length room) × (take n.text room ≡ letter_text rd letter)
   text-read e = (let h = rw e at w.within in let l = text-room in omega (arith, h, l), rw e at text-front)
 
-  pub text-refused : {q : Refusal} → r ≡ Refuses q → letter_text rd letter ≡ []
+  pub text-refused : {q : Refusal} → r ≡ Err q → letter_text rd letter ≡ []
   text-refused e = sym (rw e at text-front)

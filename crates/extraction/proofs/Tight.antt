@@ -3,11 +3,13 @@ use mathlib.Core.Path.{◌≡◌, sym, ap, ◌∙◌}
 use mathlib.Core.List.{List}
 use Prim.Native.Nat.{ℕ}
 use Rattle.readings.specs.declared.Reading.{Reading}
-use Rattle.parser.specs.declared.Answer.{Answer}
 use Rattle.extraction.specs.declared.listing.Listed.{Listed}
 use Rattle.extraction.specs.Extractor.{TextOf, Extracts}
+use Rattle.std.specs.Prelude.{Result}
+use Rattle.answers.specs.declared.Refusal.{Refusal}
+use Rattle.parser.specs.declared.Counts.{Counts}
 
-module _ {rd : Reading} {letter : List ℕ} {r r' : Answer} {room room' : List ℕ} (x : TextOf rd letter r room) (y : TextOf rd letter r' room') where
+module _ {rd : Reading} {letter : List ℕ} {r r' : Result Counts Refusal} {room room' : List ℕ} (x : TextOf rd letter r room) (y : TextOf rd letter r' room') where
   pub same_answer : r ≡ r'
   same_answer = x.answer ∙ sym y.answer
 

@@ -2,18 +2,19 @@
 -- definitions.
 use Rattle.std.specs.Prelude.{ℕ, ◌*◌, ◌≤◌, ◌≡◌, Bool, cond, List, [], ◌++◌, ltb, length, drop, replicate}
 use Rattle.answers.specs.declared.Why.TheVariants.{SourceTooLong}
-use Rattle.answers.specs.Answers.{refusal, Found, found, refused}
+use Rattle.answers.specs.Answers.{refusal, Found, found, refused, answer_number, answer_place}
 use Rattle.tokens.specs.Tokens.{token_words}
 use Rattle.fonts.specs.Rows.{font_words}
 use Rattle.colours.specs.Colours.{colour_words}
 use Rattle.readings.specs.declared.Reading.{Reading}
 use Rattle.blocks.specs.Pages.{block_words, text_of}
-use Rattle.parser.specs.Parsing.{Sizes, Letter, answer_number, answer_place, answer_counts}
-use Rattle.parser.specs.declared.Answer.{Answer}
-use Rattle.parser.specs.declared.Answer.TheVariants.{Refuses}
+use Rattle.parser.specs.Parsing.{Sizes, Letter, answer_counts}
 use Rattle.reader.specs.Reading.{letter_of, read_answer, font_room, colour_room, block_room, text_room}
 use Rattle.extraction.specs.declared.listing.Listed.{Listed}
 use Rattle.extraction.specs.Listings.{listing}
+use Rattle.std.specs.Prelude.{Result, Err}
+use Rattle.answers.specs.declared.Refusal.{Refusal}
+use Rattle.parser.specs.declared.Counts.{Counts}
 
 -- "1,024 tokens, 128 blocks, 256 fonts and colours, 8,192 text bytes": the rooms' words
 abbrev pub extractor_rooms : Sizes
@@ -26,15 +27,15 @@ letter_most = 8192
 abbrev pub longer : List ℕ → Bool
 longer letter = ltb letter_most (length letter)
 
-unfoldable pub extracted_answer : Reading → List ℕ → Answer
-extracted_answer rd letter = cond (longer letter) (Refuses (refusal SourceTooLong)) (read_answer rd letter extractor_rooms)
+unfoldable pub extracted_answer : Reading → List ℕ → Result Counts Refusal
+extracted_answer rd letter = cond (longer letter) (Err (refusal SourceTooLong)) (read_answer rd letter extractor_rooms)
 
 -- the text room: the text and zeros, or zeros alone: "Any refusal .. zeroes all lent rooms."
 unfoldable pub extracted_text : Reading → List ℕ → List ℕ
 extracted_text rd letter = cond (longer letter) (replicate extractor_rooms.text 0) (text_room rd letter extractor_rooms)
 
 -- what `text_of` answers, and the text room that it leaves; the answer counts no more bytes than the room has
-pub record TextOf (rd : Reading) (letter : List ℕ) (r : Answer) (room : List ℕ) : Type 0 where
+pub record TextOf (rd : Reading) (letter : List ℕ) (r : Result Counts Refusal) (room : List ℕ) : Type 0 where
   pub answer : r ≡ extracted_answer rd letter
   pub text : room ≡ extracted_text rd letter
   pub within : (answer_counts r).text ≤ extractor_rooms.text
@@ -61,6 +62,6 @@ pub record Extracts (rd : Reading) (letter page : List ℕ) (r : Listed) (page' 
   pub content : page' ≡ extracted rd letter ++ drop (length (extracted rd letter)) page
 
 -- a letter read in the extractor's rooms: the answer, the text room, and what is listed of all rooms
-pub record ReadInRooms (rd : Reading) (letter : List ℕ) (r : Answer) (fonts colours blocks room : List ℕ) : Type 0 where
+pub record ReadInRooms (rd : Reading) (letter : List ℕ) (r : Result Counts Refusal) (fonts colours blocks room : List ℕ) : Type 0 where
   pub text-of : TextOf rd letter r room
   pub listed : listing (answer_number r) (answer_place r) (answer_counts r) fonts colours blocks room ≡ extracted rd letter

@@ -10,18 +10,19 @@ pub mod listing;
 
 ghost use Rattle.std.specs.Prelude.{◌≡◌};
 ghost use Rattle.lines.specs.Pages.{PutWhole};
-ghost use Rattle.parser.specs.Parsing.{answer_number, answer_place, answer_counts};
+ghost use Rattle.parser.specs.Parsing.{answer_counts};
 ghost use Rattle.extraction.specs.Listings.{listing};
 ghost use Rattle.extraction.specs.Extractor.{TextOf, Extracts, ReadInRooms};
+ghost use Rattle.answers.specs.Answers.{answer_number, answer_place};
 
 use crate::listing::{Listed, list};
 use answers::{Refusal, Why};
 use blocks::BLOCK_WORDS;
 use colours::COLOUR_WORDS;
 use fonts::FONT_WORDS;
-use parser::Answer;
+use parser::Counts;
 use readings::Reading;
-use rooms::clear_bytes_from;
+use rooms::clear_from;
 use tokens::TOKEN_WORDS;
 
 // 8,192 bytes of letter and of text, 1,024 tokens, 256 fonts, 256 colours, 128 blocks.
@@ -49,19 +50,19 @@ fn read(
     colours: &mut [u32; COLOUR_ROOM],
     blocks: &mut [u32; BLOCK_ROOM],
     text: &mut [u8; TEXT_BYTES],
-) -> Answer
+) -> Result<Counts, Refusal>
     ensures { ReadInRooms reading letter.now result fonts.new colours.new blocks.new text.new }
 {
     if LETTER_MOST < letter.len() {
-        clear_bytes_from(text, 0);
-        return Answer::Refuses(Refusal::of(Why::SourceTooLong));
+        clear_from(text, 0, 0);
+        return Err(Refusal::of(Why::SourceTooLong));
     }
     reader::read(letter, reading, tokens, fonts, colours, blocks, text)
 }
 
 // The listing of an answer over the extractor's rooms: the page holds any.
 fn list_whole(
-    answer: Answer,
+    answer: Result<Counts, Refusal>,
     fonts: &[u32; FONT_ROOM],
     colours: &[u32; COLOUR_ROOM],
     blocks: &[u32; BLOCK_ROOM],
@@ -75,7 +76,11 @@ fn list_whole(
 }
 
 // A letter's answer, and its text: as many bytes of the room as the answer counts, and zeros behind them.
-pub fn text_of(letter: &[u8], reading: Reading, text: &mut [u8; TEXT_BYTES]) -> Answer
+pub fn text_of(
+    letter: &[u8],
+    reading: Reading,
+    text: &mut [u8; TEXT_BYTES],
+) -> Result<Counts, Refusal>
     ensures { TextOf reading letter.now result text.new }
 {
     let mut tokens = [0u32; TOKEN_ROOM];

@@ -2,15 +2,17 @@
 // between them; the fonts, the colours and the blocks, a line each; the text and a line feed, which a refusal does not have. What does
 // not fit on the page is left out.
 ghost use Rattle.std.specs.Prelude.{◌≡◌, ◌≤◌, length};
-ghost use Rattle.parser.specs.Parsing.{answer_number, answer_place, answer_counts};
+ghost use Rattle.parser.specs.Parsing.{answer_counts};
 ghost use Rattle.lines.specs.Pages.{Put};
 ghost use Rattle.extraction.specs.Listings.{head_line, text_line, listing};
+ghost use Rattle.answers.specs.Answers.{answer_number, answer_place};
 
+use answers::{Refusal, number_of, place_of};
 use blocks::BLOCK_WORDS;
 use colours::COLOUR_WORDS;
 use fonts::FONT_WORDS;
 use lines::{append, number, place_item, push, records};
-use parser::{Answer, Counts};
+use parser::{Counts, counts_of};
 
 // The number of the answer, and how many bytes its listing has.
 #[derive(Clone, Copy)]
@@ -47,7 +49,7 @@ fn text_line(text: &[u8], count: usize, page: &mut [u8], at: usize) -> usize
 
 // The listing of an answer over the rooms that it speaks of; how many bytes it has.
 pub fn list(
-    answer: Answer,
+    answer: Result<Counts, Refusal>,
     fonts: &[u32],
     colours: &[u32],
     blocks: &[u32],
@@ -57,9 +59,9 @@ pub fn list(
     ensures number { result.number ≡ answer_number answer }
     ensures content { Put page.old 0 (listing (answer_number answer) (answer_place answer) (answer_counts answer) fonts.now colours.now blocks.now text.now) page.new result.bytes }
 {
-    let told = answer.number();
-    let place = answer.place();
-    let counts = answer.counts();
+    let told = number_of(&answer);
+    let place = place_of(&answer);
+    let counts = counts_of(answer);
     let first = head(told, place, counts, page);
     if told != 0 {
         return Listed {

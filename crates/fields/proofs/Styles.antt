@@ -1,5 +1,4 @@
 -- A style's numbers, and back.
---     follows-as           as the code tests it
 --     by_place-over, by_place-zeros  one item more is done, in its own place, and in a room of zeros
 --     words-done, numbers-done     all items are
 --     by_place-undo, by_place-small, length-by_place   each way undoes the other; 32 bits stay 32 bits; no item is lost
@@ -11,7 +10,7 @@
 -- Assumes nothing.
 use mathlib.Core.Path.{◌≡◌, refl, sym, ap, ap₂, ◌∙◌}
 use mathlib.Core.List.{List, [], ◌∷◌, ◌++◌, append_assoc, append-nil}
-use mathlib.Core.Bool.{Bool, true, false, cond, not, ◌&&◌}
+use mathlib.Core.Bool.{Bool, true, false, cond}
 use Prim.Native.Nat.{ℕ, zero, suc, ◌+◌, ◌-◌, ◌≤◌, ◌<◌}
 use native.Mathlib.Nat.{add-zero}
 use native.Mathlib.Numerals.{add-one}
@@ -19,15 +18,10 @@ use native.Mathlib.Omega.{arith}
 use lib.ListN.{length, length-take, get_or, set, take, drop, replicate, drop_of_length-le}
 use lib.Seq.{drop-cons, take-suc, take-suc-set, take_all, set_at, take_at, length-take-le, get_or-append_seam}
 use Rattle.styles.specs.declared.Style.{Style}
-use Rattle.styles.specs.Styles.{style_width, bare_width, style_words, style_at, same_style, flush}
+use Rattle.styles.specs.Styles.{style_width, bare_width, style_words, style_at, flush}
 use Rattle.styles.proofs.Styles.{bare-style_at, style_at-each, flush-zero, flush-bare}
-use Rattle.blocks.specs.Pages.{starts}
-use Rattle.fields.specs.Fields.{folded, unfolded, is_signed, number_at, word_at, by_place, style_numbers, style_from, block_numbers, last_of}
+use Rattle.fields.specs.Fields.{folded, unfolded, is_signed, number_at, word_at, by_place, style_numbers, style_from, block_numbers}
 use Rattle.fields.proofs.Folds.{unfold-fold, fold-unfold, folded-small, unfolded-small}
-
-pub follows-as : (begun : Bool) (before s : Style) {x : Bool} → x ≡ same_style before s → not (begun && x) ≡ starts (last_of begun before) s
-follows-as true before s e = rw e
-follows-as false before s e = refl
 
 -- every word has 32 bits
 abbrev pub Words : List ℕ → Type 0

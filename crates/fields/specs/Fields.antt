@@ -1,5 +1,5 @@
 -- 01, Stored form: the rules of a block's fields, for reading and for writing. Assumes nothing: these are definitions.
-use Rattle.std.specs.Prelude.{ℕ, suc, ◌+◌, ◌-◌, ◌*◌, ◌/◌, ◌%◌, List, [], ◌∷◌, Bool, true, false, cond, ◌&&◌, ◌||◌, take, leb, ltb, eqb}
+use Rattle.std.specs.Prelude.{ℕ, suc, ◌+◌, ◌-◌, ◌*◌, ◌/◌, ◌%◌, List, [], ◌∷◌, Bool, cond, ◌&&◌, ◌||◌, take, leb, ltb, eqb, Option, Some, None}
 use Rattle.styles.specs.declared.Style.{Style}
 use Rattle.styles.specs.Styles.{bare_width, style_words, style_at}
 use Rattle.blocks.specs.Pages.{Last, none, last}
@@ -46,6 +46,6 @@ abbrev pub block_numbers : ℕ
 block_numbers = bare_width + 1
 
 -- the block before, if there is one
-abbrev pub last_of : Bool → Style → Last
-last_of true s = last s
-last_of false s = none
+abbrev pub last_of : Option Style → Last
+last_of (Some s) = last s
+last_of None = none

@@ -67,11 +67,8 @@ pub fn numbers_of(s: Style) -> [u32; STYLE_WORDS]
     ensures { result ≡ by_place number_at 0 (style_words s) }
 {
     let mut numbers = s.words();
-    let mut i: usize = 0;
-    while i < STYLE_WORDS {
-        let w = numbers[i];
-        numbers[i] = number_at(i, w);
-        i += 1;
+    for (i, w) in numbers.iter_mut().enumerate() {
+        *w = number_at(i, *w);
     }
     numbers
 }
@@ -82,11 +79,8 @@ pub fn style_from(numbers: &[u32]) -> Style
     ensures { result ≡ style_at (by_place word_at 0 numbers.now) }
 {
     let mut words = [0u32; STYLE_WORDS];
-    let mut i: usize = 0;
-    while i < numbers.len() {
-        let n = numbers[i];
-        words[i] = word_at(i, n);
-        i += 1;
+    for (i, n) in numbers.iter().enumerate() {
+        words[i] = word_at(i, *n);
     }
     Style::at(&words)
 }
@@ -103,9 +97,9 @@ pub fn in_range(s: Style) -> bool
                             & ((s.line <= 2147483647) & ((s.kind == 1) | (s.line == 0))))))))
 }
 
-// `begun` says whether there is a block before, of the style `before`.
-pub fn follows(begun: bool, before: Style, s: Style) -> bool
-    ensures { result ≡ starts (last_of begun before) s }
+// `before` is the style of the block before, if there is one.
+pub fn follows(before: Option<Style>, s: Style) -> bool
+    ensures { result ≡ starts (last_of before) s }
 {
-    !(begun & same_style(before, s))
+    !before.is_some_and(|b| same_style(b, s))
 }

@@ -7,7 +7,6 @@
 use Rattle.std.proofs.Common.{◌≡◌, ℕ, zero, suc, ◌+◌, ◌*◌, ◌<◌, ◌≤◌, Bool, true, false, ◌||◌, eqb, ltb, List, [], ◌∷◌, ◌++◌, length, get_or, take, drop, sym, refl, ap, ◌∙◌, append_assoc, not-suc-le-zero, arith, length-append, length-drop, take-append-drop, length-take-le, drop-drop, le-ltb, lt-ltb, eq-eqb, ne_eqb}
 use lib.Seq.{sets, split_at, take-append_seam}
 use Rattle.answers.specs.declared.Why.TheVariants.{FontRoom}
-use Rattle.answers.specs.declared.Written.TheVariants.{Done as Up, Refused as Stopped}
 use Rattle.answers.specs.Answers.{becomes, fails}
 use Rattle.fonts.specs.declared.rows.Font.{Font as Row}
 use Rattle.fonts.specs.Rows.{Font, first_font, font_record, table_words, has_key, inserted, stored, InFront, font_words}
@@ -15,6 +14,7 @@ use Rattle.fonts.specs.Rows.{row, row_words, key_at, Ascends, Rank, stands, shif
 use Rattle.fonts.proofs.Searches.{stands_here, stands-apart}
 use Rattle.fonts.proofs.Shifts.{over, between}
 use Rattle.fonts.proofs.RowTables.{table-append, length-table, Ascending, key_of, up_at}
+use Rattle.std.specs.Prelude.{Ok, Err}
 
 -- what stands behind a table
 abbrev behind : List Font → List ℕ → List ℕ
@@ -155,7 +155,7 @@ module _ (limit : ℕ) (fs : List Font) (g : Font) where
   kept-refused e = rw e
 
   read_found : (ts : List Font) (tail room room' : List ℕ) (m : ℕ) → has_key g.key fs || ltb (length fs) limit ≡ true → inserted g fs ≡ ts → length ts ≡ m
-      → tail ≡ drop (length (table_words ts)) room → room' ≡ table_words ts ++ tail → WroteFonts (stored limit (record { table = fs; font = g })) room (Up m) room'
+      → tail ≡ drop (length (table_words ts)) room → room' ≡ table_words ts ++ tail → WroteFonts (stored limit (record { table = fs; font = g })) room (Ok m) room'
   read_found ts tail room room' m e i l b q = rw (kept-found e, i, ← l) (refl, q ∙ ap (λ (z : List ℕ). table_words ts ++ z) b)
 
 length_over : (fs : List Font) (f : Font) (r : ℕ) → r < length fs → length (take r fs ++ (f ∷ drop (suc r) fs)) ≡ length fs
@@ -168,7 +168,7 @@ length-new fs f r h = length-append (take r fs) (f ∷ drop r fs) ∙ rw (length
 module _ {limit n : ℕ} {f : Row} {room : List ℕ} (pre : (n ≤ limit) × (limit ≤ 256) × (limit * font_words ≤ length room) × Ascends n room)
     {r : ℕ} (k : Rank n room f.key r) {t : Bool} (s : t ≡ stands n room r f.key) where
   pub store-over : t ≡ true → (room' : List ℕ) → room' ≡ sets room (r * font_words) (row_words f)
-      → (fs : List Font) (g : Font) → StoredFont limit n f fs g room (Up n) room'
+      → (fs : List Font) (g : Font) → StoredFont limit n f fs g room (Ok n) room'
   store-over b room' w fs g e h q =
       let y : (r < n) × (key_at room r ≡ f.key) = stands_here n room r f.key (sym s ∙ b) in
       let v : f.key ≡ g.key = ap (λ (x : Row). x.key) q in
@@ -188,11 +188,11 @@ module _ {limit n : ℕ} {f : Row} {room : List ℕ} (pre : (n ≤ limit) × (li
         insert-new g fs r (omega arith) (λ i m. rw (← (key_in fs room h i (omega arith)), ← v) (k.below i m))
         (λ i m o. rw (← (key_in fs room h i o), ← v) (stands-apart n room r f.key (sym s ∙ b) pre.3 k i m (omega arith)))
 
-    full : limit ≤ n → WroteFonts (stored limit (record { table = fs; font = g })) room (Stopped FontRoom) room
+    full : limit ≤ n → WroteFonts (stored limit (record { table = fs; font = g })) room (Err FontRoom) room
     full l = rw (kept-refused limit fs g (rw (apart.1, e) (le-ltb n limit l))) refl
 
     new : n < limit → (room₁ room₂ : List ℕ) → room₁ ≡ shifted (r * font_words) (n * font_words) room → room₂ ≡ sets room₁ (r * font_words) (row_words f)
-        → WroteFonts (stored limit (record { table = fs; font = g })) room (Up (n + 1)) room₂
+        → WroteFonts (stored limit (record { table = fs; font = g })) room (Ok (n + 1)) room₂
     new l room₁ room₂ w₁ w₂ =
         let m : r ≤ n = k.within in
         let p : limit * font_words ≤ length room = pre.2 in
@@ -204,11 +204,11 @@ module _ {limit n : ℕ} {f : Row} {room : List ℕ} (pre : (n ≤ limit) × (li
         (w₂ ∙ ap (λ (l : List ℕ). sets l (r * font_words) (row_words f)) w₁ ∙ ap (sets (shifted (r * font_words) (n * font_words) room) (r * font_words)) (row_words_lem f g q)
         ∙ new-table fs room g r n e h m (omega arith))
 
-  pub store-full : t ≡ false → limit ≤ n → (fs : List Font) (g : Font) → StoredFont limit n f fs g room (Stopped FontRoom) room
+  pub store-full : t ≡ false → limit ≤ n → (fs : List Font) (g : Font) → StoredFont limit n f fs g room (Err FontRoom) room
   store-full b l fs g e h q = full b fs g e h q l
 
   pub store-new : t ≡ false → n < limit → (room₁ room₂ : List ℕ) → room₁ ≡ shifted (r * font_words) (n * font_words) room → room₂ ≡ sets room₁ (r * font_words) (row_words f)
-      → (fs : List Font) (g : Font) → StoredFont limit n f fs g room (Up (n + 1)) room₂
+      → (fs : List Font) (g : Font) → StoredFont limit n f fs g room (Ok (n + 1)) room₂
   store-new b l room₁ room₂ w₁ w₂ fs g e h q = new b fs g e h q l room₁ room₂ w₁ w₂
 
 -- the record at the rank lies in the room

@@ -8,19 +8,13 @@ use Rattle.std.proofs.Common.{◌≡◌, ℕ, zero, suc, ◌-◌, ◌*◌, ◌<�
 use Rattle.answers.specs.declared.Why.TheVariants.{FontNumber, FontRoom}
 use Rattle.answers.specs.declared.Why.{Why}
 use Rattle.answers.specs.declared.Refusal.{Refusal}
-use Rattle.answers.specs.declared.Outcome.{Outcome}
-use Rattle.answers.specs.declared.Outcome.TheVariants.{Done, Refused}
-use Rattle.answers.specs.declared.Written.{Written}
-use Rattle.answers.specs.declared.Written.TheVariants.{Done as Up, Refused as Stopped}
 use Rattle.answers.specs.Answers.{refusal_at, Found, found, refused, Fate, becomes, fails, found_at}
+use Rattle.rooms.proofs.Streams.{ok_err, ok-same}
 use Rattle.rooms.specs.Rooms.{table_limit, overlaid}
-use Rattle.rooms.proofs.Streams.{name-apart}
 use Rattle.rooms.proofs.Rooms.{limit-256}
 use Rattle.rooms.proofs.Clearing.{overlaid-front, overlaid-again}
 use Rattle.classes.specs.declared.Class.TheVariants.{Semicolon}
 use Rattle.classes.specs.Bytes.{in_class, body, grown}
-use Rattle.tokens.specs.declared.Property.{Property}
-use Rattle.tokens.specs.declared.Property.TheVariants.{None, Value}
 use Rattle.tokens.specs.Tokens.{Token, token_words}
 use Rattle.tokens.specs.declared.item.Item.{Item}
 use Rattle.tokens.specs.declared.item.Item.TheVariants.{Text, Opening, Closing, LineBreak, Ignorable, Word, Unknown, Symbol}
@@ -39,6 +33,7 @@ use Rattle.fonts.proofs.Limits.{limit-within}
 use Rattle.fonts.proofs.Inserts.{table-ascends}
 use Rattle.fonts.proofs.RowTables.{stored-longer, length-table}
 use Rattle.fonts.proofs.Tables.{fonts-refused, Sound, SoundFate, sound-start, sound-token}
+use Rattle.std.specs.Prelude.{Result, Ok, Err, Option, Some, None}
 
 part_length : (l : List ℕ) (p n : ℕ) → length (part l p n) ≤ n
 unfolding part
@@ -72,9 +67,9 @@ module _ (f : Row) (p : ℕ) (bs : List ℕ) {n : ℕ} (e : n ≡ body (in_class
   named-full h = rw (← e, ne_eqb n 0 h)
 
 -- the definition's next current font
-abbrev numbered_font : Property → Font → Font
+abbrev numbered_font : Option ℕ → Font → Font
 numbered_font None f = f
-numbered_font (Value v) f = keyed f v
+numbered_font (Some v) f = keyed f v
 
 abbrev font_after : List ℕ → Item → Font → Font
 font_after src (Word w num) f = cond (eqb w 9) (numbered_font num f) f
@@ -111,7 +106,7 @@ same-font limit s = go (has_key s.font.key s.table || ltb (length s.table) limit
     go true = refl
     go false = refl
 
-number-then : (v : ℕ) (f : Font) (x : Fate Fonts) → rekeyed (Value v) (then_font f x) ≡ then_font (keyed f v) x
+number-then : (v : ℕ) (f : Font) (x : Fate Fonts) → rekeyed (Some v) (then_font f x) ≡ then_font (keyed f v) x
 number-then v f (becomes s) = refl
 number-then v f (fails why) = refl
 
@@ -119,12 +114,12 @@ none_then : (x : Fate Fonts) → rekeyed None x ≡ then_none x
 none_then (becomes s) = refl
 none_then (fails why) = refl
 
-number-token : (limit : ℕ) (num : Property) (s : Fonts)
+number-token : (limit : ℕ) (num : Option ℕ) (s : Fonts)
     → rekeyed num (stored limit s) ≡ applied limit s (numbered_font num s.font) (numbered num (row s.font))
 number-token limit None s = none_then (stored limit s)
-number-token limit (Value v) s = ap (rekeyed (Value v)) (same-font limit s) ∙ number-then v s.font (stored limit s)
+number-token limit (Some v) s = ap (rekeyed (Some v)) (same-font limit s) ∙ number-then v s.font (stored limit s)
 
-word-token : (limit w : ℕ) (num : Property) (s : Fonts)
+word-token : (limit w : ℕ) (num : Option ℕ) (s : Fonts)
     → font_word limit w num s ≡ applied limit s (cond (eqb w 9) (numbered_font num s.font) s.font) (word_effect w num (row s.font))
 unfolding font_word
 word-token limit w num s = go (eqb w 9)
@@ -152,11 +147,11 @@ Leaves f (Set g) = g ≡ row f
 Leaves f (Store g) = g ≡ row f
 Leaves f Unnumbered = Unit {0}
 
-leaves-numbered : (num : Property) (f : Font) → Leaves (numbered_font num f) (numbered num (row f))
+leaves-numbered : (num : Option ℕ) (f : Font) → Leaves (numbered_font num f) (numbered num (row f))
 leaves-numbered None f = tt
-leaves-numbered (Value v) f = refl
+leaves-numbered (Some v) f = refl
 
-leaves_word : (w : ℕ) (num : Property) (f : Font) → Leaves (cond (eqb w 9) (numbered_font num f) f) (word_effect w num (row f))
+leaves_word : (w : ℕ) (num : Option ℕ) (f : Font) → Leaves (cond (eqb w 9) (numbered_font num f) f) (word_effect w num (row f))
 leaves_word w num f = go (eqb w 9)
   where
     go : (t : Bool) → Leaves (cond t (numbered_font num f) f) (cond t (numbered num (row f)) (Set (row f)))
@@ -221,18 +216,18 @@ module _ {src tokens : List ℕ} {count : ℕ} {room₀ : List ℕ} {limit : ℕ
   ended x e = rw (← l.limited) (ap table_of e)
 
   stopped : (q : Refusal) (ts : List Token) (room' : List ℕ) → fonts_from limit (refused q) ts ≡ fonts_from limit (found no_fonts) (tokens_all src count tokens)
-      → ReadFonts (fonts (table_limit font_words (length room₀)) (tokens_all src count tokens)) room₀ (Refused q) room'
+      → ReadFonts (fonts (table_limit font_words (length room₀)) (tokens_all src count tokens)) room₀ (Err q) room'
   stopped q ts room' e =
       let z : refused q ≡ fonts (table_limit font_words (length room₀)) (tokens_all src count tokens) = ended (refused q) (sym (fonts-refused limit q ts) ∙ e) in
       rw (← z) refl
 
   -- no token is left
-  pub loop-end : n ≤ 0 → ReadFonts (fonts (table_limit font_words (length room₀)) (tokens_all src count tokens)) room₀ (Done held) room
+  pub loop-end : n ≤ 0 → ReadFonts (fonts (table_limit font_words (length room₀)) (tokens_all src count tokens)) room₀ (Ok held) room
   unfolding fonts_from
   loop-end h =
       let e : found l.state ≡ fonts_from limit (found no_fonts) (tokens_all src count tokens) = rw (tokens_none src n ws h) at l.left in
       let z : found l.state.table ≡ fonts (table_limit font_words (length room₀)) (tokens_all src count tokens) = ended (found l.state) e in
-      rw (← z) (ap Done (sym l.size), l.laid)
+      rw (← z) (ap Ok (sym l.size), l.laid)
 
   front : InFront (table_words l.state.table) room
   front = rw l.laid (overlaid-front (table_words l.state.table) room₀)
@@ -287,28 +282,28 @@ module _ {src tokens : List ℕ} {count : ℕ} {room₀ : List ℕ} {limit : ℕ
         }
 
     -- a store was asked, of the font before the token
-    module _ (o : Written) (room' : List ℕ) (told : (fs : List Font) (g : Font) → StoredFont limit held font fs g room o room')
+    module _ (o : Result ℕ Why) (room' : List ℕ) (told : (fs : List Font) (g : Font) → StoredFont limit held font fs g room o room')
         (kept : length room' ≡ length room) where
       answered : WroteFonts (stored limit l.state) room o room'
       answered = told l.state.table l.state.font l.size front l.same
 
       -- a refusal at the token's slice
-      module _ (why : Why) {r : Outcome} (y : r ≡ Refused (refusal_at why (slice_at ws))) where
+      module _ (why : Why) {r : Result ℕ Refusal} (y : r ≡ Err (refusal_at why (slice_at ws))) where
         refused-here : fonts_from limit (refused (refusal_at why (slice_at ws))) (tokens_all src (n - 1) (rest ws token_words))
             ≡ fonts_from limit (found no_fonts) (tokens_all src count tokens)
             → ReadFonts (fonts (table_limit font_words (length room₀)) (tokens_all src count tokens)) room₀ r room'
         refused-here t = rw y (stopped (refusal_at why (slice_at ws)) (tokens_all src (n - 1) (rest ws token_words)) room' t)
 
-        pub loop-full : (g : Row) → e ≡ Store g → o ≡ Stopped why
+        pub loop-full : (g : Row) → e ≡ Store g → o ≡ Err why
             → ReadFonts (fonts (table_limit font_words (length room₀)) (tokens_all src count tokens)) room₀ r room'
         loop-full g x u = refused-here (go (stored limit l.state) (rw u at answered) (rw x at turned))
           where
-            go : (z : Fate Fonts) → WroteFonts z room (Stopped why) room'
+            go : (z : Fate Fonts) → WroteFonts z room (Err why) room'
                 → fonts_from limit (found_at (slice_at ws) (then_font (font_after src i l.state.font) z)) (tokens_all src (n - 1) (rest ws token_words))
                 ≡ fonts_from limit (found no_fonts) (tokens_all src count tokens)
                 → fonts_from limit (refused (refusal_at why (slice_at ws))) (tokens_all src (n - 1) (rest ws token_words))
                 ≡ fonts_from limit (found no_fonts) (tokens_all src count tokens)
-            go (becomes s) v t = absurd (name-apart.apart (sym v.0))
+            go (becomes s) v t = absurd (ok_err (sym v.0))
             go (fails w) v t = let d : why ≡ w = cc in rw d t
 
         pub loop-unnumbered : e ≡ Unnumbered → why ≡ unnumbered o
@@ -323,16 +318,16 @@ module _ {src tokens : List ℕ} {count : ℕ} {room₀ : List ℕ} {limit : ℕ
             go (becomes s) v t = let d : why ≡ FontNumber = u ∙ ap unnumbered v.0 in rw d t
             go (fails w) v t = let d : why ≡ w = u ∙ ap unnumbered v in rw d t
 
-      pub loop-store : (g : Row) → e ≡ Store g → (m : ℕ) → o ≡ Up m → Loop src tokens count room₀ limit room' (rest ws token_words) (n - 1) g m
+      pub loop-store : (g : Row) → e ≡ Store g → (m : ℕ) → o ≡ Ok m → Loop src tokens count room₀ limit room' (rest ws token_words) (n - 1) g m
       loop-store g x m y = go (stored limit l.state) refl (rw y at answered) (rw x at turned) (rw x at sound-after)
         where
-          go : (z : Fate Fonts) → stored limit l.state ≡ z → WroteFonts z room (Up m) room'
+          go : (z : Fate Fonts) → stored limit l.state ≡ z → WroteFonts z room (Ok m) room'
               → fonts_from limit (found_at (slice_at ws) (then_font (font_after src i l.state.font) z)) (tokens_all src (n - 1) (rest ws token_words))
               ≡ fonts_from limit (found no_fonts) (tokens_all src count tokens)
               → SoundFate limit (then_font (font_after src i l.state.font) z)
               → Loop src tokens count room₀ limit room' (rest ws token_words) (n - 1) g m
           go (becomes s) v r t u =
-              let d : m ≡ length s.table = name-apart.same m (length s.table) r.0 in
+              let d : m ≡ length s.table = ok-same m (length s.table) r.0 in
               let w : length (table_words l.state.table) ≤ length (table_words s.table) =
               (let y = stored-longer limit l.state s v in let i = length-table l.state.table in let j = length-table s.table in omega arith) in
               record {
@@ -348,4 +343,4 @@ module _ {src tokens : List ℕ} {count : ℕ} {room₀ : List ℕ} {limit : ℕ
                 laid = r.1 ∙ ap (overlaid (table_words s.table)) l.laid ∙ overlaid-again (table_words s.table) (table_words l.state.table) room₀ w;
                 left = t;
               }
-          go (fails w) v r t u = absurd (name-apart.apart r)
+          go (fails w) v r t u = absurd (ok_err r)

@@ -12,12 +12,11 @@ use Rattle.answers.specs.declared.Refusal.{Refusal}
 use Rattle.answers.specs.Answers.{Found, found, refused, Fate, becomes, fails, found_at}
 use Rattle.rooms.specs.Rooms.{table_limit}
 use Rattle.rooms.proofs.Rooms.{limit-256}
-use Rattle.tokens.specs.declared.Property.{Property}
-use Rattle.tokens.specs.declared.Property.TheVariants.{None, Value}
 use Rattle.tokens.specs.Tokens.{Shown, Token, slice_of, shown_in}
 use Rattle.fonts.specs.Rows.{Font, Fonts, no_fonts, has_key, inserted, stored, table_of, font_words}
 use Rattle.fonts.proofs.RowTables.{Ascending, Keys, ascending-insert, keys-insert, length-insert, length-kept}
 use Rattle.fonts.specs.Fonts.{named, rekeyed, font_word, font_token, next_font, fonts_from, fonts}
+use Rattle.std.specs.Prelude.{Option, Some, None}
 
 pub fonts-refused : (limit : ℕ) (r : Refusal) (ts : List Token) → fonts_from limit (refused r) ts ≡ refused r
 unfolding fonts_from
@@ -67,13 +66,13 @@ sound-stored limit s h = go (has_key s.font.key s.table) refl (ltb (length s.tab
     go false p false q = tt
 
 module _ (limit : ℕ) where
-  sound-rekeyed : (num : Property) (x : Fate Fonts) → SoundFate limit x → SoundFate limit (rekeyed num x)
+  sound-rekeyed : (num : Option ℕ) (x : Fate Fonts) → SoundFate limit x → SoundFate limit (rekeyed num x)
   sound-rekeyed None (becomes s) h = tt
   sound-rekeyed None (fails why) h = tt
-  sound-rekeyed (Value v) (becomes s) h = record { few = h.few; up = h.up; keys = h.keys; key = omega arith }
-  sound-rekeyed (Value v) (fails why) h = tt
+  sound-rekeyed (Some v) (becomes s) h = record { few = h.few; up = h.up; keys = h.keys; key = omega arith }
+  sound-rekeyed (Some v) (fails why) h = tt
 
-  sound-word : (w : ℕ) (num : Property) (s : Fonts) → Sound limit s → SoundFate limit (font_word limit w num s)
+  sound-word : (w : ℕ) (num : Option ℕ) (s : Fonts) → Sound limit s → SoundFate limit (font_word limit w num s)
   unfolding font_word
   sound-word w num s h = go (eqb w 9)
     where

@@ -3,12 +3,8 @@
 use Rattle.std.specs.Prelude.{ℕ, ◌%◌, cond, List, ◌==◌}
 use Rattle.answers.specs.declared.Why.TheVariants.{FontNumber}
 use Rattle.answers.specs.declared.Why.{Why}
-use Rattle.answers.specs.declared.Written.{Written}
-use Rattle.answers.specs.declared.Written.TheVariants.{Done, Refused}
 use Rattle.classes.specs.declared.Class.TheVariants.{Semicolon}
 use Rattle.classes.specs.Bytes.{in_class, body}
-use Rattle.tokens.specs.declared.Property.{Property}
-use Rattle.tokens.specs.declared.Property.TheVariants.{None, Value}
 use Rattle.tokens.specs.declared.item.Item.{Item}
 use Rattle.tokens.specs.declared.item.Item.TheVariants.{Text, Opening, Closing, LineBreak, Ignorable, Word, Unknown, Symbol}
 use Rattle.tokens.specs.Items.{part}
@@ -16,6 +12,7 @@ use Rattle.fonts.specs.declared.rows.Font.{Font as Row}
 use Rattle.fonts.specs.declared.Effect.{Effect}
 use Rattle.fonts.specs.declared.Effect.TheVariants.{Set, Store, Unnumbered}
 use Rattle.tokens.specs.WordNumbers as words
+use Rattle.std.specs.Prelude.{Result, Ok, Err, Option, Some, None}
 
 -- "ending `;`s dropped", "place 0 if empty"
 unfoldable pub named_row : Row → ℕ → List ℕ → Row
@@ -24,12 +21,12 @@ named_row f p bs =
     record { key = f.key; place = cond (n == 0) 0 p; length = n }
 
 -- "At `\f` store .., then the key is the number modulo 65,536"
-abbrev pub numbered : Property → Row → Effect
+abbrev pub numbered : Option ℕ → Row → Effect
 numbered None f = Unnumbered
-numbered (Value v) f = Store (record { key = v % 65536; place = f.place; length = f.length })
+numbered (Some v) f = Store (record { key = v % 65536; place = f.place; length = f.length })
 
 -- `f` is number 9
-abbrev pub word_effect : ℕ → Property → Row → Effect
+abbrev pub word_effect : ℕ → Option ℕ → Row → Effect
 word_effect w num f = cond (w == words.font_number) (numbered num f) (Set f)
 
 -- a token; "Each closing bracket stores."
@@ -44,6 +41,6 @@ effect_of src (Unknown p n num) f = Set f
 effect_of src (Symbol b num) f = Set f
 
 -- 11, unless the store was refused
-abbrev pub unnumbered : Written → Why
-unnumbered (Done n) = FontNumber
-unnumbered (Refused why) = why
+abbrev pub unnumbered : Result ℕ Why → Why
+unnumbered (Ok n) = FontNumber
+unnumbered (Err why) = why

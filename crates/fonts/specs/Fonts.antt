@@ -4,11 +4,10 @@ use Rattle.answers.specs.declared.Why.TheVariants.{FontNumber}
 use Rattle.answers.specs.Answers.{Found, found, refused, Fate, becomes, fails, found_at}
 use Rattle.classes.specs.declared.Class.TheVariants.{Semicolon}
 use Rattle.classes.specs.Bytes.{in_class, body}
-use Rattle.tokens.specs.declared.Property.{Property}
-use Rattle.tokens.specs.declared.Property.TheVariants.{None, Value}
 use Rattle.tokens.specs.Tokens.{Shown, Token, slice_of, shown_in}
 use Rattle.fonts.specs.Rows.{Font, Fonts, no_fonts, stored, table_of}
 use Rattle.tokens.specs.WordNumbers as words
+use Rattle.std.specs.Prelude.{Option, Some, None}
 
 -- "Text replaces the name, ending `;`s dropped.", "place 0 if empty"
 unfoldable pub named : Font → ℕ → List ℕ → Font
@@ -22,13 +21,13 @@ keyed f v = record { key = v % 65536; place = f.place; name = f.name }
 
 -- "At `\f` store .., then the key is the number"; 11: "`\f` without a number". The store comes first, as in the crate, and so
 -- does its refusal
-abbrev pub rekeyed : Property → Fate Fonts → Fate Fonts
+abbrev pub rekeyed : Option ℕ → Fate Fonts → Fate Fonts
 rekeyed num (fails why) = fails why
 rekeyed None (becomes s) = fails FontNumber
-rekeyed (Value v) (becomes s) = becomes (record { table = s.table; font = keyed s.font v })
+rekeyed (Some v) (becomes s) = becomes (record { table = s.table; font = keyed s.font v })
 
 -- a word: `f` is number 9
-unfoldable pub font_word : ℕ → ℕ → Property → Fonts → Fate Fonts
+unfoldable pub font_word : ℕ → ℕ → Option ℕ → Fonts → Fate Fonts
 font_word limit w num s = cond (w == words.font_number) (rekeyed num (stored limit s)) (becomes s)
 
 -- what a token of the group shows; "Each closing bracket stores. Nothing is reset between fonts."

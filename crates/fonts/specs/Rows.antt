@@ -2,13 +2,12 @@
 -- keys that ascend, where a key stands, records that move on by one. Assumes nothing: these are definitions.
 use Rattle.std.specs.Prelude.{◌≡◌, ℕ, ◌+◌, ◌*◌, ◌<◌, ◌≤◌, Bool, false, cond, ◌||◌, List, [], ◌∷◌, ◌++◌, length, take, drop, ◌==◌, nat_lt, slice_index, slice_range}
 use Rattle.answers.specs.declared.Why.TheVariants.{FontRoom}
-use Rattle.answers.specs.declared.Outcome.{Outcome}
-use Rattle.answers.specs.declared.Outcome.TheVariants.{Done, Refused}
-use Rattle.answers.specs.declared.Written.{Written}
-use Rattle.answers.specs.declared.Written.TheVariants.{Done as Up, Refused as Stopped}
 use Rattle.answers.specs.Answers.{Found, found, refused, Fate, becomes, fails}
 use Rattle.rooms.specs.Rooms.{overlaid}
 use Rattle.fonts.specs.declared.rows.Font.{Font as Row}
+use Rattle.std.specs.Prelude.{Result, Ok, Err}
+use Rattle.answers.specs.declared.Why.{Why}
+use Rattle.answers.specs.declared.Refusal.{Refusal}
 
 -- a font: its key, its name, and the source place of that
 pub record Font : Type 0 where
@@ -69,9 +68,9 @@ InFront ws room = take (length ws) room ≡ ws
 
 -- what a function that reads a font table into a room answers, and the room that it leaves: the records over what stood there. After a
 -- refusal `reader::read` clears the room
-abbrev pub ReadFonts : Found (List Font) → List ℕ → Outcome → List ℕ → Type 0
-ReadFonts (found fs) room r room' = (r ≡ Done (length fs)) × (room' ≡ overlaid (table_words fs) room)
-ReadFonts (refused q) room r room' = r ≡ Refused q
+abbrev pub ReadFonts : Found (List Font) → List ℕ → Result ℕ Refusal → List ℕ → Type 0
+ReadFonts (found fs) room r room' = (r ≡ Ok (length fs)) × (room' ≡ overlaid (table_words fs) room)
+ReadFonts (refused q) room r room' = r ≡ Err q
 
 -- a font as the code holds it: the length of its name, not the name
 abbrev pub row : Font → Row
@@ -103,11 +102,11 @@ unfoldable pub shifted : ℕ → ℕ → List ℕ → List ℕ
 shifted from to room = take (from + font_words) room ++ (slice_range room from to ++ drop (to + font_words) room)
 
 -- what a function that stores a font answers, and the room that it leaves
-abbrev pub WroteFonts : Fate Fonts → List ℕ → Written → List ℕ → Type 0
-WroteFonts (becomes s) room r room' = (r ≡ Up (length s.table)) × (room' ≡ overlaid (table_words s.table) room)
-WroteFonts (fails why) room r room' = r ≡ Stopped why
+abbrev pub WroteFonts : Fate Fonts → List ℕ → Result ℕ Why → List ℕ → Type 0
+WroteFonts (becomes s) room r room' = (r ≡ Ok (length s.table)) × (room' ≡ overlaid (table_words s.table) room)
+WroteFonts (fails why) room r room' = r ≡ Err why
 
 -- the same, if the room has a table of n fonts in front
-abbrev pub StoredFont : ℕ → ℕ → Row → List Font → Font → List ℕ → Written → List ℕ → Type 0
+abbrev pub StoredFont : ℕ → ℕ → Row → List Font → Font → List ℕ → Result ℕ Why → List ℕ → Type 0
 StoredFont limit n f fs g room r room' =
     length fs ≡ n → InFront (table_words fs) room → f ≡ row g → WroteFonts (stored limit (record { table = fs; font = g })) room r room'

@@ -11,7 +11,6 @@
 mod rows;
 
 ghost use Rattle.std.specs.Prelude.{◌≡◌, ◌*◌, ◌%◌, ◌≤◌, length};
-ghost use Rattle.answers.specs.declared.Outcome.TheVariants.{Refused};
 ghost use Rattle.answers.specs.Answers.{refusal_at};
 ghost use Rattle.classes.specs.declared.Class.TheVariants.{Semicolon};
 ghost use Rattle.classes.specs.Bytes.{in_class, body};
@@ -23,10 +22,10 @@ ghost use Rattle.fonts.specs.Effects.{named_row, numbered as numbered_of, word_e
 ghost use Rattle.tokens.specs.Tokens.{token_words};
 
 use crate::rows::{Font, store};
-use answers::{Outcome, Refusal, Why, Written};
+use answers::{Refusal, Why};
 use classes::{Class, body_of};
 use tokens::item::{Item, item_at, part, slice_at};
-use tokens::{Property, TOKEN_WORDS, words};
+use tokens::{TOKEN_WORDS, words};
 
 // How many words a font's record has.
 pub const FONT_WORDS: usize = 3;
@@ -89,12 +88,12 @@ fn named(source: &[u8], place: u32, count: u32, f: Font) -> Font
 }
 
 // `\f` stores, and then needs a number.
-fn numbered(number: Property, f: Font) -> Effect
+fn numbered(number: Option<u32>, f: Font) -> Effect
     ensures { result ≡ numbered_of number f }
 {
     match number {
-        Property::None => Effect::Unnumbered,
-        Property::Value(v) => {
+        None => Effect::Unnumbered,
+        Some(v) => {
             let key = key_of(v);
             Effect::Store(Font {
                 key: key,
@@ -106,7 +105,7 @@ fn numbered(number: Property, f: Font) -> Effect
 }
 
 // `f` is word 9; other words say nothing.
-fn word_effect(w: u32, number: Property, f: Font) -> Effect
+fn word_effect(w: u32, number: Option<u32>, f: Font) -> Effect
     ensures { result ≡ word_effect w number f }
 {
     if w == words::FONT_NUMBER {
@@ -135,26 +134,31 @@ fn step(source: &[u8], i: Item, f: Font) -> Effect
 }
 
 // Why `\f` without a number is refused, after the store: the store's refusal comes first.
-fn unnumbered(o: Written) -> Why
+fn unnumbered(o: Result<usize, Why>) -> Why
     ensures { result ≡ unnumbered_of o }
 {
     match o {
-        Written::Done(_) => Why::FontNumber,
-        Written::Refused(why) => why,
+        Ok(_) => Why::FontNumber,
+        Err(why) => why,
     }
 }
 
 // A refusal at the first token of a slice of words: it has the place of that token's slice (02, A4).
-fn refuse(here: &[u32], why: Why) -> Outcome
+fn refuse(here: &[u32], why: Why) -> Result<usize, Refusal>
     requires { token_words ≤ length here.now }
-    ensures { result ≡ Refused (refusal_at why (slice_at here.now)) }
+    ensures { result ≡ Err (refusal_at why (slice_at here.now)) }
 {
     let place = slice_at(here);
-    Outcome::Refused(Refusal::at(why, place))
+    Err(Refusal::at(why, place))
 }
 
 // Reads the table of a group's tokens, which starts anew.
-pub fn read_fonts(source: &[u8], tokens: &[u32], count: usize, room: &mut [u32]) -> Outcome
+pub fn read_fonts(
+    source: &[u8],
+    tokens: &[u32],
+    count: usize,
+    room: &mut [u32],
+) -> Result<usize, Refusal>
     requires { (count * token_words ≤ length tokens.now) × (count ≤ 65536) }
     ensures { ReadFonts (fonts_of (table_limit font_words (length room.old)) (tokens_all source.now count tokens.now)) room.old result room.new }
 {
@@ -180,11 +184,11 @@ pub fn read_fonts(source: &[u8], tokens: &[u32], count: usize, room: &mut [u32])
             Effect::Store(g) => {
                 let o = store(room, held, font, limit);
                 match o {
-                    Written::Done(m) => {
+                    Ok(m) => {
                         held = m;
                         font = g;
                     }
-                    Written::Refused(why) => {
+                    Err(why) => {
                         return refuse(here, why);
                     }
                 }
@@ -195,5 +199,5 @@ pub fn read_fonts(source: &[u8], tokens: &[u32], count: usize, room: &mut [u32])
             }
         }
     }
-    Outcome::Done(held)
+    Ok(held)
 }

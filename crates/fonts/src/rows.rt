@@ -8,7 +8,7 @@ ghost use Rattle.std.proofs.lemmas.List.Edits.{sets};
 ghost use Rattle.fonts.specs.Rows.{Font as Named, row_words, Ascends, Rank, stands as stands_of, shifted, StoredFont, font_words};
 
 use crate::FONT_WORDS;
-use answers::{Why, Written};
+use answers::Why;
 
 #[derive(Clone, Copy)]
 pub struct Font {
@@ -77,7 +77,7 @@ fn put(room: &mut [u32], at: usize, f: Font)
 
 // Puts the current font among the n records of a table: over the record of the same key, or in its place, where the later ones
 // move on by one; 17 if that would be a record too many. The answer is how many records there are then.
-pub fn store(room: &mut [u32], n: usize, f: Font, limit: usize) -> Written
+pub fn store(room: &mut [u32], n: usize, f: Font, limit: usize) -> Result<usize, Why>
     requires { (n ≤ limit) × (limit ≤ 256) × (limit * font_words ≤ length room.old) × Ascends n room.old }
     ensures { (fs : List Named) (g : Named) → StoredFont limit n f fs g room.old result room.new }
 {
@@ -86,13 +86,13 @@ pub fn store(room: &mut [u32], n: usize, f: Font, limit: usize) -> Written
     let at = r * FONT_WORDS;
     if stands(room, n, r, key) {
         put(room, at, f);
-        return Written::Done(n);
+        return Ok(n);
     }
     if limit <= n {
-        return Written::Refused(Why::FontRoom);
+        return Err(Why::FontRoom);
     }
     let end = n * FONT_WORDS;
     shift(room, at, end);
     put(room, at, f);
-    Written::Done(n + 1)
+    Ok(n + 1)
 }

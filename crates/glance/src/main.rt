@@ -8,8 +8,7 @@ use blocks::BLOCK_WORDS;
 use colours::COLOUR_WORDS;
 use fonts::FONT_WORDS;
 use input::fill;
-use lines::number;
-use parser::Answer;
+use parser::Counts;
 use reader::read;
 use readings::Reading;
 use std::io;
@@ -30,20 +29,19 @@ const BLOCK_ROOM: usize = 32768 * BLOCK_WORDS;
 
 const TEXT_BYTES: usize = 196608;
 
-// Two numbers of at most twenty digits, and a byte behind each.
-const LINE_BYTES: usize = 42;
-
 fn refuse(err: &impl Print, refusal: Refusal) -> io::Result<()> {
-    let mut line = [0u8; LINE_BYTES];
-    let told = number(refusal.number() as u64, b' ', &mut line, 0);
-    let end = number(refusal.place as u64, b'\n', &mut line, told);
-    err.write_all(&line[..end])
+    println!(err; "{} {}", refusal.number(), refusal.place)
 }
 
-fn say(rt: &impl Print, err: &impl Print, answer: Answer, text: &[u8]) -> io::Result<()> {
+fn say(
+    rt: &impl Print,
+    err: &impl Print,
+    answer: Result<Counts, Refusal>,
+    text: &[u8],
+) -> io::Result<()> {
     match answer {
-        Answer::Refuses(refusal) => refuse(err, refusal),
-        Answer::Read(counts) => {
+        Err(refusal) => refuse(err, refusal),
+        Ok(counts) => {
             let count = counts.text;
             if count <= text.len() {
                 rt.write_all(&text[..count])?;

@@ -6,7 +6,6 @@ use Rattle.answers.specs.declared.Why.TheVariants.{TableLineBreak, FontRoom}
 use Rattle.answers.specs.Answers.{refusal, refusal_at, Found, found, refused}
 use Rattle.classes.specs.Bytes.{body}
 use Rattle.classes.specs.Texts.{bytes_of}
-use Rattle.tokens.specs.declared.Property.TheVariants.{None, Value}
 use Rattle.tokens.specs.Tokens.{Shown, Token, token, shown_by}
 use Rattle.fonts.specs.Rows.{Font, has_key, inserted, stored}
 use Rattle.fonts.specs.Fonts.{named, font_word, font_token, fonts_from, fonts}
@@ -14,6 +13,7 @@ use Rattle.colours.specs.Colours.{colours, colours_from, colour_token, colour_wo
 use Rattle.walk.specs.Walk.{aim_from, extent, table_word, walk_from, walk}
 use Rattle.header.specs.Entering.{Tables}
 use Rattle.header.specs.Header.{no_tables, tables_from, tables}
+use Rattle.std.specs.Prelude.{Some, None}
 
 -- a token's slice stands at its number in the list
 lined : ℕ → List Shown → List Token
@@ -42,10 +42,10 @@ abbrev colortbl : Shown
 colortbl = Shown.word 5 None
 
 abbrev f : ℕ → Shown
-f v = Shown.word 9 (Value v)
+f v = Shown.word 9 (Some v)
 
 abbrev blue : ℕ → Shown
-blue v = Shown.word 39 (Value v)
+blue v = Shown.word 39 (Some v)
 
 abbrev text : Shown
 text = Shown.text 7 (bytes_of "A;")
@@ -91,7 +91,7 @@ late-colours : tables 256 256 (walk (lined 0 (begin ∷ break ∷ break ∷ colo
 unfolding lined shown_by tables_from walk_from aim_from extent table_word
 late-colours = refl
 
-late-numbered : tables 256 256 (walk (lined 0 (begin ∷ break ∷ Shown.word 4 (Value 1) ∷ end ∷ []))) ≡ found no_tables
+late-numbered : tables 256 256 (walk (lined 0 (begin ∷ break ∷ Shown.word 4 (Some 1) ∷ end ∷ []))) ≡ found no_tables
 unfolding lined shown_by tables_from walk_from aim_from
 late-numbered = refl
 
@@ -102,7 +102,7 @@ unfolding lined shown_by tables_from walk_from aim_from extent
 hidden-tables = refl
 
 -- `{\stylesheet1{\colortbl\blue3}}{\*}{\fonttbl}`
-shown-tables : tables 256 256 (walk (lined 0 (begin ∷ Shown.word 7 (Value 1) ∷ begin ∷ colortbl ∷ blue 3 ∷ end ∷ end ∷ begin ∷ star ∷ end ∷ begin ∷ fonttbl ∷ end ∷ [])))
+shown-tables : tables 256 256 (walk (lined 0 (begin ∷ Shown.word 7 (Some 1) ∷ begin ∷ colortbl ∷ blue 3 ∷ end ∷ end ∷ begin ∷ star ∷ end ∷ begin ∷ fonttbl ∷ end ∷ [])))
     ≡ have (font 0 0 [] ∷ []) (3 ∷ [])
 unfolding lined shown_by tables_from walk_from aim_from extent fonts fonts_from font_token font_word stored inserted has_key colours colours_from colour_token colour_word_of
 shown-tables = refl

@@ -1,5 +1,5 @@
 -- A group, by what its bracket begins.
---     opens-yes, -no                        the test of a token's kind
+--     opens-kind                            the test of a token's kind
 --     late-fonts, fonts-read, fonts-bad     a font table: refused by 10, read, refused by its own
 --     late-colours, colours-read, -bad      a colour table, the same
 --     enter-nothing, -hide, -fonts, -colours   what the bracket begins, one law for each
@@ -9,16 +9,13 @@ use mathlib.Core.List.{List}
 use mathlib.Core.Bool.{Bool, true, false, cond}
 use Prim.Native.Nat.{ℕ, ◌*◌, ◌≤◌}
 use native.Mathlib.Omega.{arith}
-use borrow.Author.Tests.{ne_eqb}
+use borrow.Author.Tests.{eqb-true, eqb-false, ne_eqb}
 use lib.Dec.{eqb}
 use lib.ListN.{length, get_or, take}
 use Rattle.answers.specs.declared.Why.TheVariants.{TableLineBreak}
 use Rattle.answers.specs.declared.Refusal.{Refusal}
-use Rattle.answers.specs.declared.Outcome.{Outcome}
-use Rattle.answers.specs.declared.Outcome.TheVariants.{Done, Refused}
 use Rattle.answers.specs.Answers.{refusal_at, Found, found, refused}
-use Rattle.rooms.proofs.Streams.{done_refused}
-use Rattle.tokens.specs.declared.Property.{Property}
+use Rattle.rooms.proofs.Streams.{ok_err}
 use Rattle.tokens.specs.Tokens.{Token, token_words, shown_by}
 use Rattle.tokens.specs.declared.item.Item.TheVariants.{Text, Closing, LineBreak, Ignorable, Word, Unknown, Symbol}
 use Rattle.tokens.specs.Items.{property_of, item_of, item_at, shown_all, tokens_all}
@@ -32,22 +29,22 @@ use Rattle.walk.specs.declared.Aim.TheVariants.{Nothing, Hide, Fonts, Colours}
 use Rattle.walk.specs.Walk.{aim, extent, group, table_word, font_table, colour_table}
 use Rattle.walk.proofs.Walk.{group-word}
 use Rattle.header.specs.declared.group.Entered.{Entered}
-use Rattle.header.specs.declared.group.Entered.TheVariants.{On, Bad}
-use Rattle.header.specs.Entering.{Tables, with_fonts, with_colours, read_step}
+use Rattle.header.specs.Entering.{Tables, with_fonts, with_colours, read_step, onto}
 use Rattle.header.specs.Entering.{opens, Holds, passed, FontsMet, ColoursMet, Met, Enters}
+use Rattle.std.specs.Prelude.{Result, Ok, Err, Option}
 
 module _ (ws : List ℕ) where
-  pub opens-yes : get_or ws 0 0 ≡ 1 → true ≡ opens (item_at ws)
+  opens-yes : get_or ws 0 0 ≡ 1 → true ≡ opens (item_at ws)
   opens-yes e = ap opens (item-opening ws e)
 
-  pub opens-no : (get_or ws 0 0 ≡ 1 → ⊥) → false ≡ opens (item_at ws)
+  opens-no : (get_or ws 0 0 ≡ 1 → ⊥) → false ≡ opens (item_at ws)
   unfolding item_at item_of
   opens-no h =
       rw (ne_eqb _ 1 h)
       (go (eqb (get_or ws 0 0) 2) (eqb (get_or ws 0 0) 3) (eqb (get_or ws 0 0) 4) (eqb (get_or ws 0 0) 5) (eqb (get_or ws 1 0) 49) (eqb (get_or ws 0 0) 6)
       (property_of (get_or ws 2 0) (get_or ws 3 0)))
     where
-      go : (b c d e u f : Bool) (num : Property)
+      go : (b c d e u f : Bool) (num : Option ℕ)
           → false ≡ opens (cond b Closing (cond c LineBreak (cond d Ignorable
           (cond e (cond u (Unknown (get_or ws 4 0) (get_or ws 5 0) num) (Word (get_or ws 1 0) num)) (cond f (Symbol (get_or ws 1 0) num) (Text (get_or ws 4 0) (get_or ws 5 0)))))))
       go true c d e u f num = refl
@@ -58,10 +55,17 @@ module _ (ws : List ℕ) where
       go false false false false u true num = refl
       go false false false false u false num = refl
 
-done-done : (n m : ℕ) → Done n ≡ Done m → n ≡ m
+  pub opens-kind : eqb (get_or ws 0 0) 1 ≡ opens (item_at ws)
+  opens-kind = go (eqb (get_or ws 0 0) 1) refl
+    where
+      go : (t : Bool) → eqb (get_or ws 0 0) 1 ≡ t → t ≡ opens (item_at ws)
+      go true e = opens-yes (eqb-true (get_or ws 0 0) 1 e)
+      go false e = opens-no (eqb-false (get_or ws 0 0) 1 e)
+
+done-done : (n m : ℕ) → ◌≡◌ {A = Result ℕ Refusal} (Ok n) (Ok m) → n ≡ m
 done-done n m e = cc
 
-refused-refused : (q r : Refusal) → Refused q ≡ Refused r → q ≡ r
+refused-refused : (q r : Refusal) → ◌≡◌ {A = Result ℕ Refusal} (Err q) (Err r) → q ≡ r
 refused-refused q r e = cc
 
 -- how long a group is, by what its tokens show
@@ -74,51 +78,51 @@ group-words src t n {h} e l = sym (tokens-take src h n t l) ∙ ap (λ (k : ℕ)
 
 module _ (src t : List ℕ) (n : ℕ) {late : Bool} (limit held : ℕ) (room : List ℕ) where
   pub late-fonts : late ≡ true → {p : ℕ} {q : Refusal} → p ≡ table_word (tokens_all src n t) → q ≡ refusal_at TableLineBreak p
-      → FontsMet late (table_word (tokens_all src n t)) (fonts limit (group (tokens_all src n t))) held (extent 1 (shown_by (tokens_all src n t))) (Bad q) room × (0 ≤ n)
-  late-fonts l d e = (rw (l, ← d) (ap Bad e), omega arith)
+      → FontsMet late (table_word (tokens_all src n t)) (fonts limit (group (tokens_all src n t))) held (extent 1 (shown_by (tokens_all src n t))) (Err q) room × (0 ≤ n)
+  late-fonts l d e = (rw (l, ← d) (ap Err e), omega arith)
 
   pub late-colours : late ≡ true → {p : ℕ} {q : Refusal} → p ≡ table_word (tokens_all src n t) → q ≡ refusal_at TableLineBreak p
-      → ColoursMet late (table_word (tokens_all src n t)) (colours limit (group (tokens_all src n t))) held (extent 1 (shown_by (tokens_all src n t))) (Bad q) room
-  late-colours l d e = rw (l, ← d) (ap Bad e)
+      → ColoursMet late (table_word (tokens_all src n t)) (colours limit (group (tokens_all src n t))) held (extent 1 (shown_by (tokens_all src n t))) (Err q) room
+  late-colours l d e = rw (l, ← d) (ap Err e)
 
-  module _ (l : late ≡ false) {h : ℕ} (a : h ≡ extent 1 (shown_all src n t)) (b : h ≤ n) (o : Outcome) where
+  module _ (l : late ≡ false) {h : ℕ} (a : h ≡ extent 1 (shown_all src n t)) (b : h ≤ n) (o : Result ℕ Refusal) where
     module _ (room₀ : List ℕ) (r : ReadFonts (fonts limit (tokens_all src h (take (h * token_words) t))) room₀ o room) where
       fonts-told : ReadFonts (fonts limit (group (tokens_all src n t))) room₀ o room
       fonts-told = rw (← (group-words src t n a b)) r
 
-      pub fonts-read : {k : ℕ} → o ≡ Done k
-          → FontsMet late (table_word (tokens_all src n t)) (fonts limit (group (tokens_all src n t))) held (extent 1 (shown_by (tokens_all src n t))) (On k held h) room × (h ≤ n)
+      pub fonts-read : {k : ℕ} → o ≡ Ok k
+          → FontsMet late (table_word (tokens_all src n t)) (fonts limit (group (tokens_all src n t))) held (extent 1 (shown_by (tokens_all src n t))) (onto k held h) room × (h ≤ n)
       fonts-read {k} e = (rw l (go (fonts limit (group (tokens_all src n t))) (rw e at fonts-told)), b)
         where
-          go : (x : Found (List Font)) → ReadFonts x room₀ (Done k) room → FontsMet false (table_word (tokens_all src n t)) x held (extent 1 (shown_by (tokens_all src n t))) (On k held h) room
+          go : (x : Found (List Font)) → ReadFonts x room₀ (Ok k) room → FontsMet false (table_word (tokens_all src n t)) x held (extent 1 (shown_by (tokens_all src n t))) (onto k held h) room
           go (found fs) y = let d : k ≡ length fs = done-done k (length fs) y.0 in (rw (d, ← (group-length src t n a)) refl, rw y.1 (overlaid-front (table_words fs) room₀))
-          go (refused q) y = absurd (done_refused y)
+          go (refused q) y = absurd (ok_err y)
 
-      pub fonts-bad : {q : Refusal} → o ≡ Refused q
-          → FontsMet late (table_word (tokens_all src n t)) (fonts limit (group (tokens_all src n t))) held (extent 1 (shown_by (tokens_all src n t))) (Bad q) room × (0 ≤ n)
+      pub fonts-bad : {q : Refusal} → o ≡ Err q
+          → FontsMet late (table_word (tokens_all src n t)) (fonts limit (group (tokens_all src n t))) held (extent 1 (shown_by (tokens_all src n t))) (Err q) room × (0 ≤ n)
       fonts-bad {q} e = (rw l (go (fonts limit (group (tokens_all src n t))) (rw e at fonts-told)), omega arith)
         where
-          go : (x : Found (List Font)) → ReadFonts x room₀ (Refused q) room → FontsMet false (table_word (tokens_all src n t)) x held (extent 1 (shown_by (tokens_all src n t))) (Bad q) room
-          go (found fs) y = absurd (done_refused (sym y.0))
-          go (refused p) y = ap Bad (refused-refused q p y)
+          go : (x : Found (List Font)) → ReadFonts x room₀ (Err q) room → FontsMet false (table_word (tokens_all src n t)) x held (extent 1 (shown_by (tokens_all src n t))) (Err q) room
+          go (found fs) y = absurd (ok_err (sym y.0))
+          go (refused p) y = ap Err (refused-refused q p y)
 
     module _ (room₀ : List ℕ) (r : ReadColours (colours limit (tokens_all src h (take (h * token_words) t))) room₀ o room) where
       colours-told : ReadColours (colours limit (group (tokens_all src n t))) room₀ o room
       colours-told = rw (← (group-words src t n a b)) r
 
-      pub colours-read : {k : ℕ} → o ≡ Done k → ColoursMet late (table_word (tokens_all src n t)) (colours limit (group (tokens_all src n t))) held (extent 1 (shown_by (tokens_all src n t))) (On held k h) room
+      pub colours-read : {k : ℕ} → o ≡ Ok k → ColoursMet late (table_word (tokens_all src n t)) (colours limit (group (tokens_all src n t))) held (extent 1 (shown_by (tokens_all src n t))) (onto held k h) room
       colours-read {k} e = rw l (go (colours limit (group (tokens_all src n t))) (rw e at colours-told))
         where
-          go : (x : Found (List ℕ)) → ReadColours x room₀ (Done k) room → ColoursMet false (table_word (tokens_all src n t)) x held (extent 1 (shown_by (tokens_all src n t))) (On held k h) room
+          go : (x : Found (List ℕ)) → ReadColours x room₀ (Ok k) room → ColoursMet false (table_word (tokens_all src n t)) x held (extent 1 (shown_by (tokens_all src n t))) (onto held k h) room
           go (found cs) y = let d : k ≡ length cs = done-done k (length cs) y.0 in (rw (d, ← (group-length src t n a)) refl, rw y.1 (overlaid-front cs room₀))
-          go (refused q) y = absurd (done_refused y)
+          go (refused q) y = absurd (ok_err y)
 
-      pub colours-bad : {q : Refusal} → o ≡ Refused q → ColoursMet late (table_word (tokens_all src n t)) (colours limit (group (tokens_all src n t))) held (extent 1 (shown_by (tokens_all src n t))) (Bad q) room
+      pub colours-bad : {q : Refusal} → o ≡ Err q → ColoursMet late (table_word (tokens_all src n t)) (colours limit (group (tokens_all src n t))) held (extent 1 (shown_by (tokens_all src n t))) (Err q) room
       colours-bad {q} e = rw l (go (colours limit (group (tokens_all src n t))) (rw e at colours-told))
         where
-          go : (x : Found (List ℕ)) → ReadColours x room₀ (Refused q) room → ColoursMet false (table_word (tokens_all src n t)) x held (extent 1 (shown_by (tokens_all src n t))) (Bad q) room
-          go (found cs) y = absurd (done_refused (sym y.0))
-          go (refused p) y = ap Bad (refused-refused q p y)
+          go : (x : Found (List ℕ)) → ReadColours x room₀ (Err q) room → ColoursMet false (table_word (tokens_all src n t)) x held (extent 1 (shown_by (tokens_all src n t))) (Err q) room
+          go (found cs) y = absurd (ok_err (sym y.0))
+          go (refused p) y = ap Err (refused-refused q p y)
 
 -- the tokens behind a bracket, and the rooms before and after
 module _ (f c : ℕ) (src ws : List ℕ) (n nf nc : ℕ) (fs cs : List ℕ) {a : Aim} (q : a ≡ aim (shown_all src n ws)) where
@@ -128,16 +132,16 @@ module _ (f c : ℕ) (src ws : List ℕ) (n nf nc : ℕ) (fs cs : List ℕ) {a :
   e : a ≡ aim (shown_by ts)
   e = q ∙ ap aim (sym (tokens-shown src n ws))
 
-  same_tables : (h : ℕ) (s : Tables) → Holds s nf nc fs cs → Met (found s) h (On nf nc h) fs cs
+  same_tables : (h : ℕ) (s : Tables) → Holds s nf nc fs cs → Met (found s) h (onto nf nc h) fs cs
   same_tables h s k = (rw (k.font_count, k.colour_count) refl, k.font_front, k.colour_front)
 
-  pub enter-nothing : a ≡ Nothing → Enters f c ts nf nc fs cs (On nf nc 0) fs cs × (0 ≤ n)
+  pub enter-nothing : a ≡ Nothing → Enters f c ts nf nc fs cs (onto nf nc 0) fs cs × (0 ≤ n)
   enter-nothing d = ((λ t s k. rw (sym e ∙ d) (same_tables 0 s k)), omega arith)
 
-  pub enter-hide : a ≡ Hide → {h : ℕ} → h ≡ extent 1 (shown_all src n ws) → h ≤ n → Enters f c ts nf nc fs cs (On nf nc h) fs cs × (h ≤ n)
+  pub enter-hide : a ≡ Hide → {h : ℕ} → h ≡ extent 1 (shown_all src n ws) → h ≤ n → Enters f c ts nf nc fs cs (onto nf nc h) fs cs × (h ≤ n)
   enter-hide d {h} x l = ((λ t s k. rw (sym e ∙ d, ← (group-length src ws n x)) (same_tables h s k)), l)
 
-  module _ {late : Bool} (r : Entered) where
+  module _ {late : Bool} (r : Result Entered Refusal) where
     pub enter-fonts : (fs' : List ℕ) → a ≡ Fonts late → FontsMet late (table_word ts) (fonts f (group ts)) nc (extent 1 (shown_by ts)) r fs' × (passed r ≤ n)
         → Enters f c ts nf nc fs cs r fs' cs × (passed r ≤ n)
     enter-fonts fs' d m = ((λ t s k. rw (sym e ∙ d) (by-late late s k m.0)), m.1)

@@ -20,14 +20,14 @@ use Rattle.tokens.proofs.Items.{rest, words-less, tokens_none, tokens-some, toke
 use Rattle.fonts.specs.Rows.{table_words, font_words}
 use Rattle.walk.specs.Walk.{aim, entered, entered_length, step_of, passed_by, walk}
 use Rattle.walk.proofs.Walk.{walk_end, walk-one}
-use Rattle.header.specs.declared.Header.TheVariants.{Read, Refused}
 use Rattle.header.specs.declared.group.Entered.{Entered}
-use Rattle.header.specs.declared.group.Entered.TheVariants.{On, Bad}
-use Rattle.header.specs.Entering.{Tables, read_step}
-use Rattle.header.specs.Header.{no_tables, tables_from, tables, InFronts}
+use Rattle.header.specs.Entering.{Tables, read_step, onto}
+use Rattle.header.specs.Header.{no_tables, tables_from, tables, InFronts, counted}
 use Rattle.header.specs.Entering.{opens, Holds, passed, Met, Enters}
 use Rattle.header.proofs.Tables.{tables-refused}
 use Rattle.colours.specs.Colours.{colour_words}
+use Rattle.std.specs.Prelude.{Result, Ok, Err}
+use Rattle.rooms.proofs.Streams.{ok-same}
 
 -- what the whole letter gives
 abbrev whole : List ℕ → List ℕ → ℕ → List ℕ → List ℕ → Found Tables
@@ -101,30 +101,30 @@ passes f c s src t ts (Word w num) e = refl
 passes f c s src t ts (Unknown p n num) e = refl
 passes f c s src t ts (Symbol b num) e = refl
 
-on-bad : {a b h : ℕ} {q : Refusal} → On a b h ≡ Bad q → ⊥
+on-bad : {a b h : ℕ} {q : Refusal} → onto a b h ≡ Err q → ⊥
 on-bad e = let z : ◌≡◌ {A = ℕ} 0 1 = cc in omega arith
 
-bad-bad : (q r : Refusal) → Bad q ≡ Bad r → q ≡ r
+bad-bad : (q r : Refusal) → ◌≡◌ {A = Result Entered Refusal} (Err q) (Err r) → q ≡ r
 bad-bad q r e = cc
 
 -- the words of the tokens behind the first h
 words-behind : (n h : ℕ) (ws : List ℕ) → n * token_words ≤ length ws → h ≤ n → (n - h) * token_words ≤ length (rest ws (h * token_words))
 words-behind n h ws k l = simp (length-take, length-drop) (omega arith)
 
-module _ {a b h a' b' h' : ℕ} (e : On a b h ≡ On a' b' h') where
+module _ {a b h a' b' h' : ℕ} (e : onto a b h ≡ onto a' b' h') where
   on-fonts : a ≡ a'
-  on-fonts = cc
+  on-fonts = ap (λ (x : Entered). x.fonts) (ok-same _ _ e)
 
   on-colours : b ≡ b'
-  on-colours = cc
+  on-colours = ap (λ (x : Entered). x.colours) (ok-same _ _ e)
 
   on-passed : h ≡ h'
-  on-passed = cc
+  on-passed = ap (λ (x : Entered). x.passed) (ok-same _ _ e)
 
 module _ {src tokens : List ℕ} {count : ℕ} {fonts₀ colours₀ fs cs t : List ℕ} {n nf nc : ℕ}
     (w : Walking src tokens count fonts₀ colours₀ fs cs t n nf nc) where
   -- no token is left
-  pub walking-end : n ≤ 0 → InFronts (whole src tokens count fonts₀ colours₀) (Read nf nc) fs cs
+  pub walking-end : n ≤ 0 → InFronts (whole src tokens count fonts₀ colours₀) (counted nf nc) fs cs
   unfolding tables_from
   walking-end z =
       let e : found w.state ≡ whole src tokens count fonts₀ colours₀ = rw (tokens_none src n t z, walk_end) at w.left in
@@ -155,9 +155,9 @@ module _ {src tokens : List ℕ} {count : ℕ} {fonts₀ colours₀ fs cs t : Li
         }
 
     -- an opening bracket, and what entering its group answered
-    module _ (y : b ≡ true) (r : Entered) (fs' cs' : List ℕ)
+    module _ (y : b ≡ true) (r : Result Entered Refusal) (fs' cs' : List ℕ)
         (m : Enters (table_limit font_words (length fs)) (table_limit colour_words (length cs)) (behind src n t) nf nc fs cs r fs' cs' × (passed r ≤ n - 1)) where
-      module _ {f c h : ℕ} (e : r ≡ On f c h) where
+      module _ {f c h : ℕ} (e : r ≡ onto f c h) where
         pub on-within : h ≤ n - 1
         on-within = rw e at m.1
 
@@ -174,25 +174,25 @@ module _ {src tokens : List ℕ} {count : ℕ} {fonts₀ colours₀ fs cs t : Li
       answered : Met (group_step fonts₀ colours₀ (token_by src t Opening) (behind src n t) w.state) (group_length (behind src n t)) r fs' cs'
       answered = rw (w.fonts_long, w.colours_long) at (m.0 (token_by src t Opening) w.state w.holds)
 
-      pub walking-bad : {q : Refusal} → r ≡ Bad q → InFronts (whole src tokens count fonts₀ colours₀) (Refused q) fs' cs'
+      pub walking-bad : {q : Refusal} → r ≡ Err q → InFronts (whole src tokens count fonts₀ colours₀) (Err q) fs' cs'
       walking-bad {q} e = go (group_step fonts₀ colours₀ (token_by src t Opening) (behind src n t) w.state) (rw e at answered) into
         where
-          go : (x : Found Tables) → Met x (group_length (behind src n t)) (Bad q) fs' cs'
+          go : (x : Found Tables) → Met x (group_length (behind src n t)) (Err q) fs' cs'
               → onward fonts₀ colours₀ x (drop (group_length (behind src n t)) (behind src n t)) ≡ whole src tokens count fonts₀ colours₀
-              → InFronts (whole src tokens count fonts₀ colours₀) (Refused q) fs' cs'
+              → InFronts (whole src tokens count fonts₀ colours₀) (Err q) fs' cs'
           go (found s) u v = absurd (on-bad (sym u.0))
           go (refused p) u v =
               let d : refused p ≡ whole src tokens count fonts₀ colours₀ = sym (tables-refused _ _ p _) ∙ v in
-              rw (← d) (ap Refused (bad-bad q p u))
+              rw (← d) (ap Err (bad-bad q p u))
 
-      pub walking_on : length fs' ≡ length fs → length cs' ≡ length cs → {f c h : ℕ} → r ≡ On f c h
+      pub walking_on : length fs' ≡ length fs → length cs' ≡ length cs → {f c h : ℕ} → r ≡ onto f c h
           → Walking src tokens count fonts₀ colours₀ fs' cs' (rest (rest t token_words) (h * token_words)) (n - 1 - h) f c
       walking_on kf kc {f} {c} {h} e = go (group_step fonts₀ colours₀ (token_by src t Opening) (behind src n t) w.state) (rw e at answered) into
         where
           l : h ≤ n - 1
           l = on-within e
 
-          go : (x : Found Tables) → Met x (group_length (behind src n t)) (On f c h) fs' cs'
+          go : (x : Found Tables) → Met x (group_length (behind src n t)) (onto f c h) fs' cs'
               → onward fonts₀ colours₀ x (drop (group_length (behind src n t)) (behind src n t)) ≡ whole src tokens count fonts₀ colours₀
               → Walking src tokens count fonts₀ colours₀ fs' cs' (rest (rest t token_words) (h * token_words)) (n - 1 - h) f c
           go (found s) u v =

@@ -1,7 +1,7 @@
 // A group behind an opening bracket, as the header walk meets it (01, Header walk; `Parser::parse_header` in the crate): passed
 // over, or a table that becomes records in a lent room.
 //
-//   Entered   how many fonts and colours there are then, and how many tokens are passed over; or a refusal
+//   Entered   how many fonts and colours there are then, and how many tokens are passed over
 //   enter     looks at a group, and reads it if it is a table
 //
 // Each token is looked at by `aim_of` for the bracket before it, by `extent`, and once where a table is read.
@@ -15,16 +15,17 @@ ghost use Rattle.header.specs.Entering.{opens, passed, FontsMet, ColoursMet, Ent
 ghost use Rattle.tokens.specs.Tokens.{token_words, shown_by};
 ghost use Rattle.fonts.specs.Rows.{font_words};
 
-use answers::{Outcome, Refusal, Why};
+use answers::{Refusal, Why};
 use colours::read_colours;
 use fonts::read_fonts;
 use tokens::TOKEN_WORDS;
 use walk::{Aim, aim_of, extent, table_word};
 
 #[derive(Clone, Copy)]
-pub enum Entered {
-    On(usize, usize, usize),
-    Bad(Refusal),
+pub struct Entered {
+    pub fonts: usize,
+    pub colours: usize,
+    pub passed: usize,
 }
 
 // Whether the first token of a slice of words is an opening bracket.
@@ -32,11 +33,7 @@ pub fn is_opening(t: &[u32]) -> bool
     requires { token_words ≤ length t.now }
     ensures { result ≡ opens (item_at t.now) }
 {
-    let kind = t[0];
-    if kind == 1 {
-        return true;
-    }
-    false
+    t[0] == 1
 }
 
 // Reads the font table that stands behind a bracket, n tokens before the end, where there are `colours` colours.
@@ -47,39 +44,47 @@ fn font_table(
     late: bool,
     colours: usize,
     room: &mut [u32],
-) -> Entered
+) -> Result<Entered, Refusal>
     requires { (n * token_words ≤ length t.now) × (n ≤ 65536) }
     ensures { FontsMet late (table_word (tokens_all source.now n t.now)) (fonts_of (table_limit font_words (length room.old)) (group (tokens_all source.now n t.now))) colours (extent_of 1 (shown_by (tokens_all source.now n t.now))) result room.new × (passed result ≤ n) }
 {
     if late {
         let place = table_word(t, n);
-        return Entered::Bad(Refusal::at(Why::TableLineBreak, place));
+        return Err(Refusal::at(Why::TableLineBreak, place));
     }
     let h = extent(t, n);
     let words = h * TOKEN_WORDS;
-    let o = read_fonts(source, &t[..words], h, room);
-    match o {
-        Outcome::Done(k) => Entered::On(k, colours, h),
-        Outcome::Refused(refusal) => Entered::Bad(refusal),
-    }
+    let fonts = read_fonts(source, &t[..words], h, room)?;
+    Ok(Entered {
+        fonts: fonts,
+        colours: colours,
+        passed: h,
+    })
 }
 
 // Reads the colour table that stands behind a bracket, n tokens before the end, where there are `fonts` fonts.
-fn colour_table(t: &[u32], n: usize, late: bool, fonts: usize, room: &mut [u32]) -> Entered
+fn colour_table(
+    t: &[u32],
+    n: usize,
+    late: bool,
+    fonts: usize,
+    room: &mut [u32],
+) -> Result<Entered, Refusal>
     requires { (n * token_words ≤ length t.now) × (n ≤ 65536) }
     ensures { ((src : List ℕ) → ColoursMet late (table_word (tokens_all src n t.now)) (colours_of (table_limit colour_words (length room.old)) (group (tokens_all src n t.now))) fonts (extent_of 1 (shown_by (tokens_all src n t.now))) result room.new) × (passed result ≤ n) }
 {
     if late {
         let place = table_word(t, n);
-        return Entered::Bad(Refusal::at(Why::TableLineBreak, place));
+        return Err(Refusal::at(Why::TableLineBreak, place));
     }
     let h = extent(t, n);
     let words = h * TOKEN_WORDS;
-    let o = read_colours(&t[..words], h, room);
-    match o {
-        Outcome::Done(k) => Entered::On(fonts, k, h),
-        Outcome::Refused(refusal) => Entered::Bad(refusal),
-    }
+    let colours = read_colours(&t[..words], h, room)?;
+    Ok(Entered {
+        fonts: fonts,
+        colours: colours,
+        passed: h,
+    })
 }
 
 // What stands behind an opening bracket, n tokens before the end, where the rooms hold f fonts and c colours.
@@ -91,17 +96,22 @@ pub fn enter(
     c: usize,
     fonts: &mut [u32],
     colours: &mut [u32],
-) -> Entered
+) -> Result<Entered, Refusal>
     requires { (n * token_words ≤ length t.now) × (n ≤ 65536) }
     ensures { Enters (table_limit font_words (length fonts.old)) (table_limit colour_words (length colours.old)) (tokens_all source.now n t.now) f c fonts.old colours.old result fonts.new colours.new × (passed result ≤ n) }
 {
     let a = aim_of(t, n);
     match a {
-        Aim::Nothing => Entered::On(f, c, 0),
-        Aim::Hide => {
-            let hidden = extent(t, n);
-            Entered::On(f, c, hidden)
-        }
+        Aim::Nothing => Ok(Entered {
+            fonts: f,
+            colours: c,
+            passed: 0,
+        }),
+        Aim::Hide => Ok(Entered {
+            fonts: f,
+            colours: c,
+            passed: extent(t, n),
+        }),
         Aim::Fonts(late) => font_table(source, t, n, late, c, fonts),
         Aim::Colours(late) => colour_table(t, n, late, f, colours),
     }

@@ -13,17 +13,17 @@ ghost use Rattle.tokens.specs.Tokens.{token_words};
 ghost use Rattle.fonts.specs.Rows.{font_words};
 ghost use Rattle.colours.specs.Colours.{colour_words};
 
-use crate::group::{Entered, enter, is_opening};
+use crate::group::{enter, is_opening};
 use answers::Refusal;
 use fonts::FONT_WORDS;
 use rooms::clear_from;
 use tokens::TOKEN_WORDS;
 
-// How many fonts and colours, or a refusal.
+// How many fonts and colours.
 #[derive(Clone, Copy)]
-pub enum Header {
-    Read(usize, usize),
-    Refused(Refusal),
+pub struct HeaderCounts {
+    pub fonts: usize,
+    pub colours: usize,
 }
 
 // Reads the tables of the first `count` tokens: their records are then the fronts of the rooms.
@@ -33,7 +33,7 @@ fn walk_tables(
     count: usize,
     fonts: &mut [u32],
     colours: &mut [u32],
-) -> Header
+) -> Result<HeaderCounts, Refusal>
     requires { (count * token_words ≤ length tokens.now) × (count ≤ 65536) }
     ensures { InFronts (tables (table_limit font_words (length fonts.old)) (table_limit colour_words (length colours.old)) (walk_of (tokens_all source.now count tokens.now))) result fonts.new colours.new }
 {
@@ -46,22 +46,18 @@ fn walk_tables(
         t = &t[TOKEN_WORDS..];
         n -= 1;
         if opening {
-            let e = enter(source, t, n, held_fonts, held_colours, fonts, colours);
-            match e {
-                Entered::On(f, c, h) => {
-                    let passed = h * TOKEN_WORDS;
-                    t = &t[passed..];
-                    n -= h;
-                    held_fonts = f;
-                    held_colours = c;
-                }
-                Entered::Bad(refusal) => {
-                    return Header::Refused(refusal);
-                }
-            }
+            let e = enter(source, t, n, held_fonts, held_colours, fonts, colours)?;
+            let passed = e.passed * TOKEN_WORDS;
+            t = &t[passed..];
+            n -= e.passed;
+            held_fonts = e.fonts;
+            held_colours = e.colours;
         }
     }
-    Header::Read(held_fonts, held_colours)
+    Ok(HeaderCounts {
+        fonts: held_fonts,
+        colours: held_colours,
+    })
 }
 
 // The same, and zeros behind the records.
@@ -71,17 +67,12 @@ pub fn read_header(
     count: usize,
     fonts: &mut [u32],
     colours: &mut [u32],
-) -> Header
+) -> Result<HeaderCounts, Refusal>
     requires { (count * token_words ≤ length tokens.now) × (count ≤ 65536) }
     ensures { ReadHeader (tables (table_limit font_words (length fonts.old)) (table_limit colour_words (length colours.old)) (walk_of (tokens_all source.now count tokens.now))) (length fonts.old) (length colours.old) result fonts.new colours.new }
 {
-    let header = walk_tables(source, tokens, count, fonts, colours);
-    match header {
-        Header::Refused(refusal) => Header::Refused(refusal),
-        Header::Read(f, c) => {
-            clear_from(fonts, f * FONT_WORDS);
-            clear_from(colours, c);
-            Header::Read(f, c)
-        }
-    }
+    let held = walk_tables(source, tokens, count, fonts, colours)?;
+    clear_from(fonts, held.fonts * FONT_WORDS, 0);
+    clear_from(colours, held.colours, 0);
+    Ok(held)
 }

@@ -5,8 +5,8 @@ ghost use Rattle.parser.specs.declared.Counts.{Counts};
 ghost use Rattle.reader.specs.Reading.{Counted};
 ghost use Rattle.host.specs.Exports.{cut_of, read_of, stored_of, write_of};
 
-use answers::Outcome;
-use parser::Answer;
+use answers::{Refusal, count_of, number_of, place_of};
+use parser::Counts;
 
 // How many tokens stand in the room.
 #[repr(C)]
@@ -48,27 +48,24 @@ pub struct WriteAnswer {
 }
 
 // The answer of a cutting, which counts at most 65,536 tokens.
-pub fn of_cut(outcome: Outcome) -> CutAnswer
+pub fn of_cut(outcome: Result<usize, Refusal>) -> CutAnswer
     requires { outcome_count outcome ≤ 65536 }
     ensures { result ≡ cut_of outcome }
 {
-    let refusal = outcome.number();
-    let place = outcome.place();
-    let count = outcome.count();
     CutAnswer {
-        refusal: refusal,
-        place: place,
-        tokens: count as u32,
+        refusal: number_of(&outcome),
+        place: place_of(&outcome),
+        tokens: count_of(outcome) as u32,
     }
 }
 
 // The answer of a reading, whose counts are small.
-pub fn of_reading(answer: Answer) -> ReadAnswer
-    requires { (k : Counts) → answer ≡ Answer.Read k → Counted k }
+pub fn of_reading(answer: Result<Counts, Refusal>) -> ReadAnswer
+    requires { (k : Counts) → answer ≡ Ok k → Counted k }
     ensures { result ≡ read_of answer }
 {
     match answer {
-        Answer::Read(counts) => ReadAnswer {
+        Ok(counts) => ReadAnswer {
             refusal: 0,
             place: 0,
             tokens: counts.tokens as u32,
@@ -77,7 +74,7 @@ pub fn of_reading(answer: Answer) -> ReadAnswer
             blocks: counts.blocks as u32,
             text: counts.text as u32,
         },
-        Answer::Refuses(refused) => {
+        Err(refused) => {
             let refusal = refused.number();
             ReadAnswer {
                 refusal: refusal,
@@ -93,26 +90,23 @@ pub fn of_reading(answer: Answer) -> ReadAnswer
 }
 
 // The answer of a stored list's reading.
-pub fn of_stored(answer: stored::Answer) -> StoredAnswer
+pub fn of_stored(answer: Result<stored::Counts, Refusal>) -> StoredAnswer
     ensures { result ≡ stored_of answer }
 {
-    let refusal = answer.number();
-    let counts = answer.counts();
+    let counts = stored::counts_of(answer);
     StoredAnswer {
-        refusal: refusal,
+        refusal: number_of(&answer),
         blocks: counts.blocks,
         text: counts.text,
     }
 }
 
 // The answer of a writing.
-pub fn of_writing(outcome: Outcome) -> WriteAnswer
+pub fn of_writing(outcome: Result<usize, Refusal>) -> WriteAnswer
     ensures { result ≡ write_of outcome }
 {
-    let refusal = outcome.number();
-    let bytes = outcome.count();
     WriteAnswer {
-        refusal: refusal,
-        bytes: bytes,
+        refusal: number_of(&outcome),
+        bytes: count_of(outcome),
     }
 }

@@ -17,6 +17,7 @@ ghost use Rattle.host.specs.Exports.{CutFor, ReadFor, CheckFor, StoredFor, Write
 use crate::answer::{
     CutAnswer, ReadAnswer, StoredAnswer, WriteAnswer, of_cut, of_reading, of_stored, of_writing,
 };
+use answers::number_of;
 use reader::read;
 use readings::Reading;
 use stored::check::check;
@@ -102,7 +103,7 @@ pub extern "C" fn elduvarn_stored_check(list: &[u8]) -> u32
     ensures { CheckFor list.now result }
 {
     let outcome = check(list);
-    outcome.number()
+    number_of(&outcome)
 }
 
 #[unsafe(no_mangle)]

@@ -13,10 +13,9 @@ pub fn fill<R: Read + Drop>(mut from: R, room: &mut [u8]) -> io::Result<usize>
 {
     let mut at = 0;
     while at < room.len() {
-        match from.read(&mut room[at..]) {
-            Ok(0) => return Ok(at),
-            Ok(n) => at += n,
-            Err(e) => return Err(e),
+        match from.read(&mut room[at..])? {
+            0 => return Ok(at),
+            n => at += n,
         }
     }
     Ok(at)

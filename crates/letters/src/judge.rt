@@ -1,5 +1,5 @@
 // One listing of ours against the expected one.
-ghost use Rattle.std.specs.Prelude.{◌≤◌, length, IfOk};
+ghost use Rattle.std.specs.Prelude.{◌≤◌, length};
 ghost use Rattle.letters.specs.Listed.{Whole};
 
 use crate::list::{LENGTH_BYTES, Letter};
@@ -11,16 +11,12 @@ use std::io;
 
 // One more letter that got this answer.
 fn count_in(answer: u32, answers: &mut [u32]) {
-    let at = answer as usize;
-    if at < answers.len() {
-        let before = answers[at];
-        if before < 4294967295 {
-            answers[at] = before + 1;
-        }
+    if let Some(count) = answers.get_mut(answer as usize) {
+        *count = count.saturating_add(1);
     }
 }
 
-// 1 if our listing, the first `bytes` of the page, is the expected one, else 0. `letters` and `agree` count those before; the first
+// Whether our listing, the first `bytes` of the page, is the expected one. `letters` and `agree` count those before; the first
 // letter that does not agree is said.
 fn judge(
     rt: &impl Print,
@@ -29,18 +25,15 @@ fn judge(
     bytes: usize,
     letters: usize,
     agree: usize,
-) -> io::Result<usize>
+) -> io::Result<bool>
     requires { bytes ≤ length page.now }
-    ensures { IfOk result (λ n. n ≤ 1) }
 {
     let ours = &page[..bytes];
-    if same(expected, ours) {
-        return Ok(1);
-    }
-    if letters == agree {
+    let agrees = same(expected, ours);
+    if !agrees && letters == agree {
         say::difference(rt, letters, expected, ours)?;
     }
-    Ok(0)
+    Ok(agrees)
 }
 
 // Reads the letter at the front of `rest`, and judges its listing.
@@ -52,14 +45,17 @@ pub fn read_and_judge(
     answers: &mut [u32],
     letters: usize,
     agree: usize,
-) -> io::Result<usize>
+) -> io::Result<bool>
     requires { Whole (length rest.now) letter }
-    ensures { IfOk result (λ n. n ≤ 1) }
 {
-    let letter_end = letter.letter;
-    let from = letter.listing;
-    let end = letter.end;
-    let listed = extract(&rest[LENGTH_BYTES..letter_end], Reading::Plain, page);
+    let listed = extract(&rest[LENGTH_BYTES..letter.letter], Reading::Plain, page);
     count_in(listed.number, answers);
-    judge(rt, &rest[from..end], page, listed.bytes, letters, agree)
+    judge(
+        rt,
+        &rest[letter.listing..letter.end],
+        page,
+        listed.bytes,
+        letters,
+        agree,
+    )
 }

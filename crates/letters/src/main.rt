@@ -15,7 +15,7 @@ mod say;
 use extraction::PAGE_BYTES;
 use input::fill;
 use judge::read_and_judge;
-use list::{Front, next};
+use list::next;
 use say::{End, Tally};
 use std::fs::Files;
 use std::{fs, io};
@@ -34,31 +34,22 @@ fn replay(
     answers: &mut [u32],
 ) -> io::Result<Tally> {
     let mut rest = file;
-    let mut letters: usize = 0;
-    let mut agree: usize = 0;
-    while 0 < rest.len() {
-        let found = next(rest);
-        match found {
-            Front::Letter(letter) => {
-                let end = letter.end;
-                agree += read_and_judge(rt, rest, letter, page, answers, letters, agree)?;
-                letters += 1;
-                rest = &rest[end..];
-            }
-            Front::CutShort => {
-                return Ok(Tally {
-                    letters: letters,
-                    agree: agree,
-                    end: End::CutShort,
-                });
-            }
-        }
-    }
-    Ok(Tally {
-        letters: letters,
-        agree: agree,
+    let mut tally = Tally {
+        letters: 0,
+        agree: 0,
         end: End::Whole,
-    })
+    };
+    while !rest.is_empty() {
+        let Some(letter) = next(rest) else {
+            tally.end = End::CutShort;
+            break;
+        };
+        let agrees = read_and_judge(rt, rest, letter, page, answers, tally.letters, tally.agree)?;
+        tally.agree += usize::from(agrees);
+        tally.letters += 1;
+        rest = &rest[letter.end..];
+    }
+    Ok(tally)
 }
 
 // Reads the file, and judges every letter of it.
@@ -69,14 +60,14 @@ fn run(
     answers: &mut [u32],
 ) -> io::Result<()> {
     let Ok(file) = fs::open(rt, "listings.bin") else {
-        return say::text(rt, b"listings.bin cannot be opened\n");
+        return println!(rt; "listings.bin cannot be opened");
     };
     let n = fill(file, bytes)?;
     if n == 0 {
-        return say::text(rt, b"listings.bin is empty or cannot be read\n");
+        return println!(rt; "listings.bin is empty or cannot be read");
     }
     if n == bytes.len() {
-        return say::text(rt, b"listings.bin is longer than this program reads\n");
+        return println!(rt; "listings.bin is longer than this program reads");
     }
     let tally = replay(rt, &bytes[..n], page, answers)?;
     say::answers(rt, answers)?;

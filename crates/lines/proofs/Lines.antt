@@ -1,39 +1,19 @@
 -- The lines of records.
---     bytes-more, -end                  the bytes that are left, from a place on
---     mark-more, -end                   what stands behind a word
---     signed_up, -down                  a word that stands for a number from 0 on, and one below
+--     signed-down                       a word that stands for a number below 0
 --     line-more, -end                   the words that are left of a record
---     lines_start, -more, -short, -end  the records that are left of a room
---     place_none, -some                 a refusal's place, by the answer's number
+--     lines-short, lines_end            a room too short for a record, and no records asked for
+--     lines_next, -last, -of_none       what an iterator over a room's records has left
 -- Assumes nothing.
 use Prim.Native.Nat.{ℕ, zero, suc, ◌+◌, ◌-◌, ◌≤◌, ◌<◌}
 use mathlib.Core.Path.{◌≡◌, refl, sym, ap, ◌∙◌}
 use mathlib.Core.List.{List, [], ◌∷◌, ◌++◌, append_assoc}
 use native.Mathlib.Omega.{arith}
 use mathlib.Core.Bool.{Bool, true, false, cond}
-use borrow.Author.Tests.{ltb-true, ltb-false, lt-ltb, le-ltb, eq-eqb, ne_eqb}
+use borrow.Author.Tests.{ltb-true, ltb-false, lt-ltb, le-ltb}
 use lib.Dec.{ltb}
-use lib.ListN.{length, take, drop, get_or, length-drop, drop_of_length-le}
-use lib.Seq.{drop-cons, take_all}
-use Rattle.lines.specs.Lines.{item, place_item, signed, mark, line, lines}
-
-add-one : (i : ℕ) → i + 1 ≡ suc i
-add-one i = omega arith
-
-pub bytes-more : (s : List ℕ) (i : ℕ) → i < length s → drop i s ≡ (get_or s i 0 ∷ []) ++ drop (i + 1) s
-bytes-more s i h = rw add-one (drop-cons s i 0 h)
-
-pub mark-more : {next words : ℕ} → next < words → 32 ≡ mark next words
-unfolding mark
-mark-more {next} {words} h = rw (lt-ltb next words h)
-
-pub mark-end : {next words : ℕ} → words ≤ next → 10 ≡ mark next words
-unfolding mark
-mark-end {next} {words} h = rw (le-ltb next words h)
-
-pub signed_up : (w b : ℕ) → w < 2147483648 → item w b ≡ signed w ++ (b ∷ [])
-unfolding signed
-signed_up w b h = rw (lt-ltb w 2147483648 h)
+use lib.ListN.{length, take, drop, get_or, length-append, length-drop, drop_of_length-le}
+use lib.Seq.{drop-cons, take-append_seam, drop-append_seam}
+use Rattle.lines.specs.Lines.{item, signed, mark, line, lines}
 
 pub signed-down : (w b v : ℕ) → 2147483648 ≤ w → v + w ≡ 4294967296 → (45 ∷ []) ++ item v b ≡ signed w ++ (b ∷ [])
 unfolding signed
@@ -52,23 +32,12 @@ mark-left i s = ap (λ (t : Bool). cond t 32 10) (go (ltb (i + 1) (length s)) re
 pub line-more : (s : List ℕ) (i b : ℕ) → i < length s → b ≡ mark (i + 1) (length s) → line (drop i s) ≡ (signed (get_or s i 0) ++ (b ∷ [])) ++ line (drop (i + 1) s)
 unfolding line
 line-more s i b h e =
-    rw (e, mark-left i s, add-one i, append_assoc, drop-cons s i 0 h)
+    let a : i + 1 ≡ suc i = omega arith in
+    rw (e, mark-left i s, a, append_assoc, drop-cons s i 0 h)
 
 pub line-end : (s : List ℕ) (i : ℕ) → length s ≤ i → line (drop i s) ≡ []
 unfolding line
 line-end s i h = rw (drop_of_length-le s {i = i} h)
-
-pub lines_start : (width count : ℕ) (room : List ℕ) → lines width count room ≡ lines width (count - 0) room
-lines_start width count room =
-    let e : count - 0 ≡ count = omega arith in
-    rw e
-
-pub lines_more : (width count k : ℕ) (room : List ℕ) → k < count → width ≤ length room
-    → lines width (count - k) room ≡ line (take width room) ++ lines width (count - (k + 1)) (take (length room - width) (drop width room))
-unfolding lines
-lines_more width count k room h g =
-    let e : count - k ≡ suc (count - (k + 1)) = omega arith in
-    rw (e, le-ltb (length room) width g, take_all (length room - width) (drop width room) (simp length-drop (omega arith)))
 
 pub lines-short : (width n : ℕ) (room : List ℕ) → length room < width → lines width n room ≡ []
 unfolding lines
@@ -81,11 +50,25 @@ lines_end width count k room h =
     let e : count - k ≡ 0 = omega arith in
     rw e
 
--- a refusal's place
-pub place_none : {answer : ℕ} (place : ℕ) → answer ≡ 0 → [] ≡ place_item answer place
-unfolding place_item
-place_none {answer} place e = rw (eq-eqb answer 0 e)
+-- the record that an iterator over a room gives next, and what it has left
+pub lines_next : (width count n : ℕ) (room words others : List ℕ) → n + 1 ≡ count → room ≡ words ++ others → length words ≡ width
+    → lines width count room ≡ line words ++ lines width n others
+unfolding lines
+lines_next width count n room words others e f w =
+    let m : count ≡ suc n = omega arith in
+    let g : width ≤ length (words ++ others) = simp length-append (omega arith) in
+    let t : take width (words ++ others) ≡ words = rw (← w) (take-append_seam words others) in
+    let d : drop width (words ++ others) ≡ others = rw (← w) (drop-append_seam words others) in
+    rw (m, f, le-ltb (length (words ++ others)) width g, t, d)
 
-pub place-some : {answer : ℕ} (place : ℕ) → (answer ≡ 0 → ⊥) → item place 32 ≡ place_item answer place
-unfolding place_item
-place-some {answer} place e = rw (ne_eqb answer 0 e)
+-- it has none left: so many were given, or the room is too short for another
+pub lines-last : (width n : ℕ) (room : List ℕ) → (0 < n → length room < width) → lines width n room ≡ []
+unfolding lines
+lines-last width zero room h = refl
+lines-last width (suc n) room h = lines-short width (suc n) room (h (omega arith))
+
+-- records of no words
+pub lines_of_none : (width count : ℕ) (room : List ℕ) → width ≡ 0 → lines width count room ≡ []
+unfolding lines line
+lines_of_none width zero room e = refl
+lines_of_none width (suc n) room e = rw (e, le-ltb (length room) 0 (omega arith)) (lines_of_none width n room e)

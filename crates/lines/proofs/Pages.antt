@@ -1,6 +1,6 @@
 -- Bytes put on a page.
 --     put-none            none
---     put_in, put-out     a byte for which there is room, and one for which there is none
+--     put_copied          as many as there is room for, copied at once
 --     put_then            some, and then others
 --     put_as              the same bytes by another name
 --     put-fits            bytes for which there is room, all of them: where they end, and the page
@@ -8,12 +8,15 @@
 --     whole-front         these are the page's front
 --     left-start, -more, -end   a loop over what is left: whoever puts that has put all
 -- Assumes nothing.
-use Prim.Native.Nat.{ℕ, zero, suc, ◌+◌, ◌-◌, ◌≤◌, ◌<◌}
+use Prim.Native.Nat.{ℕ, zero, suc, ◌+◌, ◌-◌, ◌≤◌, min}
 use mathlib.Core.Path.{◌≡◌, refl, sym, ap, ◌∙◌}
 use mathlib.Core.List.{List, [], ◌∷◌, ◌++◌, append-nil, append_assoc}
 use native.Mathlib.Omega.{arith}
-use lib.ListN.{length, take, drop, set, length-take, length-append, take-append-drop}
-use lib.Seq.{take_all, length-take-le, take-suc-set, drop-set-lt, take-append_seam, drop-drop}
+use lib.ListN.{length, take, drop, length-take, length-append, take-append-drop}
+use lib.Seq.{take_all, length-take-le, take-append_seam, take-append-add, drop-drop}
+use borrow.Rule.Slice.PartMut.{put_mid}
+use Rattle.std.proofs.lemmas.List.{take_min}
+use Rattle.std.proofs.lemmas.Slice.{take-put_mid, drop-put_mid}
 use Rattle.lines.specs.Pages.{Put, PutWhole, Front}
 
 -- what was left out at the end of a page stays out
@@ -35,24 +38,21 @@ module _ {page : List ℕ} {at : ℕ} where
         behind = refl;
       }
 
-  pub put_in : {b : ℕ} → at < length page → Put page at (b ∷ []) (set page at b) (at + 1)
-  put_in {b} h =
-      let s : at + 1 ≡ suc at = omega arith in
+  -- bytes that are copied to the page, as many as there is room for
+  pub put_copied : {bytes copied : List ℕ} {n : ℕ} → at ≤ length page → n ≡ min (length page - at) (length bytes) → copied ≡ take n bytes
+      → Put page at bytes (put_mid at (at + n - at) page copied) (at + n)
+  put_copied {bytes} {copied} {n} h e f =
+      let fits : take n bytes ≡ take (length page - at) bytes = rw e (take_min (length page - at) bytes) in
+      let long : length copied ≡ n = rw f (length-take-le n bytes (omega arith)) in
+      let u : length (take at page) ≡ at = length-take-le at page h in
+      let j : at + n ≡ at + length copied = omega arith in
+      let whole : length page ≡ length (take at page) + (length page - at) = omega arith in
       record {
         onwards = omega arith;
         within = omega arith;
-        filled = rw s (take-suc-set page at b h ∙ sym (take_all (length page) (take at page ++ (b ∷ [])) (simp (length-append, length-take) (omega arith))));
-        behind = drop-set-lt (at + 1) page at b (omega arith);
-      }
-
-  pub put-out : {b : ℕ} → at ≤ length page → length page ≤ at → Put page at (b ∷ []) page at
-  put-out {b} h g =
-      let e : take at page ≡ page = take_all at page g in
-      record {
-        onwards = omega arith;
-        within = h;
-        filled = rw e (sym (take-append_seam page (b ∷ [])));
-        behind = refl;
+        filled = take-put_mid at (at + n - at) page copied (at + n) j h ∙ ap (λ (l : List ℕ). take at page ++ l) (f ∙ fits)
+            ∙ sym (ap (λ (m : ℕ). take m (take at page ++ bytes)) whole ∙ take-append-add (take at page) bytes (length page - at));
+        behind = drop-put_mid at (at + n - at) page copied (at + n) (omega arith) h (omega arith);
       }
 
   pub put_then : {xs ys page' page'' : List ℕ} {r t : ℕ} → Put page at xs page' r → length page' ≡ length page → Put page' r ys page'' t → Put page at (xs ++ ys) page'' t

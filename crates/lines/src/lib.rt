@@ -26,17 +26,13 @@ pub fn append(bytes: &[u8], page: &mut [u8], at: usize) -> usize
     requires { at ≤ length page.old }
     ensures { Put page.old at bytes.now page.new result }
 {
-    let mut end = at;
-    let mut i = 0;
-    while i < bytes.len() {
-        let byte = bytes[i];
-        end = push(byte, page, end);
-        i += 1;
-    }
+    let fitting = (page.len() - at).min(bytes.len());
+    let end = at + fitting;
+    page[at..end].copy_from_slice(&bytes[..fitting]);
     end
 }
 
-// A number, and a byte behind it.
+// A number, and a byte behind it. By the kit's `decimal`: std prints numbers too, but promises nothing of a page.
 pub fn number(value: u64, behind: u8, page: &mut [u8], at: usize) -> usize
     requires { at ≤ length page.old }
     ensures { Put page.old at (item value behind) page.new result }
@@ -48,6 +44,7 @@ pub fn number(value: u64, behind: u8, page: &mut [u8], at: usize) -> usize
 }
 
 // A refusal's place and a space; nothing where the answer's number is 0.
+#[tactic(auto, unfolding(crate::specs::Lines::place_item))]
 pub fn place_item(answer: u32, place: u32, page: &mut [u8], at: usize) -> usize
     requires { at ≤ length page.old }
     ensures { Put page.old at (place_item answer place) page.new result }
@@ -55,7 +52,7 @@ pub fn place_item(answer: u32, place: u32, page: &mut [u8], at: usize) -> usize
     if answer == 0 {
         return at;
     }
-    number(place as u64, b' ', page, at)
+    number(u64::from(place), b' ', page, at)
 }
 
 // How far a word that stands for a negative number lies below 0.
@@ -63,22 +60,24 @@ fn below_zero(value: u32) -> u64
     requires { 2147483648 ≤ value }
     ensures { result + value ≡ 4294967296 }
 {
-    4294967296 - (value as u64)
+    4294967296 - u64::from(value)
 }
 
 // A word as a number of 32 bits in two's complement.
+#[tactic(auto, unfolding(crate::specs::Lines::signed))]
 fn signed(value: u32, behind: u8, page: &mut [u8], at: usize) -> usize
     requires { at ≤ length page.old }
     ensures { Put page.old at (signed_text value ++ (behind ∷ [])) page.new result }
 {
     if value < 2147483648 {
-        return number(value as u64, behind, page, at);
+        return number(u64::from(value), behind, page, at);
     }
     let end = push(b'-', page, at);
     number(below_zero(value), behind, page, end)
 }
 
 // What stands behind the word before `next`: the last word of a line ends it.
+#[tactic(auto, unfolding(crate::specs::Lines::mark))]
 fn behind(next: usize, words: usize) -> u8
     ensures { result ≡ mark next words }
 {
@@ -91,12 +90,9 @@ fn record_line(words: &[u32], page: &mut [u8], at: usize) -> usize
     ensures { Put page.old at (line words.now) page.new result }
 {
     let mut end = at;
-    let mut i = 0;
-    while i < words.len() {
-        let word = words[i];
-        i += 1;
-        let mark = behind(i, words.len());
-        end = signed(word, mark, page, end);
+    for (i, word) in words.iter().enumerate() {
+        let mark = behind(i + 1, words.len());
+        end = signed(*word, mark, page, end);
     }
     end
 }
@@ -106,16 +102,13 @@ pub fn records(room: &[u32], count: usize, width: usize, page: &mut [u8], at: us
     requires { at ≤ length page.old }
     ensures { Put page.old at (lines width count room.now) page.new result }
 {
-    let mut rest = room;
+    // Records of no words have no lines.
+    if width == 0 {
+        return at;
+    }
     let mut end = at;
-    let mut k = 0;
-    while k < count {
-        if rest.len() < width {
-            return end;
-        }
-        end = record_line(&rest[..width], page, end);
-        rest = &rest[width..];
-        k += 1;
+    for record in room.chunks_exact(width).take(count) {
+        end = record_line(record, page, end);
     }
     end
 }

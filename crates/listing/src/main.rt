@@ -7,14 +7,14 @@
 // The list goes out part by part, each whole on its page: the first line, then the lines of so many tokens at a time.
 #![tactic(auto)]
 
-ghost use Rattle.std.specs.Prelude.{◌≡◌, ◌++◌, ◌-◌, ◌≤◌, length};
+ghost use Rattle.std.specs.Prelude.{◌≡◌, ◌++◌, ◌≤◌, length};
 ghost use Rattle.answers.specs.Answers.{outcome_count};
 ghost use Rattle.lines.specs.Lines.{lines};
 ghost use Rattle.lines.specs.Pages.{Put, PutWhole};
 ghost use Rattle.tokens.specs.Tokens.{token_words};
-ghost use Rattle.listing.specs.Tokens.{part_tokens, first_line, token_lines, token_part};
+ghost use Rattle.listing.specs.Tokens.{first_line, token_lines, token_part};
 
-use answers::Outcome;
+use answers::{Refusal, count_of, number_of, place_of};
 use input::fill;
 use lines::{number, place_item, records};
 use readings::Reading;
@@ -37,16 +37,16 @@ const PART_WORDS: usize = PART_TOKENS * TOKEN_WORDS;
 // A word with its sign and the byte behind it has at most 12 bytes.
 const PAGE_BYTES: usize = 12 * PART_WORDS;
 
-fn first_line(outcome: Outcome, page: &mut [u8]) -> usize
+fn first_line(outcome: Result<usize, Refusal>, page: &mut [u8]) -> usize
     ensures { Put page.old 0 (first_line outcome) page.new result }
 {
-    let answer = outcome.number();
+    let answer = number_of(&outcome);
     let told = number(answer as u64, b' ', page, 0);
-    let placed = place_item(answer, outcome.place(), page, told);
-    number(outcome.count() as u64, b'\n', page, placed)
+    let placed = place_item(answer, place_of(&outcome), page, told);
+    number(count_of(outcome) as u64, b'\n', page, placed)
 }
 
-fn whole_first_line(outcome: Outcome, page: &mut [u8; PAGE_BYTES]) -> usize
+fn whole_first_line(outcome: Result<usize, Refusal>, page: &mut [u8; PAGE_BYTES]) -> usize
     ensures { PutWhole page.old (first_line outcome) page.new result }
 {
     first_line(outcome, page)
@@ -56,10 +56,8 @@ fn whole_first_line(outcome: Outcome, page: &mut [u8; PAGE_BYTES]) -> usize
 fn part(room: &[u32], count: usize, page: &mut [u8; PAGE_BYTES]) -> usize
     ensures { PutWhole page.old (token_part count room.now) page.new result }
 {
-    if room.len() < PART_WORDS {
-        return records(room, count, TOKEN_WORDS, page, 0);
-    }
-    records(&room[..PART_WORDS], count, TOKEN_WORDS, page, 0)
+    let words = PART_WORDS.min(room.len());
+    records(&room[..words], count, TOKEN_WORDS, page, 0)
 }
 
 fn write(rt: &impl Print, page: &[u8], bytes: usize) -> io::Result<()>
@@ -70,7 +68,7 @@ fn write(rt: &impl Print, page: &[u8], bytes: usize) -> io::Result<()>
 
 fn write_first_line(
     rt: &impl Print,
-    outcome: Outcome,
+    outcome: Result<usize, Refusal>,
     page: &mut [u8; PAGE_BYTES],
 ) -> io::Result<()> {
     let bytes = whole_first_line(outcome, page);
@@ -87,16 +85,6 @@ fn write_part(
     write(rt, page, bytes)
 }
 
-// How many tokens are left behind a part.
-fn behind_part(count: usize) -> usize
-    ensures { result ≡ count - part_tokens }
-{
-    if count < PART_TOKENS {
-        return 0;
-    }
-    count - PART_TOKENS
-}
-
 // Writes the lines of the first `count` tokens of a room, part by part.
 fn write_tokens(
     rt: &impl Print,
@@ -104,14 +92,12 @@ fn write_tokens(
     count: usize,
     page: &mut [u8; PAGE_BYTES],
 ) -> io::Result<()> {
-    let mut rest = room;
     let mut left = count;
-    while PART_WORDS <= rest.len() {
-        write_part(rt, rest, left, page)?;
-        rest = &rest[PART_WORDS..];
-        left = behind_part(left);
+    for part in room.chunks(PART_WORDS) {
+        write_part(rt, part, left, page)?;
+        left = left.saturating_sub(PART_TOKENS);
     }
-    write_part(rt, rest, left, page)
+    Ok(())
 }
 
 // Writes a letter's list: that is the answer's line and the lines of the room's tokens. Reading and letter are named for the
@@ -120,14 +106,14 @@ fn write_list(
     rt: &impl Print,
     reading: Reading,
     letter: &[u8],
-    outcome: Outcome,
+    outcome: Result<usize, Refusal>,
     room: &[u32],
     page: &mut [u8; PAGE_BYTES],
 ) -> io::Result<()>
     requires { token_lines reading letter.now (length room.now) ≡ first_line outcome ++ lines token_words (outcome_count outcome) room.now }
 {
     write_first_line(rt, outcome, page)?;
-    write_tokens(rt, room, outcome.count(), page)
+    write_tokens(rt, room, count_of(outcome), page)
 }
 
 fn print(

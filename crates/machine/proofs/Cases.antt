@@ -8,12 +8,12 @@ use Rattle.answers.specs.declared.Why.{Why}
 use Rattle.answers.specs.declared.Why.TheVariants.{IgnorableInBody, NoState, LineSpacing, TooDeep}
 use Rattle.answers.specs.declared.Refusal.{Refusal}
 use Rattle.rooms.specs.Streams.{Stream, end, stop, ◌▸◌}
-use Rattle.tokens.specs.declared.Property.TheVariants.{Value}
 use Rattle.utf8.specs.Utf8.{utf8, written}
 use Rattle.units.specs.Units.{unit_of, taken, met, met_any, step, taken_any, standard_step, values}
 use Rattle.machine.specs.Stack.{moved}
 use Rattle.machine.specs.Machine.{States, Steps, opens, closes, sets, says, tells, unit, refuses, parts, stops, Act, at}
 use Rattle.machine.specs.Machine.{gave, left, owed_behind, written_all, ◌▸▸◌, settle, spoken, said, machine, start}
+use Rattle.std.specs.Prelude.{Some}
 
 abbrev last : States ℕ ℕ (ℕ × List ℕ)
 last = record { fresh = 0; put = λ s r. s; say = λ r bs. (r, bs) }
@@ -109,69 +109,69 @@ unfolding machine said gave left owed_behind values written_all spoken moved set
 group-copies = refl
 
 -- `\u-10179 \u-8704 `: two units that pair
-pairs : body (at 10 (unit (Value 4294957117)) ∷ at 19 (unit (Value 4294958592)) ∷ []) ≡ (0, 240 ∷ 159 ∷ 152 ∷ 128 ∷ []) ▸ end
+pairs : body (at 10 (unit (Some 4294957117)) ∷ at 19 (unit (Some 4294958592)) ∷ []) ≡ (0, 240 ∷ 159 ∷ 152 ∷ 128 ∷ []) ▸ end
 unfolding machine said gave left owed_behind step met_any met taken unit_of values written_all written utf8 spoken moved ◌▸▸◌
 pairs = refl
 
 -- `\u-10179{\u-8704 a}`: a bracket parts them: the first is lost at it, the second stands alone
-parted : body (at 10 (unit (Value 4294957117)) ∷ at 18 opens ∷ at 19 (unit (Value 4294958592)) ∷ at 19 (says a) ∷ []) ≡ (0, 239 ∷ 191 ∷ 189 ∷ []) ▸ (0, 239 ∷ 191 ∷ 189 ∷ []) ▸ (0, a) ▸ end
+parted : body (at 10 (unit (Some 4294957117)) ∷ at 18 opens ∷ at 19 (unit (Some 4294958592)) ∷ at 19 (says a) ∷ []) ≡ (0, 239 ∷ 191 ∷ 189 ∷ []) ▸ (0, 239 ∷ 191 ∷ 189 ∷ []) ▸ (0, a) ▸ end
 unfolding machine said gave left owed_behind step met_any met taken unit_of values written_all written utf8 spoken moved ◌▸▸◌
 parted = refl
 
 -- `\u-10179 ` at the end
-lost-at-end : body (at 10 (unit (Value 4294957117)) ∷ []) ≡ (0, 239 ∷ 191 ∷ 189 ∷ []) ▸ end
+lost-at-end : body (at 10 (unit (Some 4294957117)) ∷ []) ≡ (0, 239 ∷ 191 ∷ 189 ∷ []) ▸ end
 unfolding machine said gave left owed_behind step met_any met taken unit_of values written_all written utf8 spoken moved ◌▸▸◌
 lost-at-end = refl
 
 -- `\'e9\'e8`: the second is skipped; `\'e9\x7\'e8`: a setting ends the run, and the first unit of the next one stays
-skipped : body (at 10 (unit (Value 233)) ∷ at 14 (unit (Value 232)) ∷ []) ≡ (0, 195 ∷ 169 ∷ []) ▸ end
+skipped : body (at 10 (unit (Some 233)) ∷ at 14 (unit (Some 232)) ∷ []) ≡ (0, 195 ∷ 169 ∷ []) ▸ end
 unfolding machine said gave left owed_behind step met_any met taken unit_of values written_all written utf8 spoken moved ◌▸▸◌
 skipped = refl
 
-set-ends-run : body (at 10 (unit (Value 233)) ∷ at 14 (sets (7 ∷ [])) ∷ at 17 (unit (Value 232)) ∷ []) ≡ (0, 195 ∷ 169 ∷ []) ▸ (7, 195 ∷ 168 ∷ []) ▸ end
+set-ends-run : body (at 10 (unit (Some 233)) ∷ at 14 (sets (7 ∷ [])) ∷ at 17 (unit (Some 232)) ∷ []) ≡ (0, 195 ∷ 169 ∷ []) ▸ (7, 195 ∷ 168 ∷ []) ▸ end
 unfolding machine said gave left owed_behind step met_any met taken unit_of values written_all written utf8 spoken moved settle ◌▸▸◌
 set-ends-run = refl
 
 -- `\u-10179\x7 a`: what waited is lost in the state that the setting finds
-lost-before-set : body (at 10 (unit (Value 4294957117)) ∷ at 18 (sets (7 ∷ [])) ∷ at 18 (says a) ∷ []) ≡ (0, 239 ∷ 191 ∷ 189 ∷ []) ▸ (7, a) ▸ end
+lost-before-set : body (at 10 (unit (Some 4294957117)) ∷ at 18 (sets (7 ∷ [])) ∷ at 18 (says a) ∷ []) ≡ (0, 239 ∷ 191 ∷ 189 ∷ []) ▸ (7, a) ▸ end
 unfolding machine said gave left owed_behind step met_any met taken unit_of values written_all written utf8 spoken moved settle ◌▸▸◌
 lost-before-set = refl
 
 -- ---- by 02, A1: one character is passed over behind a `u` token
 
 -- `\u8217?a`: the rest of the text is read; `\u8217 {a}`: a brace ends it, and the text behind it is read
-passes-part : standard (at 10 (unit (Value 8217)) ∷ at 10 (tells (63 ∷ 97 ∷ [])) ∷ []) ≡ (0, 226 ∷ 128 ∷ 153 ∷ []) ▸ (0, a) ▸ end
+passes-part : standard (at 10 (unit (Some 8217)) ∷ at 10 (tells (63 ∷ 97 ∷ [])) ∷ []) ≡ (0, 226 ∷ 128 ∷ 153 ∷ []) ▸ (0, a) ▸ end
 unfolding machine said gave left owed_behind standard_step taken_any taken unit_of values written_all written utf8 spoken moved ◌▸▸◌
 passes-part = refl
 
-brace-ends : standard (at 10 (unit (Value 8217)) ∷ at 17 opens ∷ at 17 (tells a) ∷ []) ≡ (0, 226 ∷ 128 ∷ 153 ∷ []) ▸ (0, a) ▸ end
+brace-ends : standard (at 10 (unit (Some 8217)) ∷ at 17 opens ∷ at 17 (tells a) ∷ []) ≡ (0, 226 ∷ 128 ∷ 153 ∷ []) ▸ (0, a) ▸ end
 unfolding machine said gave left owed_behind standard_step taken_any taken unit_of values written_all written utf8 spoken moved ◌▸▸◌
 brace-ends = refl
 
 -- `\u8217\x7 a`: a word that is passed over sets nothing; nor is one refused; nor does a `u` token say anything
-passed-word : standard (at 10 (unit (Value 8217)) ∷ at 16 (sets (7 ∷ [])) ∷ at 16 (tells a) ∷ []) ≡ (0, 226 ∷ 128 ∷ 153 ∷ []) ▸ (0, a) ▸ end
+passed-word : standard (at 10 (unit (Some 8217)) ∷ at 16 (sets (7 ∷ [])) ∷ at 16 (tells a) ∷ []) ≡ (0, 226 ∷ 128 ∷ 153 ∷ []) ▸ (0, a) ▸ end
 unfolding machine said gave left owed_behind standard_step taken_any taken unit_of values written_all written utf8 spoken moved settle ◌▸▸◌
 passed-word = refl
 
-passed-mark : standard (at 10 (unit (Value 8217)) ∷ at 16 (stops IgnorableInBody) ∷ at 16 (tells a) ∷ []) ≡ (0, 226 ∷ 128 ∷ 153 ∷ []) ▸ (0, a) ▸ end
+passed-mark : standard (at 10 (unit (Some 8217)) ∷ at 16 (stops IgnorableInBody) ∷ at 16 (tells a) ∷ []) ≡ (0, 226 ∷ 128 ∷ 153 ∷ []) ▸ (0, a) ▸ end
 unfolding machine said gave left owed_behind standard_step taken_any taken unit_of values written_all written utf8 spoken moved ◌▸▸◌
 passed-mark = refl
 
-passed-unit : standard (at 10 (unit (Value 8217)) ∷ at 16 (unit (Value 8217)) ∷ at 22 (tells a) ∷ []) ≡ (0, 226 ∷ 128 ∷ 153 ∷ []) ▸ (0, a) ▸ end
+passed-unit : standard (at 10 (unit (Some 8217)) ∷ at 16 (unit (Some 8217)) ∷ at 22 (tells a) ∷ []) ≡ (0, 226 ∷ 128 ∷ 153 ∷ []) ▸ (0, a) ▸ end
 unfolding machine said gave left owed_behind standard_step taken_any taken unit_of values written_all written utf8 spoken moved ◌▸▸◌
 passed-unit = refl
 
 -- `\u-10179?\u-8704?`: units pair over what is passed over; `\u-10179?\x7\u-8704?`: a word that is read parts them
-passed-pairs : standard (at 10 (unit (Value 4294957117)) ∷ at 10 (tells (63 ∷ [])) ∷ at 19 (unit (Value 4294958592)) ∷ at 19 (tells (63 ∷ [])) ∷ []) ≡ (0, 240 ∷ 159 ∷ 152 ∷ 128 ∷ []) ▸ end
+passed-pairs : standard (at 10 (unit (Some 4294957117)) ∷ at 10 (tells (63 ∷ [])) ∷ at 19 (unit (Some 4294958592)) ∷ at 19 (tells (63 ∷ [])) ∷ []) ≡ (0, 240 ∷ 159 ∷ 152 ∷ 128 ∷ []) ▸ end
 unfolding machine said gave left owed_behind standard_step taken_any taken unit_of values written_all written utf8 spoken moved ◌▸▸◌
 passed-pairs = refl
 
-read-parts : standard (at 10 (unit (Value 4294957117)) ∷ at 10 (tells (63 ∷ [])) ∷ at 19 (sets (7 ∷ [])) ∷ at 22 (unit (Value 4294958592)) ∷ [])
+read-parts : standard (at 10 (unit (Some 4294957117)) ∷ at 10 (tells (63 ∷ [])) ∷ at 19 (sets (7 ∷ [])) ∷ at 22 (unit (Some 4294958592)) ∷ [])
     ≡ (0, 239 ∷ 191 ∷ 189 ∷ []) ▸ (7, 239 ∷ 191 ∷ 189 ∷ []) ▸ end
 unfolding machine said gave left owed_behind standard_step taken_any taken unit_of values written_all written utf8 spoken moved settle ◌▸▸◌
 read-parts = refl
 
 -- `\u233?\u232?`: 01's rule on units of at most 255 does not hold
-both-kept : standard (at 10 (unit (Value 233)) ∷ at 10 (tells (63 ∷ [])) ∷ at 17 (unit (Value 232)) ∷ []) ≡ (0, 195 ∷ 169 ∷ []) ▸ (0, 195 ∷ 168 ∷ []) ▸ end
+both-kept : standard (at 10 (unit (Some 233)) ∷ at 10 (tells (63 ∷ [])) ∷ at 17 (unit (Some 232)) ∷ []) ≡ (0, 195 ∷ 169 ∷ []) ▸ (0, 195 ∷ 168 ∷ []) ▸ end
 unfolding machine said gave left owed_behind standard_step taken_any taken unit_of values written_all written utf8 spoken moved ◌▸▸◌
 both-kept = refl

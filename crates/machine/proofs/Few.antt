@@ -15,13 +15,13 @@ use lib.ListN.{length, length-append}
 use Rattle.answers.specs.declared.Refusal.{Refusal}
 use Rattle.answers.specs.Answers.{Fate, becomes, fails}
 use Rattle.rooms.specs.Streams.{Stream, end, items}
-use Rattle.tokens.specs.declared.Property.{Property}
 use Rattle.units.specs.declared.Run.{Run}
 use Rattle.units.specs.declared.Gave.{Gave}
 use Rattle.units.specs.Units.{unit_of, is_high, is_low, alone, pair, skip_count, nothing, taken, taken_any, met, met_any, step, standard_step, values}
 use Rattle.machine.specs.Stack.{moved, stack_of}
 use Rattle.machine.specs.Machine.{States, Steps, Deed, opens, closes, sets, says, tells, unit, refuses, parts, stops, passes, Act, at}
 use Rattle.machine.specs.Machine.{ended, gave, texts_of, left, owed_behind, written_all, ◌▸▸◌, onward, move_of, spoken, said, step_of, owes_of, machine}
+use Rattle.std.specs.Prelude.{Option, Some, None}
 
 -- what a run still owes
 abbrev pub owed : Run → ℕ
@@ -44,9 +44,9 @@ taken-few run u = go (ltb 0 run.high) (is_low u) (is_high u)
   where
     kept : Bool → Bool → Bool → Gave
     kept l w h =
-        cond (l && w) (record { run = record { begun = true; skipped = 0; high = 0 }; lost = false; some = true; value = pair run.high u })
-        (cond h (record { run = record { begun = true; skipped = 0; high = u }; lost = l; some = false; value = 0 })
-        (record { run = record { begun = true; skipped = 0; high = 0 }; lost = l; some = true; value = alone u }))
+        cond (l && w) (record { run = record { begun = true; skipped = 0; high = 0 }; lost = false; value = Some (pair run.high u) })
+        (cond h (record { run = record { begun = true; skipped = 0; high = u }; lost = l; value = None })
+        (record { run = record { begun = true; skipped = 0; high = 0 }; lost = l; value = Some (alone u) }))
 
     go : (l w h : Bool) → length (values (kept l w h)) + owed (kept l w h).run ≤ 1 + cond l 1 0
     go true true h = omega arith
@@ -68,7 +68,7 @@ unfolding met_any
 any-few skip run [] = nothing-few run run refl
 any-few skip run (u ∷ us) = met-few skip run u
 
-pub step-few : (skip : ℕ) (run : Run) (num : Property) → Few run (step skip run num)
+pub step-few : (skip : ℕ) (run : Run) (num : Option ℕ) → Few run (step skip run num)
 unfolding step
 step-few skip run num = any-few skip run (unit_of num)
 
@@ -85,12 +85,12 @@ unfolding taken_any
 any-standard run [] = let h = ended-few run in omega arith
 any-standard run (u ∷ us) = taken-few run u
 
-pub standard-few : (run : Run) (num : Property) → Few run (standard_step run num)
+pub standard-few : (run : Run) (num : Option ℕ) → Few run (standard_step run num)
 unfolding standard_step
 standard-few run num = any-standard run (unit_of num)
 
 -- a token, with its own text
-gave-few : {S : Type 0} (step : Run → Property → Gave) → ((run : Run) (num : Property) → Few run (step run num))
+gave-few : {S : Type 0} (step : Run → Option ℕ → Gave) → ((run : Run) (num : Option ℕ) → Few run (step run num))
     → (run : Run) (d : Deed S) → length (values (gave step run d)) + length (texts_of d) + owed (gave step run d).run ≤ 1 + owed run
 unfolding gave
 gave-few step few run (unit num) = let h = few run num in omega arith
@@ -134,8 +134,8 @@ module _ {R S E : Type 0} (states : States R S E) where
   onward-few p (becomes st) more = omega arith
   onward-few p (fails why) more = omega arith
 
-  module _ (steps : Steps R) (few : (r : R) (run : Run) (num : Property) → Few run (steps.step r run num)) where
-    step-of : (st : List R) (run : Run) (num : Property) → Few run (step_of steps st run num)
+  module _ (steps : Steps R) (few : (r : R) (run : Run) (num : Option ℕ) → Few run (steps.step r run num)) where
+    step-of : (st : List R) (run : Run) (num : Option ℕ) → Few run (step_of steps st run num)
     step-of [] run num = nothing-few run run refl
     step-of (top ∷ rest) run num = few top run num
 

@@ -17,7 +17,6 @@ use Rattle.answers.specs.declared.Why.TheVariants.{TooDeep}
 use Rattle.answers.specs.declared.Refusal.{Refusal}
 use Rattle.answers.specs.Answers.{Fate, becomes, fails}
 use Rattle.rooms.specs.Streams.{Stream, end, each}
-use Rattle.tokens.specs.declared.Property.{Property}
 use Rattle.units.specs.declared.Run.{Run}
 use Rattle.units.specs.declared.Gave.{Gave}
 use Rattle.units.specs.Units.{before, values}
@@ -25,6 +24,7 @@ use Rattle.machine.specs.Stack.{stack_limit, moved, stack_of}
 use Rattle.machine.specs.Moves.{next, moved_from}
 use Rattle.machine.specs.Machine.{States, Steps, Deed, opens, closes, sets, says, tells, unit, refuses, parts, stops, passes, Act, at}
 use Rattle.machine.specs.Machine.{ended, gave, texts_of, tells_rest, left, owing, owed_behind, written_all, ◌▸▸◌, onward, settle, move_of, spoken, said, step_of, owes_of, machine, start}
+use Rattle.std.specs.Prelude.{Option}
 
 -- a deed with each of its settings changed
 abbrev pub map_deed : {S S' : Type 0} → (S → S') → Deed S → Deed S'
@@ -62,7 +62,7 @@ pub record Carries {R S E R' S' E' : Type 0} (a : States R S E) (b : States R' S
 
 -- a `u` token does the same in both
 pub record Follows {R R' : Type 0} (a : Steps R) (b : Steps R') (h : R → R') : Type 0 where
-  pub steps : (r : R) (run : Run) (num : Property) → a.step r run num ≡ b.step (h r) run num
+  pub steps : (r : R) (run : Run) (num : Option ℕ) → a.step r run num ≡ b.step (h r) run num
   pub owes : (r : R) → a.owes r ≡ b.owes (h r)
 
 -- ---- without states
@@ -87,7 +87,7 @@ front-map e [] s = refl
 front-map e (x ∷ xs) s = rw (front-map e xs s)
 
 module _ {S S' : Type 0} (g : S → S') where
-  gave-map : (step : Run → Property → Gave) (run : Run) (d : Deed S) → gave step run d ≡ gave step run (map_deed g d)
+  gave-map : (step : Run → Option ℕ → Gave) (run : Run) (d : Deed S) → gave step run d ≡ gave step run (map_deed g d)
   unfolding gave
   gave-map step run opens = refl
   gave-map step run closes = refl
@@ -215,7 +215,7 @@ module _ {R S E R' S' E' : Type 0} {a : States R S E} {b : States R' S' E'} {h :
 -- ---- token by token
 
 module _ {R R' : Type 0} {a : Steps R} {b : Steps R'} {h : R → R'} (f : Follows a b h) where
-  step_map : (st : List R) (run : Run) (num : Property) → step_of a st run num ≡ step_of b (map h st) run num
+  step_map : (st : List R) (run : Run) (num : Option ℕ) → step_of a st run num ≡ step_of b (map h st) run num
   step_map [] run num = refl
   step_map (top ∷ rest) run num = f.steps top run num
 

@@ -14,7 +14,6 @@ use Prim.Native.Nat.{ℕ}
 use lib.Dec.{ltb}
 use Rattle.answers.specs.declared.Refusal.{Refusal}
 use Rattle.rooms.specs.Streams.{Stream, end}
-use Rattle.tokens.specs.declared.Property.{Property}
 use Rattle.utf8.proofs.Utf8.{written-scalar}
 use Rattle.units.specs.declared.Run.{Run}
 use Rattle.units.specs.declared.Gave.{Gave}
@@ -23,10 +22,11 @@ use Rattle.units.proofs.Units.{Numbers32, Scalars, walk, utf8_all-append, text-w
 use Rattle.machine.specs.Stack.{moved}
 use Rattle.machine.specs.Machine.{States, Steps, opens, closes, sets, says, tells, unit, refuses, parts, stops, passes, Act, at}
 use Rattle.machine.specs.Machine.{ended, gave, left, owed_behind, written_all, ◌▸▸◌, spoken, said, machine}
+use Rattle.std.specs.Prelude.{Option}
 
 -- ---- the texts of a run
 
-unfoldable pub texts_of_run : ℕ → Run → List Property → List (List ℕ)
+unfoldable pub texts_of_run : ℕ → Run → List (Option ℕ) → List (List ℕ)
 texts_of_run skip run [] = written_all (values (ended run))
 texts_of_run skip run (n ∷ ns) = written_all (values (step skip run n)) ++ texts_of_run skip (step skip run n).run ns
 
@@ -50,7 +50,7 @@ written-ended run = go (ltb 0 run.high)
     go true = written-scalars (65533 ∷ []) (refl, tt)
     go false = written-scalars [] tt
 
-texts-walk : (skip : ℕ) (run : Run) (ns : List Property) → Numbers32 ns → flatten (texts_of_run skip run ns) ≡ utf8_all (walk skip run ns)
+texts-walk : (skip : ℕ) (run : Run) (ns : List (Option ℕ)) → Numbers32 ns → flatten (texts_of_run skip run ns) ≡ utf8_all (walk skip run ns)
 unfolding texts_of_run walk
 texts-walk skip run [] h = written-ended run
 texts-walk skip run (n ∷ ns) h =
@@ -58,7 +58,7 @@ texts-walk skip run (n ∷ ns) h =
     ∙ rw (written-scalars (values (step skip run n)) (values-scalars skip run n h.0), texts-walk skip (step skip run n).run ns h.1)
     (sym (utf8_all-append (values (step skip run n)) (walk skip (step skip run n).run ns)))
 
-pub texts-run : (skip : ℕ) (ns : List Property) → Numbers32 ns → flatten (texts_of_run skip before ns) ≡ run_text skip ns
+pub texts-run : (skip : ℕ) (ns : List (Option ℕ)) → Numbers32 ns → flatten (texts_of_run skip before ns) ≡ run_text skip ns
 texts-run skip ns h = texts-walk skip before ns h ∙ text-walk skip ns
 
 -- ---- the machine over a run
@@ -68,11 +68,11 @@ unfolding ◌▸▸◌
 front-append [] b s = refl
 front-append (x ∷ a) b s = rw (front-append a b s)
 
-abbrev pub units : {S : Type 0} → List (ℕ × Property) → List (Act S)
-units ns = map (λ (n : ℕ × Property). at n.0 (unit n.1)) ns
+abbrev pub units : {S : Type 0} → List (ℕ × Option ℕ) → List (Act S)
+units ns = map (λ (n : ℕ × Option ℕ). at n.0 (unit n.1)) ns
 
-abbrev pub numbers : List (ℕ × Property) → List Property
-numbers ns = map (λ (n : ℕ × Property). n.1) ns
+abbrev pub numbers : List (ℕ × Option ℕ) → List (Option ℕ)
+numbers ns = map (λ (n : ℕ × Option ℕ). n.1) ns
 
 -- "A run of adjacent `u` tokens": what may follow it
 abbrev pub Elsewhere : {S : Type 0} → List (Act S) → Type 0
@@ -100,7 +100,7 @@ module _ {R S E : Type 0} (states : States R S E) where
   front-spoken top a b s = ap (λ (l : List E). l ▸▸ s) (spoken-append top a b) ∙ front-append (spoken states top a) (spoken states top b) s
 
   -- where a `u` token steps as 01 has it, and nothing is passed over behind it
-  module _ (steps : Steps R) (top : R) (rest : List R) (skip : ℕ) (same : (run : Run) (num : Property) → steps.step top run num ≡ step skip run num)
+  module _ (steps : Steps R) (top : R) (rest : List R) (skip : ℕ) (same : (run : Run) (num : Option ℕ) → steps.step top run num ≡ step skip run num)
       (none : steps.owes top ≡ 0) where
     -- what follows a run says first what the run still gives
     machine-ended : (run : Run) (more : List (Act S)) → Elsewhere more
@@ -118,7 +118,7 @@ module _ {R S E : Type 0} (states : States R S E) where
     machine-ended run (at p parts ∷ acts) h = front-spoken top (written_all (values (ended run))) [] _
     machine-ended run (at p (stops why) ∷ acts) h = front-spoken top (written_all (values (ended run))) [] _
 
-    pub machine-units : (run : Run) (ns : List (ℕ × Property)) (more : List (Act S)) → Elsewhere more
+    pub machine-units : (run : Run) (ns : List (ℕ × Option ℕ)) (more : List (Act S)) → Elsewhere more
         → machine states steps (top ∷ rest) run 0 (units ns ++ more)
         ≡ spoken states top (texts_of_run skip run (numbers ns)) ▸▸ machine states steps (top ∷ rest) before 0 more
     unfolding texts_of_run machine said gave left owed_behind moved
@@ -128,7 +128,7 @@ module _ {R S E : Type 0} (states : States R S E) where
         rw (same run n.1, none, append-nil, machine-units g.run ns more h)
         (sym (front-spoken top (written_all (values g)) (texts_of_run skip g.run (numbers ns)) (machine states steps (top ∷ rest) before 0 more)))
 
-    pub machine-run : (ns : List (ℕ × Property)) (more : List (Act S)) → Elsewhere more → Numbers32 (numbers ns)
+    pub machine-run : (ns : List (ℕ × Option ℕ)) (more : List (Act S)) → Elsewhere more → Numbers32 (numbers ns)
         → (texts : List (List ℕ)) × (flatten texts ≡ run_text skip (numbers ns))
         × (machine states steps (top ∷ rest) before 0 (units ns ++ more) ≡ spoken states top texts ▸▸ machine states steps (top ∷ rest) before 0 more)
     machine-run ns more h small =

@@ -5,13 +5,13 @@ use Rattle.answers.specs.declared.Why.{Why}
 use Rattle.answers.specs.declared.Refusal.{Refusal}
 use Rattle.answers.specs.Answers.{Fate, becomes, fails, refusal_at}
 use Rattle.rooms.specs.Streams.{Stream, end, stop, ◌▸◌}
-use Rattle.tokens.specs.declared.Property.{Property}
 use Rattle.utf8.specs.Utf8.{written}
 use Rattle.units.specs.declared.Run.{Run}
 use Rattle.units.specs.declared.Gave.{Gave}
 use Rattle.units.specs.Units.{before, nothing, cut_short, values}
 use Rattle.machine.specs.Stack.{Move, moved, stack_of}
 use Rattle.machine.specs.Stack as move
+use Rattle.std.specs.Prelude.{Option}
 
 -- what a state is made of: a fresh one; one with a setting done; and what is said in it
 pub record States (R S E : Type 0) : Type 0 where
@@ -21,7 +21,7 @@ pub record States (R S E : Type 0) : Type 0 where
 
 -- what a `u` token does in a state, by the reading: to the run of units; and how many characters are passed over behind it
 pub record Steps (R : Type 0) : Type 0 where
-  pub step : R → Run → Property → Gave
+  pub step : R → Run → Option ℕ → Gave
   pub owes : R → ℕ
 
 -- what a token does: a bracket; settings; a character; a text of the source; a unit of a run; a refusal, where there is a state; nothing, but
@@ -32,7 +32,7 @@ pub data Deed (S : Type 0) : Type 0 where
   sets : List S → Deed S
   says : List ℕ → Deed S
   tells : List ℕ → Deed S
-  unit : Property → Deed S
+  unit : Option ℕ → Deed S
   refuses : Why → Deed S
   parts : Deed S
   stops : Why → Deed S
@@ -46,7 +46,7 @@ pub data Act (S : Type 0) : Type 0 where
 abbrev pub ended : Run → Gave
 ended run = cut_short run
 
-unfoldable pub gave : {S : Type 0} → (Run → Property → Gave) → Run → Deed S → Gave
+unfoldable pub gave : {S : Type 0} → (Run → Option ℕ → Gave) → Run → Deed S → Gave
 gave step run (unit num) = step run num
 gave step run passes = nothing run
 gave step run opens = ended run
@@ -198,7 +198,7 @@ module _ {R S E : Type 0} (states : States R S E) where
 
 -- what a `u` token does in the top state; where there is none it is refused, and does nothing
 module _ {R : Type 0} (steps : Steps R) where
-  abbrev pub step_of : List R → Run → Property → Gave
+  abbrev pub step_of : List R → Run → Option ℕ → Gave
   step_of [] run num = nothing run
   step_of (top ∷ rest) run num = steps.step top run num
 

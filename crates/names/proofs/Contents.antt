@@ -1,6 +1,6 @@
 -- What the table holds. Each law but `each` is one computed test, over all names where it is about a name.
 --     each                        a test that holds of all numbers below n, by one computation
---     rows_long, names-all        the table has 328 bytes; there are 49 names
+--     names-all                   there are 49 names
 --     names-lettered              every name starts with a letter
 --     bounds-rise, -within, -end  a name ends behind its begin and within the run, the last one where the run does
 --     bounds-name                 between a name's bounds stands the name
@@ -57,10 +57,6 @@ link k = get_or rows (links_at + k) 0
 
 abbrev pub head : ℕ → ℕ
 head b = get_or rows (heads_at + (b - 97)) 0
-
-pub rows_long : length rows ≡ 328
-unfolding flatten run bounds_from links heads rows
-rows_long = refl
 
 names-all : length names ≡ 49
 names-all = refl

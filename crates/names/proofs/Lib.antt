@@ -1,4 +1,4 @@
--- Names: what a word's number means. Contents: what the table holds, computed. Rows: the loop over the bytes of a name.
+-- Names: what a word's number means. Contents: what the table holds, computed. Rows: a name's bytes in the table.
 -- Chains: the loop over the names with a word's first letter.
 pub mod Names
 mod Contents

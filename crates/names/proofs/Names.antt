@@ -1,11 +1,10 @@
 -- What `same_bytes` and a word's number mean.
---     same-bytes-eq       `same_bytes` is equality
---     same-bytes-length   lists of two lengths are not the same
---     number_small        a number is at most 49
---     number-named        a number below 49 is that of the word's name
---     number-unnamed      a word with the number 49 is none of the names
+--     same-bytes-eq    `same_bytes` is equality
+--     number_small     a number is at most 49
+--     number-named     a number below 49 is that of the word's name
+--     number-unnamed   a word with the number 49 is none of the names
 -- Assumes nothing.
-use mathlib.Core.Path.{◌≡◌, refl, ap}
+use mathlib.Core.Path.{◌≡◌, refl}
 use mathlib.Core.List.{List, [], ◌∷◌}
 use mathlib.Core.Bool.{Bool, true, false, cond, false≢true}
 use Prim.Native.Nat.{ℕ, zero, suc, ◌≤◌, ◌<◌}
@@ -29,13 +28,6 @@ same-bytes-eq (x ∷ a) (y ∷ b) e = go (eqb x y) refl (same-bytes-eq a b) e
         let l : a ≡ b = f r in
         cc
     go false q f r = absurd (false≢true r)
-
-pub same-bytes-length : (a b : List ℕ) → (length a ≡ length b → ⊥) → false ≡ same_bytes a b
-same-bytes-length a b f = go (same_bytes a b) refl
-  where
-    go : (t : Bool) → same_bytes a b ≡ t → false ≡ t
-    go true q = absurd (f (ap length (same-bytes-eq a b q)))
-    go false q = refl
 
 module _ (w : List ℕ) where
   place-small : (ns : List (List ℕ)) → place_in ns w ≤ length ns

@@ -1,31 +1,44 @@
--- The loop over the bytes of a name, which stands in the table t between the places b and e.
---     row-rises, row_fits        the bounds rise, and the name ends within the run
---     row_other                  a word of another length is not the name
---     row_more, -stop, -end      a byte that agrees, one that does not, the end of the name
+-- A name in the table t, between the places b and e.
+--     row-rises, row_fits   the bounds rise, and the name ends within the run
+--     row-name              what stands between them is the name
 -- Assumes nothing.
-use mathlib.Core.Path.{◌≡◌, refl, sym, ap, ◌∙◌}
-use mathlib.Core.List.{List}
-use mathlib.Core.Bool.{true, false, cond}
+use mathlib.Core.Path.{◌≡◌, refl, ap, ◌∙◌}
+use mathlib.Core.List.{List, [], ◌∷◌}
+use mathlib.Core.Bool.{Bool, true, false, cond, ◌&&◌}
 use Prim.Native.Nat.{ℕ, ◌+◌, ◌-◌, ◌≤◌, ◌<◌}
-use native.Mathlib.Numerals.{add-one}
 use native.Mathlib.Omega.{arith}
-use borrow.Author.Tests.{eq-eqb, ne_eqb}
-use lib.ListN.{length, get_or, drop, length-drop, drop_of_length-le}
-use lib.Seq.{drop-cons, get_or-take, get_or-drop, length-take-le}
+use lib.ListN.{length, get_or, take, drop}
 use lib.Dec.{eqb}
+use lib.Pointwise.{pointwise, pointwise_long}
+use Rattle.std.specs.List.{list_all, zip}
 use Rattle.names.specs.Names.{same_bytes, name_of, rows}
-use Rattle.names.proofs.Names.{same-bytes-length}
-use Rattle.names.proofs.Contents.{bounds_at, begins, ends, bounds-rise, bounds-within, bounds-name, rows_long}
+use Rattle.names.proofs.Contents.{bounds_at, begins, ends, bounds-rise, bounds-within, bounds-name}
 
--- two lists are the same if they are so from an index on
-pub Same : List ℕ → List ℕ → ℕ → Type 0
-Same w m i = same_bytes w m ≡ same_bytes (drop i w) (drop i m)
+same-pointwise : (a b : List ℕ) → pointwise eqb a b ≡ same_bytes a b
+unfolding same_bytes
+same-pointwise [] [] = refl
+same-pointwise [] (y ∷ b) = refl
+same-pointwise (x ∷ a) [] = refl
+same-pointwise (x ∷ a) (y ∷ b) = go (eqb x y) (same-pointwise a b)
+  where
+    go : (t : Bool) → pointwise eqb a b ≡ same_bytes a b → t && pointwise eqb a b ≡ cond t (same_bytes a b) false
+    go true e = e
+    go false e = refl
 
-pub same_start : (w m : List ℕ) → Same w m 0
-unfolding Same
-same_start w m = refl
+zip-pointwise : (a b : List ℕ) → length a ≡ length b → list_all (λ (p : ℕ × ℕ). eqb p.0 p.1) (zip a b) ≡ pointwise eqb a b
+zip-pointwise [] [] e = refl
+zip-pointwise [] (y ∷ b) e = absurd (omega arith)
+zip-pointwise (x ∷ a) [] e = absurd (omega arith)
+zip-pointwise (x ∷ a) (y ∷ b) e = ap (λ (t : Bool). eqb x y && t) (zip-pointwise a b (omega arith))
 
-module _ (t w : List ℕ) (k b e : ℕ) (q : t ≡ rows) (h : k < 49) (p : b ≡ get_or t (bounds_at + k) 0) (r : e ≡ get_or t (bounds_at + k + 1) 0) where
+long-pointwise : (a b : List ℕ) → (length a ≡ length b → ⊥) → false ≡ pointwise eqb a b
+long-pointwise a b f = go (pointwise eqb a b) refl
+  where
+    go : (t : Bool) → pointwise eqb a b ≡ t → false ≡ t
+    go true q = absurd (f (pointwise_long eqb a b q))
+    go false q = refl
+
+module _ (t : List ℕ) (k b e : ℕ) (q : t ≡ rows) (h : k < 49) (p : b ≡ get_or t (bounds_at + k) 0) (r : e ≡ get_or t (bounds_at + k + 1) 0) where
   begins-at : b ≡ begins k
   begins-at = p ∙ rw q
 
@@ -35,35 +48,15 @@ module _ (t w : List ℕ) (k b e : ℕ) (q : t ≡ rows) (h : k < 49) (p : b ≡
   pub row-rises : b ≤ e
   row-rises = omega (arith, begins-at, ends_at, bounds-rise k h)
 
-  pub row_fits : b + (e - b) ≤ bounds_at
-  row_fits = omega (arith, row-rises, ends_at, bounds-within k h)
+  pub row_fits : e ≤ bounds_at
+  row_fits = omega (arith, ends_at, bounds-within k h)
 
-  row-length : e - b ≡ length (name_of k)
-  row-length =
-      let l : ends k - begins k ≤ length (drop (begins k) rows) = omega (arith, length-drop (begins k) rows, rows_long, bounds-within k h) in
-      omega (arith, begins-at, ends_at, length-take-le (ends k - begins k) (drop (begins k) rows) l, ap length (bounds-name k h))
+  row-name : (w : List ℕ) → pointwise eqb w (take (e - b) (drop b t)) ≡ same_bytes w (name_of k)
+  row-name w = rw (q, begins-at, ends_at, bounds-name k h) (same-pointwise w (name_of k))
 
-  row-byte : (i : ℕ) → i < e - b → get_or t (b + i) 0 ≡ get_or (name_of k) i 0
-  row-byte i l =
-      let m : i < ends k - begins k = omega (arith, begins-at, ends_at) in
-      rw (q, begins-at, ← get_or-drop (begins k) rows i 0, ← get_or-take (ends k - begins k) (drop (begins k) rows) i 0 m, bounds-name k h)
+  module _ (w : List ℕ) where
+    pub row-same : length w ≡ length (take (e - b) (drop b t)) → list_all (λ (p : ℕ × ℕ). eqb p.0 p.1) (zip w (take (e - b) (drop b t))) ≡ same_bytes w (name_of k)
+    row-same l = zip-pointwise w (take (e - b) (drop b t)) l ∙ row-name w
 
-  pub row_other : (length w ≡ e - b → ⊥) → false ≡ same_bytes w (name_of k)
-  row_other f = same-bytes-length w (name_of k) (λ s. f (s ∙ sym row-length))
-
-  module _ (l : length w ≡ e - b) (i : ℕ) (s : Same w (name_of k) i) where
-    pub row-end : e - b ≤ i → true ≡ same_bytes w (name_of k)
-    unfolding Same same_bytes
-    row-end m = sym (s ∙ rw (drop_of_length-le w {i = i} (omega arith), drop_of_length-le (name_of k) {i = i} (omega (arith, row-length))))
-
-    module _ (m : i < e - b) where
-      same_at : same_bytes w (name_of k) ≡ cond (eqb (get_or w i 0) (get_or t (b + i) 0)) (same_bytes (drop (i + 1) w) (drop (i + 1) (name_of k))) false
-      unfolding Same same_bytes
-      same_at = s ∙ rw (drop-cons w i 0 (omega arith), drop-cons (name_of k) i 0 (omega (arith, row-length)), row-byte i m, add-one)
-
-      pub row_more : get_or w i 0 ≡ get_or t (b + i) 0 → Same w (name_of k) (i + 1)
-      unfolding Same
-      row_more c = rw (eq-eqb (get_or w i 0) (get_or t (b + i) 0) c) at same_at
-
-      pub row-stop : (get_or w i 0 ≡ get_or t (b + i) 0 → ⊥) → false ≡ same_bytes w (name_of k)
-      row-stop c = sym (rw (ne_eqb (get_or w i 0) (get_or t (b + i) 0) c) at same_at)
+    pub row-other : (length w ≡ length (take (e - b) (drop b t)) → ⊥) → false ≡ same_bytes w (name_of k)
+    row-other f = long-pointwise w (take (e - b) (drop b t)) f ∙ row-name w

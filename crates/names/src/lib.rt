@@ -6,8 +6,6 @@
 ghost use Rattle.std.specs.Prelude.{◌≡◌, ◌≤◌, ◌<◌};
 ghost use Rattle.names.specs.Names.{rows, name_of, same_bytes, word_number};
 
-use classes::wide;
-
 pub type Table = [u8; 328];
 
 // Where the rows of the table start; the names' run starts at 0.
@@ -37,51 +35,42 @@ pub fn table() -> Table
     NAMES
 }
 
-// Whether w is the name whose number is `row`: its length first, which tells most words apart, then its bytes.
+// Whether w is the name whose number is `row`.
 fn is_row(names: &Table, w: &[u8], row: usize) -> bool
     requires { (names.now ≡ rows) × (row < 49) }
     ensures { result ≡ same_bytes w.now (name_of row) }
 {
     let at = BOUNDS + row;
-    let begin = wide(names[at]);
-    let end = wide(names[at + 1]);
-    let n = end - begin;
-    if w.len() != n {
-        return false;
-    }
-    let mut i = 0;
-    while i < n {
-        let b = names[begin + i];
-        if w[i] != b {
-            return false;
-        }
-        i += 1;
-    }
-    true
+    let begin = usize::from(names[at]);
+    let end = usize::from(names[at + 1]);
+    let name = &names[begin..end];
+    // Not `w == name`, whose way for long slices takes ten instructions more a word.
+    w.len() == name.len() && w.iter().zip(name).all(|(a, b)| a == b)
 }
 
 // The number of a name, 0 to 48; 49 for any other word. `names` is the table, as `table()` gives it. Only names that
 // start with the word's first letter are looked at: the table links each to the next.
+// No `Option`: records hold the number, and every caller's clauses name `word_number`.
 pub fn number_of(names: &Table, w: &[u8]) -> u32
     requires { names.now ≡ rows }
     ensures number { result ≡ word_number w.now }
     ensures small { result ≤ 49 }
 {
-    if w.len() == 0 {
+    let Some(&first) = w.first() else {
         return 49;
-    }
-    let first = w[0];
+    };
     if !classes::is_letter(first) {
         return 49;
     }
-    let head = HEADS + wide(first - b'a');
-    let mut row = wide(names[head]);
+    let head = HEADS + usize::from(first - b'a');
+    let mut row = usize::from(names[head]);
+    // A `while`: each row says which one is next.
     while row < 49 {
         if is_row(names, w, row) {
             return row as u32;
         }
         let link = LINKS + row;
-        row = wide(names[link]);
+        row = usize::from(names[link]);
     }
     49
 }

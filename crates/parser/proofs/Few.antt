@@ -14,8 +14,6 @@ use lib.ListN.{length, length-append}
 use lib.Dec.{eqb, ltb}
 use Rattle.answers.specs.declared.Refusal.{Refusal}
 use Rattle.answers.specs.declared.Why.TheVariants.{BlockRoom, TextRoom}
-use Rattle.answers.specs.declared.Outcome.{Outcome}
-use Rattle.answers.specs.declared.Outcome.TheVariants.{Done, Refused}
 use Rattle.answers.specs.Answers.{refusal, Found, found, refused}
 use Rattle.rooms.specs.Streams.{Stream, end, stop, ◌▸◌, items, answer}
 use Rattle.rooms.specs.Rooms.{capacity, table_limit}
@@ -37,6 +35,7 @@ use Rattle.runs.specs.Runs.{rows, steps_by}
 use Rattle.runs.proofs.Saying.{steps-few}
 use Rattle.body.specs.Body.{acts, body}
 use Rattle.parser.specs.Parsing.{begun, Sizes, letter_from, placed, bodied, headed, walked, FewIn}
+use Rattle.std.specs.Prelude.{Result, Ok, Err}
 
 walk-few : (w : ℕ) (ts : List Token) → length (walk_from w ts) ≤ length ts
 unfolding walk_from
@@ -129,10 +128,10 @@ placed-few rd b t ts =
     let y = capacity-most t in
     (omega arith, omega arith)
 
-letter-from-few : (rd : Reading) (b t : ℕ) (ts : List Token) (h : Tables) → (length h.fonts ≤ 256) × (length h.colours ≤ 256) → (o : Outcome)
+letter-from-few : (rd : Reading) (b t : ℕ) (ts : List Token) (h : Tables) → (length h.fonts ≤ 256) × (length h.colours ≤ 256) → (o : Result ℕ Refusal)
     → FewIn (length ts) (letter_from h (placed rd b t ts) o)
-letter-from-few rd b t ts h k (Done n) = let p = placed-few rd b t ts in record { fonts = k.0; colours = k.1; blocks = p.0; text = p.1 }
-letter-from-few rd b t ts h k (Refused r) = tt
+letter-from-few rd b t ts h k (Ok n) = let p = placed-few rd b t ts in record { fonts = k.0; colours = k.1; blocks = p.0; text = p.1 }
+letter-from-few rd b t ts h k (Err r) = tt
 
 headed-few : (rd : Reading) (b t : ℕ) (ts : List Token) (x : Found Tables) → ((s : Tables) → x ≡ found s → (length s.fonts ≤ 256) × (length s.colours ≤ 256))
     → FewIn (length ts) (headed rd b t ts x)

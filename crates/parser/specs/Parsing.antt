@@ -1,9 +1,7 @@
 -- 01, Answer numbers 8 to 20, and 02, A4: tokens become tables, blocks and text. Assumes nothing: these are definitions.
 use Rattle.std.specs.Prelude.{ℕ, ◌≤◌, List, [], ◌∷◌, length}
 use Rattle.answers.specs.declared.Why.TheVariants.{NoTokens, FirstToken}
-use Rattle.answers.specs.declared.Outcome.{Outcome}
-use Rattle.answers.specs.declared.Outcome.TheVariants.{Done, Refused}
-use Rattle.answers.specs.Answers.{refusal, refusal_at, why_number, Found, found, refused}
+use Rattle.answers.specs.Answers.{refusal, refusal_at, Found, found, refused}
 use Rattle.rooms.specs.Streams.{Stream, items, answer}
 use Rattle.rooms.specs.Rooms.{table_limit, capacity}
 use Rattle.tokens.specs.Tokens.{Shown, Token, token}
@@ -14,11 +12,10 @@ use Rattle.readings.specs.declared.Reading.{Reading}
 use Rattle.blocks.specs.Pages.{Piece, block_words, text_capacity, none, roomy, blocks, text_of}
 use Rattle.body.specs.Body.{body}
 use Rattle.parser.specs.declared.Counts.{Counts}
-use Rattle.parser.specs.declared.Answer.{Answer}
-use Rattle.parser.specs.declared.Answer.TheVariants.{Read, Refuses}
 use Rattle.fonts.specs.Rows.{font_words}
 use Rattle.colours.specs.Colours.{colour_words}
 use Rattle.answers.specs.declared.Refusal.{Refusal}
+use Rattle.std.specs.Prelude.{Result, Ok, Err}
 
 -- "8: no tokens (blank source)", "9: first token is no opening bracket", with the place of its slice (02, A4)
 abbrev pub begun : List Token → Found (List Token)
@@ -50,9 +47,9 @@ pub record Letter : Type 0 where
   pub pieces : List Piece
 
 -- the pieces of the body that find room in b words and t bytes, or the first refusal met
-abbrev pub letter_from : Tables → Stream Refusal Piece → Outcome → Found Letter
-letter_from h s (Done n) = found (record { tables = h; pieces = items s })
-letter_from h s (Refused r) = refused r
+abbrev pub letter_from : Tables → Stream Refusal Piece → Result ℕ Refusal → Found Letter
+letter_from h s (Ok n) = found (record { tables = h; pieces = items s })
+letter_from h s (Err r) = refused r
 
 unfoldable pub placed : Reading → ℕ → ℕ → List Token → Stream Refusal Piece
 placed rd b t ts = roomy (capacity block_words b) (text_capacity t) none (body rd (walk ts))
@@ -71,21 +68,13 @@ abbrev pub walked : Reading → Sizes → Found (List Token) → Found Letter
 walked rd z (found ts) = headed rd z.blocks z.text ts (tables (table_limit font_words z.fonts) (table_limit colour_words z.colours) (walk ts))
 walked rd z (refused r) = refused r
 
--- "0 is success."; the number, the place and the five counts of an answer
-abbrev pub answer_number : Answer → ℕ
-answer_number (Read n) = 0
-answer_number (Refuses r) = why_number r.why
-
-abbrev pub answer_place : Answer → ℕ
-answer_place (Read n) = 0
-answer_place (Refuses r) = r.place
-
+-- "Any refusal returns zero counts": the five counts of an answer
 abbrev pub no_counts : Counts
 no_counts = record { tokens = 0; fonts = 0; colours = 0; blocks = 0; text = 0 }
 
-abbrev pub answer_counts : Answer → Counts
-answer_counts (Read n) = n
-answer_counts (Refuses r) = no_counts
+abbrev pub answer_counts : Result Counts Refusal → Counts
+answer_counts (Ok n) = n
+answer_counts (Err r) = no_counts
 
 -- how much a letter of n tokens has, if it was read: what hosts rely on, who count in 32 bits
 pub record Few (n : ℕ) (l : Letter) : Type 0 where

@@ -9,8 +9,6 @@ use native.Mathlib.Omega.{arith}
 use lib.Dec.{leb}
 use Rattle.answers.specs.declared.Refusal.{Refusal}
 use Rattle.answers.specs.declared.Why.TheVariants.{TokenRoom, NoTokens, FirstToken}
-use Rattle.answers.specs.declared.Outcome.{Outcome}
-use Rattle.answers.specs.declared.Outcome.TheVariants.{Done, Refused}
 use Rattle.answers.specs.Answers.{refusal, Found, found, refused, Told}
 use Rattle.answers.proofs.Refusals.{told_at, told_none}
 use Rattle.rooms.specs.Streams.{Stream, end, stop, ◌▸◌, items, answer, ended}
@@ -26,33 +24,33 @@ use Rattle.header.specs.Entering.{Tables}
 use Rattle.header.specs.Header.{tables}
 use Rattle.readings.specs.declared.Reading.{Reading}
 use Rattle.blocks.specs.Pages.{Piece}
-use Rattle.parser.specs.declared.Answer.TheVariants.{Read, Refuses}
 use Rattle.parser.specs.Parsing.{begun, Sizes, Letter, letter_from, placed, bodied, headed, walked}
 use Rattle.reader.specs.Reading.{cut, letter_of, answered, read_answer}
 use Rattle.places.specs.Promise.{CutPromise, ReadPromise}
 use Rattle.places.proofs.Walks.{TokensAt, walk_at}
 use Rattle.places.proofs.Tables.{FoundAt, tables-at}
 use Rattle.places.proofs.Bodies.{placed_at}
+use Rattle.std.specs.Prelude.{Result, Ok, Err}
 
 -- ---- cutting
 
-abbrev OutcomeAt : (ℕ → Type 0) → Outcome → Type 0
-OutcomeAt P (Done n) = Unit {0}
-OutcomeAt P (Refused r) = Told P r
+abbrev OutcomeAt : (ℕ → Type 0) → Result ℕ Refusal → Type 0
+OutcomeAt P (Ok n) = Unit {0}
+OutcomeAt P (Err r) = Told P r
 
 cut_at : (rd : Reading) (src : List ℕ) (total : ℕ) → OutcomeAt (SliceAt rd src) (cut_answer rd src total)
 unfolding cut_answer settled
 cut_at rd src total = go (answer 0 (token_stream rd src)) refl
   where
-    fits : (n : ℕ) (t : Bool) → OutcomeAt (SliceAt rd src) (cond t (Done n) (Refused (refusal TokenRoom)))
+    fits : (n : ℕ) (t : Bool) → OutcomeAt (SliceAt rd src) (cond t (Ok n) (Err (refusal TokenRoom)))
     fits n true = tt
     fits n false = told_none (SliceAt rd src) TokenRoom refl
 
-    go : (o : Outcome) → answer 0 (token_stream rd src) ≡ o → OutcomeAt (SliceAt rd src) (settled token_layout (refusal TokenRoom) total o)
-    go (Done n) e = fits n (leb n (capacity token_words total))
-    go (Refused r) e = stream-stops rd src e
+    go : (o : Result ℕ Refusal) → answer 0 (token_stream rd src) ≡ o → OutcomeAt (SliceAt rd src) (settled token_layout (refusal TokenRoom) total o)
+    go (Ok n) e = fits n (leb n (capacity token_words total))
+    go (Err r) e = stream-stops rd src e
 
-refused-told : (P : ℕ → Type 0) {o : Outcome} {r : Refusal} → OutcomeAt P o → o ≡ Refused r → Told P r
+refused-told : (P : ℕ → Type 0) {o : Result ℕ Refusal} {r : Refusal} → OutcomeAt P o → o ≡ Err r → Told P r
 refused-told P h e = rw e at h
 
 pub cut-kept : CutPromise
@@ -67,9 +65,9 @@ module _ (P : ℕ → Type 0) where
   answer_at (stop r) n h = h
   answer_at (x ▸ s) n h = answer_at s (n + 1) h
 
-  letter_at : (h : Tables) (s : Stream Refusal Piece) (o : Outcome) → OutcomeAt P o → FoundAt P (letter_from h s o)
-  letter_at h s (Done n) k = tt
-  letter_at h s (Refused r) k = k
+  letter_at : (h : Tables) (s : Stream Refusal Piece) (o : Result ℕ Refusal) → OutcomeAt P o → FoundAt P (letter_from h s o)
+  letter_at h s (Ok n) k = tt
+  letter_at h s (Err r) k = k
 
   headed-at : (rd : Reading) (b t : ℕ) (ts : List Token) (x : Found Tables) → TokensAt P ts → FoundAt P x → FoundAt P (headed rd b t ts x)
   unfolding bodied
@@ -99,14 +97,14 @@ whole-at : (rd : Reading) (src : List ℕ) (z : Sizes) → FoundAt (SliceAt rd s
 unfolding letter_of
 whole-at rd src z = go (cut_answer rd src z.tokens) (cut_at rd src z.tokens)
   where
-    go : (o : Outcome) → OutcomeAt (SliceAt rd src) o → FoundAt (SliceAt rd src) (cut rd z (items (token_stream rd src)) o)
-    go (Done n) h = begun-at (SliceAt rd src) rd z (items (token_stream rd src)) (tokens-at rd src (items (token_stream rd src)) (stream-slices rd src))
-    go (Refused r) h = h
+    go : (o : Result ℕ Refusal) → OutcomeAt (SliceAt rd src) o → FoundAt (SliceAt rd src) (cut rd z (items (token_stream rd src)) o)
+    go (Ok n) h = begun-at (SliceAt rd src) rd z (items (token_stream rd src)) (tokens-at rd src (items (token_stream rd src)) (stream-slices rd src))
+    go (Err r) h = h
 
 pub read_kept : ReadPromise
 unfolding read_answer
 read_kept rd src z r e = go (letter_of rd src z) (whole-at rd src z) e
   where
-    go : (x : Found Letter) → FoundAt (SliceAt rd src) x → answered rd src x ≡ Refuses r → Told (SliceAt rd src) r
-    go (found l) h e = absurd (let w : Read _ ≡ Refuses r = e in let v : ◌≡◌ {A = ℕ} 0 1 = cc in omega arith)
+    go : (x : Found Letter) → FoundAt (SliceAt rd src) x → answered rd src x ≡ Err r → Told (SliceAt rd src) r
+    go (found l) h e = absurd (let w : Ok _ ≡ Err r = e in let v : ◌≡◌ {A = ℕ} 0 1 = cc in omega arith)
     go (refused q) h e = let d : q ≡ r = cc in rw d at h

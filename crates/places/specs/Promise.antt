@@ -5,18 +5,17 @@
 -- these are definitions.
 use Rattle.std.specs.Prelude.{ℕ, ◌≡◌, List}
 use Rattle.answers.specs.declared.Refusal.{Refusal}
-use Rattle.answers.specs.declared.Outcome.TheVariants.{Refused}
 use Rattle.answers.specs.Answers.{Told}
 use Rattle.cutter.specs.Cutting.{cut_answer, SliceAt}
 use Rattle.readings.specs.declared.Reading.{Reading}
-use Rattle.parser.specs.declared.Answer.TheVariants.{Refuses}
 use Rattle.parser.specs.Parsing.{Sizes}
 use Rattle.reader.specs.Reading.{read_answer}
+use Rattle.std.specs.Prelude.{Err}
 
 -- Cutting: any source, any room. ` {}\'zz}` is refused by 4 at byte 3; in a room of one token ` {}` is refused by 7, at 0
 abbrev pub CutPromise : Type 0
-CutPromise = (rd : Reading) (src : List ℕ) (total : ℕ) (r : Refusal) → cut_answer rd src total ≡ Refused r → Told (SliceAt rd src) r
+CutPromise = (rd : Reading) (src : List ℕ) (total : ℕ) (r : Refusal) → cut_answer rd src total ≡ Err r → Told (SliceAt rd src) r
 
 -- Reading: any reading, source and rooms. `{}}b}` is refused by 14 at byte 2: the text b is of the slice of its bracket
 abbrev pub ReadPromise : Type 0
-ReadPromise = (rd : Reading) (src : List ℕ) (z : Sizes) (r : Refusal) → read_answer rd src z ≡ Refuses r → Told (SliceAt rd src) r
+ReadPromise = (rd : Reading) (src : List ℕ) (z : Sizes) (r : Refusal) → read_answer rd src z ≡ Err r → Told (SliceAt rd src) r

@@ -19,7 +19,6 @@ use Rattle.answers.specs.Answers.{Fate, becomes, fails}
 use Rattle.classes.specs.Bytes.{any, is_high}
 use Rattle.rooms.specs.Streams.{Stream, end}
 use Rattle.rooms.proofs.Streams.{Each}
-use Rattle.tokens.specs.declared.Property.{Property}
 use Rattle.tokens.specs.Tokens.{Shown, Token, shown_in, shown_by, value_of}
 use Rattle.tokens.specs.WordNumbers as words
 use Rattle.utf8.specs.Utf8.{is_scalar, utf8, written}
@@ -51,6 +50,7 @@ use Rattle.body.specs.Body.{act_of, acts, body}
 use Rattle.roundtrips.specs.Trips.{Words}
 use Rattle.previews.proofs.Tokens.{All, low-drop, Fine, FineIn}
 use Rattle.previews.proofs.States.{Sound, SoundEffect, fresh-sound, all_sound, either, effect-sound, sound-range, sound-words, sound-flush}
+use Rattle.std.specs.Prelude.{Option}
 
 -- ---- the walk
 
@@ -146,14 +146,14 @@ module _ (rd : Reading) where
   unfolding any
   line_low = refl
 
-  word-fine : (w : ℕ) (num : Property) → value_of num < 4294967296 → FineDeed (token_deed rd (Shown.word w num))
+  word-fine : (w : ℕ) (num : Option ℕ) → value_of num < 4294967296 → FineDeed (token_deed rd (Shown.word w num))
   word-fine w num h = go (eqb w words.unicode)
     where
       go : (t : Bool) → FineDeed (cond t (unit num) (doing (effect rd w num)))
       go true = tt
       go false = doing-fine (effect rd w num) (effect-sound rd w num h)
 
-  symbol-fine : (b : ℕ) (num : Property) → FineDeed (token_deed rd (Shown.symbol b num))
+  symbol-fine : (b : ℕ) (num : Option ℕ) → FineDeed (token_deed rd (Shown.symbol b num))
   unfolding symbol_effect
   symbol-fine b num =
       doing-fine (symbol_effect b num)

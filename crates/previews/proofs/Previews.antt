@@ -11,10 +11,8 @@ use native.Mathlib.Omega.{arith}
 use borrow.Author.Tests.{ltb-true}
 use lib.ListN.{length, take}
 use lib.Dec.{ltb}
-use Rattle.answers.specs.declared.Outcome.{Outcome}
-use Rattle.answers.specs.declared.Outcome.TheVariants.{Done, Refused}
 use Rattle.answers.specs.declared.Why.TheVariants.{OutputRoom}
-use Rattle.answers.specs.Answers.{refusal, outcome_number, Found, found, refused}
+use Rattle.answers.specs.Answers.{refusal, answer_number, Found, found, refused}
 use Rattle.rooms.specs.Streams.{Stream, items, answer}
 use Rattle.rooms.specs.Rooms.{capacity, filled, table_limit}
 use Rattle.rooms.proofs.Rooms.{settled-over}
@@ -30,12 +28,10 @@ use Rattle.blocks.specs.Pages.{Piece, none, blocks, text_of, records, block_word
 use Rattle.blocks.proofs.Blocks.{text-blocks, length-records}
 use Rattle.body.specs.Body.{body}
 use Rattle.parser.specs.declared.Counts.{Counts}
-use Rattle.parser.specs.declared.Answer.TheVariants.{Read}
 use Rattle.parser.specs.Parsing.{begun, Sizes, Letter, letter_from, placed, bodied, headed, walked}
 use Rattle.reader.specs.Reading.{cut, letter_of, counts_of}
 use Rattle.reader.specs.Reading.{answered, read_answer, block_room, text_room}
 use Rattle.storing.specs.Bytes.{list_bytes}
-use Rattle.stored.specs.Stored.{answer_number}
 use Rattle.stored.specs.Checks.{checked}
 use Rattle.stored.proofs.Ample.{check-reads}
 use Rattle.storing.specs.Good.{Good, Flat}
@@ -51,21 +47,22 @@ use Rattle.previews.proofs.Joining.{items-storable, blocks-storable, storable-go
 use Rattle.fonts.specs.Rows.{font_words}
 use Rattle.colours.specs.Colours.{colour_words}
 use Rattle.answers.specs.declared.Refusal.{Refusal}
+use Rattle.std.specs.Prelude.{Result, Ok, Err}
 
 -- ---- the pieces of a letter that was read
 
 -- they are those of the body, and all of them found room
 abbrev Laid : Reading → ℕ → ℕ → List Token → Found Letter → Type 0
-Laid rd b t ts (found l) = (n : ℕ) × (answer 0 (placed rd b t ts) ≡ Done n) × (l.pieces ≡ items (placed rd b t ts))
+Laid rd b t ts (found l) = (n : ℕ) × (answer 0 (placed rd b t ts) ≡ Ok n) × (l.pieces ≡ items (placed rd b t ts))
 Laid rd b t ts (refused r) = Unit {0}
 
 bodied-laid : (rd : Reading) (b t : ℕ) (ts : List Token) (h : Tables) → Laid rd b t ts (bodied rd b t ts h)
 unfolding bodied
 bodied-laid rd b t ts h = go (answer 0 (placed rd b t ts)) refl
   where
-    go : (o : Outcome) → answer 0 (placed rd b t ts) ≡ o → Laid rd b t ts (letter_from h (placed rd b t ts) o)
-    go (Done n) e = (n, e, refl)
-    go (Refused r) e = tt
+    go : (o : Result ℕ Refusal) → answer 0 (placed rd b t ts) ≡ o → Laid rd b t ts (letter_from h (placed rd b t ts) o)
+    go (Ok n) e = (n, e, refl)
+    go (Err r) e = tt
 
 headed-laid : (rd : Reading) (b t : ℕ) (ts : List Token) (x : Found Tables) → Laid rd b t ts (headed rd b t ts x)
 headed-laid rd b t ts (found h) = bodied-laid rd b t ts h
@@ -85,9 +82,9 @@ module _ (rd : Reading) (z : Sizes) where
   begun-laid (token p n (Shown.unknown q bs num) ∷ ts) = tt
   begun-laid (token p n (Shown.symbol b num) ∷ ts) = tt
 
-  cut-laid : (ts : List Token) (o : Outcome) → Laid rd z.blocks z.text ts (cut rd z ts o)
-  cut-laid ts (Done n) = begun-laid ts
-  cut-laid ts (Refused r) = tt
+  cut-laid : (ts : List Token) (o : Result ℕ Refusal) → Laid rd z.blocks z.text ts (cut rd z ts o)
+  cut-laid ts (Ok n) = begun-laid ts
+  cut-laid ts (Err r) = tt
 
   letter-laid : (src : List ℕ) → Laid rd z.blocks z.text (items (token_stream rd src)) (letter_of rd src z)
   unfolding letter_of
@@ -95,7 +92,7 @@ module _ (rd : Reading) (z : Sizes) where
 
 -- ---- pieces that found room
 
-module _ (rd : Reading) (b t : ℕ) (ts : List Token) {n : ℕ} (d : answer 0 (placed rd b t ts) ≡ Done n) where
+module _ (rd : Reading) (b t : ℕ) (ts : List Token) {n : ℕ} (d : answer 0 (placed rd b t ts) ≡ Ok n) where
   placed-storable : All FineIn ts → All (Storable rd) (items (placed rd b t ts))
   unfolding placed
   placed-storable h =
@@ -131,7 +128,7 @@ module _ (rd : Reading) (src : List ℕ) (z : Sizes) {l : Letter} (e : letter_of
 module _ (xs : List Piece) (good : Good none xs ≡ true) (flat : Flat xs ≡ true) (short : length (text_of xs) ≤ 2147483647) where
   -- a room that is too small
   write-full : (total : ℕ) → total < length (list_bytes xs)
-      → write_answer total (records 0 xs) (text_of xs) ≡ Refused (refusal OutputRoom)
+      → write_answer total (records 0 xs) (text_of xs) ≡ Err (refusal OutputRoom)
   unfolding write_answer
   write-full total h = rw (good-list xs good short flat) (settled-over byte_layout (refusal OutputRoom) total (length (list_bytes xs)) (omega arith))
 
@@ -148,7 +145,7 @@ module _ (xs : List Piece) (good : Good none xs ≡ true) (flat : Flat xs ≡ tr
       list-reads xs good flat small few b t (record { blocks = rw (length-records xs 0) h; text = k; counts = short })
 
 -- what is read back in ample rooms, the check accepts
-back-checked : (c : Counts) (ws tx s : List ℕ) → ReadBack c ws tx s → outcome_number (checked s) ≡ 0
+back-checked : (c : Counts) (ws tx s : List ℕ) → ReadBack c ws tx s → answer_number (checked s) ≡ 0
 back-checked c ws tx s h =
     let b : ℕ = (length s + c.blocks) * block_words in
     let t : ℕ = 2147483647 + c.text in
@@ -192,12 +189,12 @@ module _ (rd : Reading) (src : List ℕ) (z : Sizes) where
         bytes = ap (take c.text) (text-room rd src z e) ∙ take-filled z.text (text_of l.pieces) c.text refl ∙ sym same;
       }
 
-  read-blocks : (c : Counts) → read_answer rd src z ≡ Read c → Blocks rd src z c
+  read-blocks : (c : Counts) → read_answer rd src z ≡ Ok c → Blocks rd src z c
   unfolding read_answer
   read-blocks c a = go (letter_of rd src z) refl (letter-laid rd z src) a
     where
       go : (x : Found Letter) → letter_of rd src z ≡ x → Laid rd z.blocks z.text (items (token_stream rd src)) x
-          → answered rd src x ≡ Read c → Blocks rd src z c
+          → answered rd src x ≡ Ok c → Blocks rd src z c
       go (found l) e d b =
           let same : counts_of rd src l ≡ c = cc in
           subst (λ (k : Counts). Blocks rd src z k) same (letter-blocks l e d)

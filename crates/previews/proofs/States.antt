@@ -17,8 +17,6 @@ use lib.Dec.{leb, ltb, eqb}
 use lib.ListN.{length, get_or, set, length-set}
 use lib.Seq.{get_or-set_same, get_or-set_other}
 use Rattle.answers.specs.declared.Why.TheVariants.{NumberField, LineSpacing}
-use Rattle.tokens.specs.declared.Property.{Property}
-use Rattle.tokens.specs.declared.Property.TheVariants.{None, Value}
 use Rattle.tokens.specs.Tokens.{value_of}
 use Rattle.tokens.specs.WordNumbers as words
 use Rattle.readings.specs.declared.Reading.{Reading}
@@ -33,6 +31,7 @@ use Rattle.runs.specs.Runs.{rows}
 use Rattle.fields.specs.Fields.{in_range}
 use Rattle.roundtrips.specs.Trips.{Words}
 use Rattle.previews.proofs.Tokens.{All}
+use Rattle.std.specs.Prelude.{Option, Some, None}
 
 -- a number of 32 bits
 abbrev Word : ℕ → Type 0
@@ -169,9 +168,9 @@ module _ (rd : Reading) where
   flag-by-word Paragraphs v = either-word (eqb v 1) 1 0 (omega arith) (omega arith)
   flag-by-word Standard v = either-word (eqb v 0) 0 1 (omega arith) (omega arith)
 
-  flag_word : (num : Property) → Word (flag_of rd num)
+  flag_word : (num : Option ℕ) → Word (flag_of rd num)
   flag_word None = omega arith
-  flag_word (Value v) = flag-by-word rd v
+  flag_word (Some v) = flag-by-word rd v
 
   spacing-sound : (v : ℕ) → SoundEffect (spacing v)
   unfolding spacing
@@ -225,7 +224,7 @@ module _ (rd : Reading) where
       (lined-sound 0 0 (omega arith) (omega arith) refl (settle rows front r)
       (all_sound front (resets-fit field.alignment 3 (omega arith)) r h))
 
-  module _ (w : ℕ) (num : Property) where
+  module _ (w : ℕ) (num : Option ℕ) where
     painter-sound : (next : Effect) → SoundEffect next → SoundEffect (painter_word rd w num next)
     unfolding painter_word
     painter-sound next k =

@@ -16,15 +16,11 @@ use Rattle.answers.specs.Answers.{refusal, refusal_at}
 use Rattle.classes.specs.declared.Class.TheVariants.{White, WordEnd, InWord, Space, Numeral}
 use Rattle.classes.specs.Bytes.{is_letter, is_high, in_class, lead, body, any}
 use Rattle.classes.proofs.Runs.{or_left, or_right, any_append}
-use Rattle.numbers.specs.declared.Number.{Number}
-use Rattle.numbers.specs.declared.Number.TheVariants.{Is, Bad}
 use Rattle.numbers.specs.Numbers.{hex_pair, decimal}
 use Rattle.names.specs.Names.{word_number}
 use Rattle.rooms.specs.Streams.{Stream, end, stop, ◌▸◌, items}
 use Rattle.rooms.proofs.Streams.{Each, Each-then, Each-each, Each-either}
 use Rattle.slices.specs.Slices.{slices_by}
-use Rattle.tokens.specs.declared.Property.{Property}
-use Rattle.tokens.specs.declared.Property.TheVariants.{None, Value}
 use Rattle.tokens.specs.Tokens.{Shown, Token, token, slice_of, shown_in, value_of}
 use Rattle.readings.specs.declared.Reading.{Reading}
 use Rattle.readings.specs.declared.Reading.TheVariants.{Plain, Paragraphs, Standard}
@@ -37,6 +33,7 @@ use Rattle.standard.proofs.Shows.{Kinds, tokens-each}
 use Rattle.cutter.specs.Cutting.{tokens_by, located, last, last_by, all_slices, every, closed_behind, closing, cut_by, trim_start, trimmed, token_stream}
 use Rattle.cutter.proofs.Places.{Placed, stream-places}
 use Rattle.answers.specs.declared.Refusal.{Refusal}
+use Rattle.std.specs.Prelude.{Option, Some, None}
 
 -- each of a list has a property
 abbrev pub All : {A : Type 0} → (A → Type 0) → List A → Type 0
@@ -45,104 +42,104 @@ All P (x ∷ xs) = P x × All P xs
 
 -- ---- no text is empty
 
-abbrev Some : Shown → Type 0
-Some (Shown.text p bs) = 0 < length bs
-Some Shown.opening = Unit {0}
-Some Shown.closing = Unit {0}
-Some Shown.line_break = Unit {0}
-Some Shown.ignorable = Unit {0}
-Some (Shown.word w num) = Unit {0}
-Some (Shown.unknown p bs num) = Unit {0}
-Some (Shown.symbol b num) = Unit {0}
+abbrev Shows : Shown → Type 0
+Shows (Shown.text p bs) = 0 < length bs
+Shows Shown.opening = Unit {0}
+Shows Shown.closing = Unit {0}
+Shows Shown.line_break = Unit {0}
+Shows Shown.ignorable = Unit {0}
+Shows (Shown.word w num) = Unit {0}
+Shows (Shown.unknown p bs num) = Unit {0}
+Shows (Shown.symbol b num) = Unit {0}
 
-mark-some : (b : ℕ) → Each Some (mark b)
+mark-some : (b : ℕ) → Each Shows (mark b)
 unfolding mark
-mark-some b = Each-either Some (eqb b 123) _ _ (tt, tt) (Each-either Some (eqb b 125) _ _ (tt, tt) tt)
+mark-some b = Each-either Shows (eqb b 123) _ _ (tt, tt) (Each-either Shows (eqb b 125) _ _ (tt, tt) tt)
 
 -- where there is no byte, all is white space
-plain-some : (p : ℕ) (s : List ℕ) → Each Some (plain p s)
+plain-some : (p : ℕ) (s : List ℕ) → Each Shows (plain p s)
 unfolding plain lead
 plain-some p [] = tt
-plain-some p (b ∷ s) = Each-either Some (eqb (lead (in_class White) (b ∷ s)) (length (b ∷ s))) _ _ tt (omega arith, tt)
+plain-some p (b ∷ s) = Each-either Shows (eqb (lead (in_class White) (b ∷ s)) (length (b ∷ s))) _ _ tt (omega arith, tt)
 
-hex-some : (p : ℕ) (s : List ℕ) → Each Some (hex_escape p s)
+hex-some : (p : ℕ) (s : List ℕ) → Each Shows (hex_escape p s)
 unfolding hex_escape hex_value
 hex-some p [] = tt
 hex-some p (a ∷ []) = tt
 hex-some p (a ∷ b ∷ s) = go (hex_pair a b)
   where
-    go : (n : Number) → Each Some (hex_value n (plain (p + 4) s))
-    go (Is v) = (tt, plain-some (p + 4) s)
-    go Bad = tt
+    go : (n : Option ℕ) → Each Shows (hex_value n (plain (p + 4) s))
+    go (Some v) = (tt, plain-some (p + 4) s)
+    go None = tt
 
-shown-some : (p : ℕ) (name : List ℕ) (num : Property) → Some (shown_word p name num)
+shown-some : (p : ℕ) (name : List ℕ) (num : Option ℕ) → Shows (shown_word p name num)
 unfolding shown_word
 shown-some p name num = go (ltb (word_number name) 49)
   where
-    go : (t : Bool) → Some (cond t (Shown.word (word_number name) num) (Shown.unknown p (92 ∷ name) num))
+    go : (t : Bool) → Shows (cond t (Shown.word (word_number name) num) (Shown.unknown p (92 ∷ name) num))
     go true = tt
     go false = tt
 
-numbered-some : (p : ℕ) (name : List ℕ) (n : Number) → Each Some (numbered p name n)
+numbered-some : (p : ℕ) (name : List ℕ) (n : Option ℕ) → Each Shows (numbered p name n)
 unfolding numbered
-numbered-some p name (Is v) = (shown-some p name (Value v), tt)
-numbered-some p name Bad = tt
+numbered-some p name (Some v) = (shown-some p name (Some v), tt)
+numbered-some p name None = tt
 
-named_some : (p : ℕ) (w : List ℕ) → Each Some (named p w)
+named_some : (p : ℕ) (w : List ℕ) → Each Shows (named p w)
 unfolding named
 named_some p w =
     let k = body (in_class Numeral) w in
-    Each-either Some (eqb k (length w)) _ _ (shown-some p w None, tt) (numbered-some p (take k w) (decimal (drop k w)))
+    Each-either Shows (eqb k (length w)) _ _ (shown-some p w None, tt) (numbered-some p (take k w) (decimal (drop k w)))
 
-tail-some : (p : ℕ) (s : List ℕ) → Each Some (word_tail p s)
+tail-some : (p : ℕ) (s : List ℕ) → Each Shows (word_tail p s)
 unfolding word_tail
 tail-some p [] = tt
 tail-some p (b ∷ s) =
-    Each-either Some (ltb (lead (in_class WordEnd) (b ∷ s)) (length (b ∷ s))) _ _ (plain-some p (b ∷ s)) (omega arith, tt)
+    Each-either Shows (ltb (lead (in_class WordEnd) (b ∷ s)) (length (b ∷ s))) _ _ (plain-some p (b ∷ s)) (omega arith, tt)
 
-word_some : (p : ℕ) (s : List ℕ) → Each Some (word p s)
+word_some : (p : ℕ) (s : List ℕ) → Each Shows (word p s)
 unfolding word
 word_some p s =
     let k = lead (in_class InWord) s in
-    Each-then Some _ _ (named_some p (take (bare_length (take k s)) s)) (tail-some (p + 1 + (k + 1)) (drop (k + 1) s))
+    Each-then Shows _ _ (named_some p (take (bare_length (take k s)) s)) (tail-some (p + 1 + (k + 1)) (drop (k + 1) s))
 
-other-some : (p : ℕ) (s : List ℕ) → Each Some (other p s)
+other-some : (p : ℕ) (s : List ℕ) → Each Shows (other p s)
 unfolding other
-other-some p s = Each-either Some (ltb (lead (in_class Space) s) (length s)) _ _ tt (omega arith, tt)
+other-some p s = Each-either Shows (ltb (lead (in_class Space) s) (length s)) _ _ tt (omega arith, tt)
 
-feed-some : (p : ℕ) (s : List ℕ) → Each Some (behind_feed p s)
+feed-some : (p : ℕ) (s : List ℕ) → Each Shows (behind_feed p s)
 feed-some p [] = plain-some p []
-feed-some p (b ∷ s) = Each-either Some (eqb b 10) _ _ (plain-some (p + 1) s) (plain-some p (b ∷ s))
+feed-some p (b ∷ s) = Each-either Shows (eqb b 10) _ _ (plain-some (p + 1) s) (plain-some p (b ∷ s))
 
-returned-some : (p : ℕ) (s : List ℕ) → Each Some (returned p s)
+returned-some : (p : ℕ) (s : List ℕ) → Each Shows (returned p s)
 returned-some p [] = other-some p []
-returned-some p (b ∷ s) = Each-either Some (eqb b 13) _ _ (tt, feed-some (p + 2) s) (other-some p (b ∷ s))
+returned-some p (b ∷ s) = Each-either Shows (eqb b 13) _ _ (tt, feed-some (p + 2) s) (other-some p (b ∷ s))
 
-other_by-some : (rd : Reading) (p : ℕ) (s : List ℕ) → Each Some (other_by rd p s)
+other_by-some : (rd : Reading) (p : ℕ) (s : List ℕ) → Each Shows (other_by rd p s)
 unfolding other_by
 other_by-some Plain p s = other-some p s
 other_by-some Paragraphs p s = returned-some p s
 other_by-some Standard p s = returned-some p s
 
-escaped-some : (rd : Reading) (p : ℕ) (s : List ℕ) → Each Some (escaped rd p s)
+escaped-some : (rd : Reading) (p : ℕ) (s : List ℕ) → Each Shows (escaped rd p s)
 unfolding escaped line_break_and
 escaped-some rd p [] = other-some p []
 escaped-some rd p (b ∷ s) =
-    Each-either Some (is_letter b) _ _ (word_some p (b ∷ s))
-    (Each-either Some (is_escape b) _ _ (omega arith, tt)
-    (Each-either Some (eqb b 39) _ _ (hex-some p s)
-    (Each-either Some (eqb b 10) _ _ (tt, plain-some (p + 2) s)
-    (Each-either Some (eqb b 42) _ _ (tt, tt) (other_by-some rd p (b ∷ s))))))
+    Each-either Shows (is_letter b) _ _ (word_some p (b ∷ s))
+    (Each-either Shows (is_escape b) _ _ (omega arith, tt)
+    (Each-either Shows (eqb b 39) _ _ (hex-some p s)
+    (Each-either Shows (eqb b 10) _ _ (tt, plain-some (p + 2) s)
+    (Each-either Shows (eqb b 42) _ _ (tt, tt) (other_by-some rd p (b ∷ s))))))
 
-tokens-some : (rd : Reading) (p : ℕ) (s : List ℕ) → Each Some (tokens rd p s)
+tokens-some : (rd : Reading) (p : ℕ) (s : List ℕ) → Each Shows (tokens rd p s)
 unfolding tokens
 tokens-some rd p [] = tt
 tokens-some rd p (b ∷ s) =
-    Each-either Some (is_mark b) _ _ (Each-then Some (mark b) (tokens rd (p + 1) s) (mark-some b) (tokens-some rd (p + 1) s))
-    (Each-either Some (eqb b 92) _ _ (escaped-some rd p s) (plain-some p (b ∷ s)))
+    Each-either Shows (is_mark b) _ _ (Each-then Shows (mark b) (tokens rd (p + 1) s) (mark-some b) (tokens-some rd (p + 1) s))
+    (Each-either Shows (eqb b 92) _ _ (escaped-some rd p s) (plain-some p (b ∷ s)))
 
 -- by the specification's rules, of which none gives an empty text
-kinds-some : Kinds Some
+kinds-some : Kinds Shows
 kinds-some = record {
   text = λ p b s. omega arith;
   opening = tt;
@@ -154,14 +151,14 @@ kinds-some = record {
   symbol = λ b num. tt;
 }
 
-by-some : (rd : Reading) (p : ℕ) (s : List ℕ) → Each Some (tokens_by rd p s)
+by-some : (rd : Reading) (p : ℕ) (s : List ℕ) → Each Shows (tokens_by rd p s)
 by-some Plain p s = tokens-some Plain p s
 by-some Paragraphs p s = tokens-some Paragraphs p s
-by-some Standard p s = tokens-each Some kinds-some p s
+by-some Standard p s = tokens-each Shows kinds-some p s
 
 -- the same of located tokens
 abbrev SomeIn : Token → Type 0
-SomeIn t = Some (shown_in t)
+SomeIn t = Shows (shown_in t)
 
 located-some : (rd : Reading) (p : ℕ) (s : List ℕ) → Each SomeIn (located rd p s)
 unfolding located
@@ -245,7 +242,7 @@ Fine (Shown.symbol b num) = Unit {0}
 abbrev pub FineIn : Token → Type 0
 FineIn t = Fine (shown_in t)
 
-fine-one : (src : List ℕ) → any is_high src ≡ false → (t : Shown) → Stands src 0 t → Some t → Fine t
+fine-one : (src : List ℕ) → any is_high src ≡ false → (t : Shown) → Stands src 0 t → Shows t → Fine t
 fine-one src h (Shown.text p bs) a s = (s, low_part h a)
 fine-one src h Shown.opening a s = tt
 fine-one src h Shown.closing a s = tt

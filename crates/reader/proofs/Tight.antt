@@ -3,11 +3,13 @@ use mathlib.Core.Path.{◌≡◌, sym, ◌∙◌}
 use mathlib.Core.List.{List}
 use Prim.Native.Nat.{ℕ}
 use Rattle.readings.specs.declared.Reading.{Reading}
-use Rattle.parser.specs.declared.Answer.{Answer}
 use Rattle.parser.specs.Parsing.{Sizes}
 use Rattle.reader.specs.Reading.{Reads}
+use Rattle.std.specs.Prelude.{Result}
+use Rattle.answers.specs.declared.Refusal.{Refusal}
+use Rattle.parser.specs.declared.Counts.{Counts}
 
-pub read-tight : {rd : Reading} {src : List ℕ} {z : Sizes} {r r' : Answer} {tk fs cs bs tx tk' fs' cs' bs' tx' : List ℕ}
+pub read-tight : {rd : Reading} {src : List ℕ} {z : Sizes} {r r' : Result Counts Refusal} {tk fs cs bs tx tk' fs' cs' bs' tx' : List ℕ}
     → Reads rd src z r tk fs cs bs tx → Reads rd src z r' tk' fs' cs' bs' tx'
     → (r ≡ r') × (tk ≡ tk') × (fs ≡ fs') × (cs ≡ cs') × (bs ≡ bs') × (tx ≡ tx')
 read-tight x y = (

@@ -1,8 +1,6 @@
 -- 01, Answer numbers: a letter read whole: the one answer, and the one content of the five lent rooms. Assumes nothing: these
 -- are definitions.
 use Rattle.std.specs.Prelude.{ℕ, ◌≤◌, ◌≡◌, List, length, replicate}
-use Rattle.answers.specs.declared.Outcome.{Outcome}
-use Rattle.answers.specs.declared.Outcome.TheVariants.{Done, Refused}
 use Rattle.answers.specs.Answers.{Found, found, refused}
 use Rattle.rooms.specs.Streams.{items}
 use Rattle.rooms.specs.Rooms.{encode, filled}
@@ -12,14 +10,14 @@ use Rattle.fonts.specs.Rows.{table_words}
 use Rattle.readings.specs.declared.Reading.{Reading}
 use Rattle.blocks.specs.Pages.{blocks, text_of, records}
 use Rattle.parser.specs.declared.Counts.{Counts}
-use Rattle.parser.specs.declared.Answer.{Answer}
-use Rattle.parser.specs.declared.Answer.TheVariants.{Read, Refuses}
 use Rattle.parser.specs.Parsing.{begun, Sizes, Letter, walked}
+use Rattle.std.specs.Prelude.{Result, Ok, Err}
+use Rattle.answers.specs.declared.Refusal.{Refusal}
 
 -- "cutting .. then 6, 7, 8, 9"
-abbrev pub cut : Reading → Sizes → List Token → Outcome → Found Letter
-cut rd z ts (Done n) = walked rd z (begun ts)
-cut rd z ts (Refused r) = refused r
+abbrev pub cut : Reading → Sizes → List Token → Result ℕ Refusal → Found Letter
+cut rd z ts (Ok n) = walked rd z (begun ts)
+cut rd z ts (Err r) = refused r
 
 -- a source, read into rooms of such sizes
 unfoldable pub letter_of : Reading → List ℕ → Sizes → Found Letter
@@ -38,12 +36,12 @@ counts_of rd src l = record {
   text = length (text_of l.pieces);
 }
 
-abbrev pub answered : Reading → List ℕ → Found Letter → Answer
-answered rd src (found l) = Read (counts_of rd src l)
-answered rd src (refused r) = Refuses r
+abbrev pub answered : Reading → List ℕ → Found Letter → Result Counts Refusal
+answered rd src (found l) = Ok (counts_of rd src l)
+answered rd src (refused r) = Err r
 
 -- the one answer
-unfoldable pub read_answer : Reading → List ℕ → Sizes → Answer
+unfoldable pub read_answer : Reading → List ℕ → Sizes → Result Counts Refusal
 read_answer rd src z = answered rd src (letter_of rd src z)
 
 -- "room beyond them is zero. Any refusal .. zeroes all lent rooms."
@@ -76,11 +74,11 @@ pub record Counted (c : Counts) : Type 0 where
   pub text : c.text ≤ 2147483647
 
 -- What `read` promises: the one answer, and the one content of each room. That the counts are small follows, and is said with them.
-pub record Reads (rd : Reading) (src : List ℕ) (z : Sizes) (r : Answer) (tk fs cs bs tx : List ℕ) : Type 0 where
+pub record Reads (rd : Reading) (src : List ℕ) (z : Sizes) (r : Result Counts Refusal) (tk fs cs bs tx : List ℕ) : Type 0 where
   pub answer : r ≡ read_answer rd src z
   pub tokens : tk ≡ token_room rd src z
   pub fonts : fs ≡ font_room rd src z
   pub colours : cs ≡ colour_room rd src z
   pub blocks : bs ≡ block_room rd src z
   pub text : tx ≡ text_room rd src z
-  pub counted : (c : Counts) → r ≡ Read c → Counted c
+  pub counted : (c : Counts) → r ≡ Ok c → Counted c

@@ -12,11 +12,11 @@ ghost use Rattle.parser.specs.Parsing.{sizes};
 ghost use Rattle.parser.specs.Parts.{LetterInto};
 ghost use Rattle.reader.specs.Reading.{letter_of, token_count, Reads};
 
-use answers::{Outcome, Refusal};
+use answers::Refusal;
 use cutter::cut;
-use parser::{Answer, parse};
+use parser::{Counts, parse};
 use readings::Reading;
-use rooms::{clear_bytes_from, clear_from};
+use rooms::clear_from;
 
 // Cuts and parses. After a refusal the rooms may hold anything.
 fn attempt(
@@ -27,16 +27,13 @@ fn attempt(
     colours: &mut [u32],
     blocks: &mut [u32],
     text: &mut [u8],
-) -> Answer
+) -> Result<Counts, Refusal>
     ensures token_room { tokens.new ≡ cut_room reading source.now (length tokens.old) }
-    ensures few { (k : Counts) → result ≡ Answer.Read k → token_count reading source.now ≤ 65536 }
+    ensures few { (k : Counts) → result ≡ Ok k → token_count reading source.now ≤ 65536 }
     ensures letter { LetterInto (letter_of reading source.now (sizes tokens.old fonts.old colours.old blocks.old text.old)) (token_count reading source.now) result fonts.new colours.new blocks.new text.new (length fonts.old) (length colours.old) (length blocks.old) (length text.old) }
 {
-    let outcome = cut(source, reading, tokens);
-    match outcome {
-        Outcome::Refused(refusal) => Answer::Refuses(refusal),
-        Outcome::Done(n) => parse(source, reading, tokens, n, fonts, colours, blocks, text),
-    }
+    let n = cut(source, reading, tokens)?;
+    parse(source, reading, tokens, n, fonts, colours, blocks, text)
 }
 
 // A refusal, and every room all zero.
@@ -47,20 +44,20 @@ fn refuse(
     colours: &mut [u32],
     blocks: &mut [u32],
     text: &mut [u8],
-) -> Answer
-    ensures answer { result ≡ Answer.Refuses refusal }
+) -> Result<Counts, Refusal>
+    ensures answer { result ≡ Err refusal }
     ensures token_room { tokens.new ≡ replicate (length tokens.old) 0 }
     ensures font_room { fonts.new ≡ replicate (length fonts.old) 0 }
     ensures colour_room { colours.new ≡ replicate (length colours.old) 0 }
     ensures block_room { blocks.new ≡ replicate (length blocks.old) 0 }
     ensures text_room { text.new ≡ replicate (length text.old) 0 }
 {
-    clear_from(tokens, 0);
-    clear_from(fonts, 0);
-    clear_from(colours, 0);
-    clear_from(blocks, 0);
-    clear_bytes_from(text, 0);
-    Answer::Refuses(refusal)
+    clear_from(tokens, 0, 0);
+    clear_from(fonts, 0, 0);
+    clear_from(colours, 0, 0);
+    clear_from(blocks, 0, 0);
+    clear_from(text, 0, 0);
+    Err(refusal)
 }
 
 // Reads a letter.
@@ -72,13 +69,12 @@ pub fn read(
     colours: &mut [u32],
     blocks: &mut [u32],
     text: &mut [u8],
-) -> Answer
+) -> Result<Counts, Refusal>
     ensures { Reads reading source.now (sizes tokens.old fonts.old colours.old blocks.old text.old)
         result tokens.new fonts.new colours.new blocks.new text.new }
 {
-    let answer = attempt(source, reading, tokens, fonts, colours, blocks, text);
-    match answer {
-        Answer::Refuses(refusal) => refuse(refusal, tokens, fonts, colours, blocks, text),
-        Answer::Read(counts) => Answer::Read(counts),
+    match attempt(source, reading, tokens, fonts, colours, blocks, text) {
+        Err(refusal) => refuse(refusal, tokens, fonts, colours, blocks, text),
+        Ok(counts) => Ok(counts),
     }
 }

@@ -20,23 +20,17 @@ impl Reading {
     pub fn of(number: u32) -> Reading
         ensures { result ≡ reading_of number }
     {
-        if number == 1 {
-            return Reading::Paragraphs;
+        match number {
+            1 => Reading::Paragraphs,
+            2 => Reading::Standard,
+            _ => Reading::Plain,
         }
-        if number == 2 {
-            return Reading::Standard;
-        }
-        Reading::Plain
     }
 
     // Whether it is the reading by the specification.
     pub fn is_standard(self) -> bool
         ensures { result ≡ is_standard self }
     {
-        match self {
-            Reading::Plain => false,
-            Reading::Paragraphs => false,
-            Reading::Standard => true,
-        }
+        matches!(self, Reading::Standard)
     }
 }

@@ -1,9 +1,9 @@
 // One answer of ours against the listed one: the refusal, its place, the count of tokens, every word of the room.
-ghost use Rattle.std.specs.Prelude.{◌≡◌, ℕ, ◌*◌, ◌<◌, ◌≤◌, length, get_or};
-ghost use Rattle.replay.specs.Listed.{word_at, Judged};
+ghost use Rattle.std.specs.Prelude.{◌≡◌, ℕ, ◌*◌, ◌<◌, length, get_or, MatchOption};
+ghost use Rattle.replay.specs.Listed.{word_at, FirstUnlike, Judged};
 
 use crate::list::{Answer, word};
-use answers::Outcome;
+use answers::{Refusal, count_of, number_of, place_of};
 
 // What differs first.
 #[derive(Clone, Copy)]
@@ -21,64 +21,57 @@ pub struct Difference {
     pub listed: u64,
 }
 
-#[derive(Clone, Copy)]
-pub enum Verdict {
-    Same,
-    Differs(Difference),
-}
-
-// The first word of the room that is not the one in the records, or behind them not zero; the room's length if
-// there is none.
-fn first_unlike(room: &[u32], records: &[u8]) -> usize
-    ensures within { result ≤ length room.now }
-    ensures before { (k : ℕ) → k < result → get_or room.now k 0 ≡ word_at records.now (4 * k) }
-    ensures found { result < length room.now → get_or room.now result 0 ≡ word_at records.now (4 * result) → ⊥ }
+// The first word of the room that is not the one in the records, or behind them not zero, if there is one.
+fn first_unlike(room: &[u32], records: &[u8]) -> Option<usize>
+    ensures { MatchOption result ((k : ℕ) → k < length room.now → get_or room.now k 0 ≡ word_at records.now (4 * k)) (λ at. FirstUnlike room.now records.now at) }
 {
-    let mut k = 0;
-    while k < room.len() {
-        if room[k] != word(records, 4 * k) {
-            return k;
+    for (k, ours) in room.iter().enumerate() {
+        if *ours != word(records, 4 * k) {
+            return Some(k);
         }
-        k += 1;
     }
-    k
+    None
 }
 
-// Our answer against the listed one.
-pub fn compare(outcome: Outcome, room: &[u32], answer: Answer, records: &[u8]) -> Verdict
+// How our answer differs from the listed one, if it does.
+pub fn compare(
+    outcome: Result<usize, Refusal>,
+    room: &[u32],
+    answer: Answer,
+    records: &[u8],
+) -> Option<Difference>
     ensures { Judged outcome room.now answer records.now result }
 {
-    let refusal = outcome.number();
+    let refusal = number_of(&outcome);
     if refusal != answer.refusal {
-        return Verdict::Differs(Difference {
+        return Some(Difference {
             part: Part::Refusal,
-            ours: refusal as u64,
-            listed: answer.refusal as u64,
+            ours: u64::from(refusal),
+            listed: u64::from(answer.refusal),
         });
     }
-    let place = outcome.place();
+    let place = place_of(&outcome);
     if place != answer.place {
-        return Verdict::Differs(Difference {
+        return Some(Difference {
             part: Part::Place,
-            ours: place as u64,
-            listed: answer.place as u64,
+            ours: u64::from(place),
+            listed: u64::from(answer.place),
         });
     }
-    let count = outcome.count();
+    let count = count_of(outcome);
     if count != answer.tokens {
-        return Verdict::Differs(Difference {
+        return Some(Difference {
             part: Part::Count,
             ours: count as u64,
             listed: answer.tokens as u64,
         });
     }
-    let at = first_unlike(room, records);
-    if at < room.len() {
-        return Verdict::Differs(Difference {
+    if let Some(at) = first_unlike(room, records) {
+        return Some(Difference {
             part: Part::Word(at),
-            ours: room[at] as u64,
-            listed: word(records, 4 * at) as u64,
+            ours: u64::from(room[at]),
+            listed: u64::from(word(records, 4 * at)),
         });
     }
-    Verdict::Same
+    None
 }

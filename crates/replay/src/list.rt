@@ -28,67 +28,64 @@ pub struct Answer {
     pub end: usize,
 }
 
-// What stands at the front of a list.
+// How a list ends.
 #[derive(Clone, Copy)]
-pub enum Front {
-    Answer(Answer),
+pub enum End {
+    Whole,
     CutShort,
     Malformed,
 }
 
 // A byte, and 0 behind the end.
-fn byte(bytes: &[u8], at: usize) -> u32
-    ensures value { result ≡ get_or bytes.now at 0 }
-    ensures small { result < 256 }
+fn byte(bytes: &[u8], at: usize) -> u8
+    ensures { result ≡ get_or bytes.now at 0 }
 {
-    if at < bytes.len() {
-        return bytes[at] as u32;
-    }
-    0
+    bytes.get(at).copied().unwrap_or(0)
 }
 
 // The word that starts at a byte, with zeros for what lies behind the end.
+#[tactic(auto, unfolding(crate::specs::Listed::word_at))]
 pub fn word(bytes: &[u8], at: usize) -> u32
     requires { at < 2 ^ 63 }
     ensures { result ≡ word_at bytes.now at }
 {
-    let low = byte(bytes, at) + 256 * byte(bytes, at + 1);
-    let high = byte(bytes, at + 2) + 256 * byte(bytes, at + 3);
-    low + 65536 * high
+    u32::from_le_bytes([
+        byte(bytes, at),
+        byte(bytes, at + 1),
+        byte(bytes, at + 2),
+        byte(bytes, at + 3),
+    ])
 }
 
-// The answer at the front of a list, if it is all there and within the limits.
-pub fn next(list: &[u8]) -> Front
+// The answer at the front of a list, if it is all there and within the limits, or how the list ends.
+pub fn next(list: &[u8]) -> Result<Answer, End>
     ensures { FrontWhole (length list.now) result }
 {
+    if list.is_empty() {
+        return Err(End::Whole);
+    }
     if list.len() < HEAD_BYTES {
-        return Front::CutShort;
+        return Err(End::CutShort);
     }
     let letter = word(list, 0) as usize;
     let room = word(list, 4) as usize;
     let refusal = word(list, 8);
     let place = word(list, 12);
     let tokens = word(list, 16) as usize;
-    if LETTER_MOST < letter {
-        return Front::Malformed;
-    }
-    if ROOM_MOST < room {
-        return Front::Malformed;
-    }
-    if room / TOKEN_WORDS < tokens {
-        return Front::Malformed;
+    if LETTER_MOST < letter || ROOM_MOST < room || room / TOKEN_WORDS < tokens {
+        return Err(End::Malformed);
     }
     let records = HEAD_BYTES + letter;
     let end = records + tokens * RECORD_BYTES;
     if list.len() < end {
-        return Front::CutShort;
+        return Err(End::CutShort);
     }
-    Front::Answer(Answer {
-        room: room,
-        refusal: refusal,
-        place: place,
-        tokens: tokens,
-        records: records,
-        end: end,
+    Ok(Answer {
+        room,
+        refusal,
+        place,
+        tokens,
+        records,
+        end,
     })
 }

@@ -11,15 +11,15 @@ mod judge;
 mod list;
 mod say;
 
-ghost use Rattle.std.specs.Prelude.{◌≤◌, length, IfOk};
+ghost use Rattle.std.specs.Prelude.{length};
 ghost use Rattle.cutter.specs.Cutting.{cut_answer, cut_room};
 ghost use Rattle.replay.specs.Listed.{Whole, Judged};
 
 use input::fill;
-use judge::{Verdict, compare};
-use list::{Answer, Front, HEAD_BYTES, ROOM_MOST, next};
+use judge::{Difference, compare};
+use list::{Answer, End, HEAD_BYTES, ROOM_MOST, next};
 use readings::Reading;
-use say::{End, Tally};
+use say::Tally;
 use std::fs::Files;
 use std::{fs, io};
 
@@ -30,7 +30,12 @@ const JUNK: u32 = 0xa5a5_5a5a;
 const LIST_ROOM: usize = 524288;
 
 // Cuts a letter in a room, whatever that holds, and compares.
-fn cut_and_compare(letter: &[u8], records: &[u8], answer: Answer, room: &mut [u32]) -> Verdict
+fn cut_and_compare(
+    letter: &[u8],
+    records: &[u8],
+    answer: Answer,
+    room: &mut [u32],
+) -> Option<Difference>
     ensures { Judged (cut_answer Reading.Plain letter.now (length room.old)) (cut_room Reading.Plain letter.now (length room.old)) answer records.now result }
 {
     let outcome = cutter::cut(letter, Reading::Plain, room);
@@ -38,32 +43,16 @@ fn cut_and_compare(letter: &[u8], records: &[u8], answer: Answer, room: &mut [u3
 }
 
 // The answer at the front of `list`, against what our cutter gives for its letter in a room of its size.
-fn replay_one(list: &[u8], answer: Answer) -> Verdict
+fn replay_one(list: &[u8], answer: Answer) -> Option<Difference>
     requires { Whole (length list.now) answer }
 {
-    let words = answer.room;
-    let records = answer.records;
-    let end = answer.end;
     let mut room = [JUNK; ROOM_MOST];
     cut_and_compare(
-        &list[HEAD_BYTES..records],
-        &list[records..end],
+        &list[HEAD_BYTES..answer.records],
+        &list[answer.records..answer.end],
         answer,
-        &mut room[..words],
+        &mut room[..answer.room],
     )
-}
-
-// 1 where an answer differs, which is then said, and 0 where it is the same. `answers` and `differ` count those before.
-fn tell(rt: &impl Print, verdict: Verdict, answers: usize, differ: usize) -> io::Result<usize>
-    ensures { IfOk result (λ n. n ≤ 1) }
-{
-    match verdict {
-        Verdict::Same => Ok(0),
-        Verdict::Differs(difference) => {
-            say::line(rt, difference, answers, differ)?;
-            Ok(1)
-        }
-    }
 }
 
 // Every answer of the list, up to its end or to what is no answer.
@@ -71,49 +60,37 @@ fn replay(rt: &impl Print, list: &[u8]) -> io::Result<Tally> {
     let mut rest = list;
     let mut answers: usize = 0;
     let mut differ: usize = 0;
-    while 0 < rest.len() {
-        let found = next(rest);
-        match found {
-            Front::Answer(answer) => {
-                let end = answer.end;
-                differ += tell(rt, replay_one(rest, answer), answers, differ)?;
-                answers += 1;
-                rest = &rest[end..];
-            }
-            Front::CutShort => {
+    loop {
+        let answer = match next(rest) {
+            Ok(answer) => answer,
+            Err(end) => {
                 return Ok(Tally {
-                    answers: answers,
-                    differ: differ,
-                    end: End::CutShort,
+                    answers,
+                    differ,
+                    end,
                 });
             }
-            Front::Malformed => {
-                return Ok(Tally {
-                    answers: answers,
-                    differ: differ,
-                    end: End::Malformed,
-                });
-            }
+        };
+        if let Some(difference) = replay_one(rest, answer) {
+            say::line(rt, difference, answers, differ)?;
+            differ += 1;
         }
+        answers += 1;
+        rest = &rest[answer.end..];
     }
-    Ok(Tally {
-        answers: answers,
-        differ: differ,
-        end: End::Whole,
-    })
 }
 
 // Reads the list and replays it.
 fn run(rt: &(impl Files + Print), list: &mut [u8]) -> io::Result<()> {
     let Ok(file) = fs::open(rt, "letters.bin") else {
-        return say::text(rt, b"letters.bin cannot be opened\n");
+        return println!(rt; "letters.bin cannot be opened");
     };
     let n = fill(file, list)?;
     if n == 0 {
-        return say::text(rt, b"letters.bin is empty or cannot be read\n");
+        return println!(rt; "letters.bin is empty or cannot be read");
     }
     if n == list.len() {
-        return say::text(rt, b"letters.bin is longer than this program reads\n");
+        return println!(rt; "letters.bin is longer than this program reads");
     }
     say::last_line(rt, replay(rt, &list[..n])?)
 }

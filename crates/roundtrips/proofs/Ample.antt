@@ -14,10 +14,9 @@ use borrow.Author.Tests.{le-ltb, ne_eqb, ltb-false}
 use lib.ListN.{length, take, replicate, length-append}
 use lib.Seq.{take_at}
 use lib.Dec.{ltb, eqb}
-use Rattle.answers.specs.declared.Outcome.TheVariants.{Done}
 use Rattle.answers.specs.declared.Why.TheVariants.{BlockRoom, TextRoom}
 use Rattle.answers.specs.Answers.{refusal}
-use Rattle.rooms.proofs.Streams.{done_refused}
+use Rattle.rooms.proofs.Streams.{ok_err}
 use Rattle.rooms.specs.Streams.{Stream, end, stop, ◌▸◌, items, answer, ended}
 use Rattle.styles.specs.declared.Style.{Style}
 use Rattle.rooms.specs.Rooms.{filled}
@@ -28,16 +27,17 @@ use Rattle.storing.specs.Good.{Good}
 use Rattle.roundtrips.specs.Trips.{Words, Small, all, ReadsAs}
 use Rattle.storing.proofs.Writing.{good-one}
 use Rattle.answers.specs.declared.Refusal.{Refusal}
+use Rattle.std.specs.Prelude.{Ok}
 
 pub items-all : (xs : List Piece) → items (all xs) ≡ xs
 unfolding items all
 items-all [] = refl
 items-all (x ∷ xs) = ap (λ (l : List Piece). x ∷ l) (items-all xs)
 
-pub answer-all : (xs : List Piece) (n : ℕ) → answer n (all xs) ≡ Done (n + length xs)
+pub answer-all : (xs : List Piece) (n : ℕ) → answer n (all xs) ≡ Ok (n + length xs)
 unfolding ended all
-answer-all [] n = ap (λ (m : ℕ). Done m) (let z : n ≡ n + 0 = omega arith in z)
-answer-all (x ∷ xs) n = answer-all xs (n + 1) ∙ ap (λ (m : ℕ). Done m) (let z : n + 1 + length xs ≡ n + suc (length xs) = omega arith in z)
+answer-all [] n = ap (λ (m : ℕ). Ok m) (let z : n ≡ n + 0 = omega arith in z)
+answer-all (x ∷ xs) n = answer-all xs (n + 1) ∙ ap (λ (m : ℕ). Ok m) (let z : n + 1 + length xs ≡ n + suc (length xs) = omega arith in z)
 
 -- where all find room
 pub roomy-all : (xs : List Piece) (b t : ℕ) (l : Last) → Good l xs ≡ true → length xs ≤ b → length (text_of xs) ≤ t → roomy b t l (all xs) ≡ all xs
@@ -49,7 +49,7 @@ roomy-all (x ∷ xs) b t l g h k =
     (ap (λ (z : Stream Refusal Piece). x ▸ z) (roomy-all xs (b - 1) (t - length x.bytes) (last x.style) (good-one l x xs g).rest (omega arith) (omega (arith, n, k))))
 
 -- what found room is a front of what was asked, and all of it where all was read
-pub roomy-whole : (s : Stream Refusal Piece) (b t : ℕ) (l : Last) (j : ℕ) {r : ℕ} → answer j (roomy b t l s) ≡ Done r → (roomy b t l s ≡ s)
+pub roomy-whole : (s : Stream Refusal Piece) (b t : ℕ) (l : Last) (j : ℕ) {r : ℕ} → answer j (roomy b t l s) ≡ Ok r → (roomy b t l s ≡ s)
 unfolding roomy ended
 roomy-whole end b t l j e = refl
 roomy-whole (stop r) b t l j e = refl
@@ -59,11 +59,11 @@ roomy-whole (x ▸ s) b t l j {r} e = go (starts l x.style && eqb b 0) (ltb t (l
     more : Stream Refusal Piece
     more = roomy (cond (starts l x.style) (b - 1) b) (t - length x.bytes) (last x.style) s
 
-    go : (y z : Bool) → answer j (cond y (stop (refusal BlockRoom)) (cond z (stop (refusal TextRoom)) (x ▸ more))) ≡ Done r
-        → (answer (j + 1) more ≡ Done r → more ≡ s)
+    go : (y z : Bool) → answer j (cond y (stop (refusal BlockRoom)) (cond z (stop (refusal TextRoom)) (x ▸ more))) ≡ Ok r
+        → (answer (j + 1) more ≡ Ok r → more ≡ s)
         → cond y (stop (refusal BlockRoom)) (cond z (stop (refusal TextRoom)) (x ▸ more)) ≡ x ▸ s
-    go true z d f = absurd (done_refused (sym d))
-    go false true d f = absurd (done_refused (sym d))
+    go true z d f = absurd (ok_err (sym d))
+    go false true d f = absurd (ok_err (sym d))
     go false false d f = ap (λ (q : Stream Refusal Piece). x ▸ q) (f d)
 
 -- blocks of differing styles stay as they are
@@ -84,7 +84,7 @@ blocks-apart [] g = refl
 blocks-apart (x ∷ xs) g = apart xs x.style x.bytes (good-one none x xs g).rest
 
 -- the text that found room
-pub roomy-text : (s : Stream Refusal Piece) (b t : ℕ) (l : Last) (j : ℕ) {r : ℕ} → answer j (roomy b t l s) ≡ Done r → length (text_of (items (roomy b t l s))) ≤ t
+pub roomy-text : (s : Stream Refusal Piece) (b t : ℕ) (l : Last) (j : ℕ) {r : ℕ} → answer j (roomy b t l s) ≡ Ok r → length (text_of (items (roomy b t l s))) ≤ t
 unfolding roomy ended items text_of
 roomy-text end b t l j e = omega arith
 roomy-text (stop r) b t l j e = omega arith
@@ -94,11 +94,11 @@ roomy-text (x ▸ s) b t l j {r} e = go (starts l x.style && eqb b 0) (ltb t (le
     more : Stream Refusal Piece
     more = roomy (cond (starts l x.style) (b - 1) b) (t - length x.bytes) (last x.style) s
 
-    go : (y z : Bool) → ltb t (length x.bytes) ≡ z → answer j (cond y (stop (refusal BlockRoom)) (cond z (stop (refusal TextRoom)) (x ▸ more))) ≡ Done r
-        → (answer (j + 1) more ≡ Done r → length (text_of (items more)) ≤ t - length x.bytes)
+    go : (y z : Bool) → ltb t (length x.bytes) ≡ z → answer j (cond y (stop (refusal BlockRoom)) (cond z (stop (refusal TextRoom)) (x ▸ more))) ≡ Ok r
+        → (answer (j + 1) more ≡ Ok r → length (text_of (items more)) ≤ t - length x.bytes)
         → length (text_of (items (cond y (stop (refusal BlockRoom)) (cond z (stop (refusal TextRoom)) (x ▸ more))))) ≤ t
-    go true z i d f = absurd (done_refused (sym d))
-    go false true i d f = absurd (done_refused (sym d))
+    go true z i d f = absurd (ok_err (sym d))
+    go false true i d f = absurd (ok_err (sym d))
     go false false i d f =
         let h : length x.bytes ≤ t = ltb-false t (length x.bytes) i in
         let n = length-append x.bytes (text_of (items more)) in
@@ -133,7 +133,7 @@ Reads s xs b t = ReadsAs s (record { blocks = length xs; text = length (text_of 
 pub stored-reads : (s : List ℕ) (xs : List Piece) (b t : ℕ) → placed b t s ≡ all xs → Good none xs ≡ true → Reads s xs b t
 unfolding stored_answer stored_blocks stored_text
 stored-reads s xs b t e g =
-    let a : answer 0 (all xs) ≡ Done (0 + length xs) = answer-all xs 0 in
+    let a : answer 0 (all xs) ≡ Ok (0 + length xs) = answer-all xs 0 in
     record {
       answer = rw (e, a, items-all xs, blocks-apart xs g);
       blocks = rw (e, a, items-all xs, blocks-apart xs g);

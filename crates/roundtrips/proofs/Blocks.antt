@@ -17,8 +17,9 @@ use Rattle.styles.specs.Styles.{bare_width, style_words, flush}
 use Rattle.blocks.specs.Pages.{Piece, piece, Last, starts}
 use Rattle.fields.specs.Fields.{in_range, by_place, style_numbers, style_from, block_numbers}
 use Rattle.fields.proofs.Styles.{style-there, style-back, style-flush, numbers-small, style-small}
-use Rattle.stored.specs.declared.entry.Entry.TheVariants.{Is, Bad}
-use Rattle.stored.specs.Entries.{Numbers, numbers_from, ruled, entry_of, entry}
+use Rattle.stored.specs.declared.entry.Entry.{Entry}
+use Rattle.std.specs.Prelude.{Ok, Err}
+use Rattle.stored.specs.Entries.{Numbers, numbers_from, as_entry, ruled, entry_of, entry}
 use Rattle.stored.proofs.Entries.{Entered, entry-is, Sized, numbers-sized}
 use Rattle.storing.specs.Bytes.{numbers_bytes, numbers_in, block_bytes}
 use Rattle.roundtrips.specs.Trips.{Bytes, Words}
@@ -44,14 +45,14 @@ last-number : (st : Style) (n : ℕ) → (get_or (style_numbers st ++ (n ∷ [])
 unfolding by_place
 last-number st n = (refl, refl)
 
-ruled-fit : (l : Last) (x : Piece) (m : ℕ) (t : List ℕ) → Fit l x → ruled l x.style (length x.bytes) m (x.bytes ++ t) ≡ Is x.style m (length x.bytes)
+ruled-fit : (l : Last) (x : Piece) (m : ℕ) (t : List ℕ) → Fit l x → ruled l x.style (length x.bytes) m (x.bytes ++ t) ≡ Ok (as_entry x.style m (length x.bytes))
 unfolding ruled
 ruled-fit l x m t f =
     let h : length x.bytes ≤ length (x.bytes ++ t) = omega (arith, length-append x.bytes t) in
     rw (f.range, lt-ltb 0 (length x.bytes) f.some, f.differs, le-leb (length x.bytes) (length (x.bytes ++ t)) h, take-append_seam x.bytes t, f.utf8)
 
 pub entry-written : (l : Last) (x : Piece) (t : List ℕ) → Fit l x
-    → entry l (block_bytes x ++ t) ≡ Is x.style (length (numbers_bytes (numbers_in x))) (length x.bytes)
+    → entry l (block_bytes x ++ t) ≡ Ok (as_entry x.style (length (numbers_bytes (numbers_in x))) (length x.bytes))
 unfolding entry block_bytes
 entry-written l x t f =
     let ns : List ℕ = numbers_in x in
@@ -65,13 +66,13 @@ entry-written l x t f =
     ∙ rw (e, d, style-there x.style (n ∷ []) f.words f.bare, (last-number x.style n).0) (ruled-fit l x (length nb) t f)
 
 -- what an accepted block was made of
-ruled-parts : (l : Last) (st : Style) (n m : ℕ) (s : List ℕ) {st' : Style} {m' n' : ℕ} → ruled l st n m s ≡ Is st' m' n' → (st ≡ st') × (m ≡ m') × (n ≡ n')
+ruled-parts : (l : Last) (st : Style) (n m : ℕ) (s : List ℕ) {x : Entry} → ruled l st n m s ≡ Ok x → as_entry st m n ≡ x
 unfolding ruled
-ruled-parts l st n m s {st'} {m'} {n'} = go (in_range st && (ltb 0 n && starts l st)) (leb n (length s)) (is_utf8 (take n s))
+ruled-parts l st n m s {x} = go (in_range st && (ltb 0 n && starts l st)) (leb n (length s)) (is_utf8 (take n s))
   where
-    go : (a b c : Bool) → cond a (cond b (cond c (Is st m n) (Bad (refusal StoredField))) (Bad (refusal StoredShort))) (Bad (refusal StoredField)) ≡ Is st' m' n'
-        → (st ≡ st') × (m ≡ m') × (n ≡ n')
-    go true true true e = (cc, cc, cc)
+    go : (a b c : Bool) → cond a (cond b (cond c (Ok (as_entry st m n)) (Err (refusal StoredField))) (Err (refusal StoredShort))) (Err (refusal StoredField)) ≡ Ok x
+        → as_entry st m n ≡ x
+    go true true true e = cc
     go true true false e = let z : ◌≡◌ {A = ℕ} 0 1 = cc in absurd (omega arith)
     go true false c e = let z : ◌≡◌ {A = ℕ} 0 1 = cc in absurd (omega arith)
     go false b c e = let z : ◌≡◌ {A = ℕ} 0 1 = cc in absurd (omega arith)
@@ -83,44 +84,48 @@ numbers-back ns h w =
     ∙ ap (λ (l : List ℕ). l ++ (get_or ns bare_width 0 ∷ [])) (sym (style-back ns (omega (arith, h)) w))
 
 -- and so is a block that was read
-pub record Back (l : Last) (s : List ℕ) (st : Style) (m n : ℕ) : Type 0 where
-  pub bytes : take (m + n) s ≡ block_bytes (piece st (take n (drop m s)))
-  pub fit : Fit l (piece st (take n (drop m s)))
+pub record Back (l : Last) (s : List ℕ) (x : Entry) : Type 0 where
+  pub bytes : take (x.numbers + x.text) s ≡ block_bytes (piece x.style (take x.text (drop x.numbers s)))
+  pub fit : Fit l (piece x.style (take x.text (drop x.numbers s)))
 
-module _ (l : Last) (s : List ℕ) (b : Bytes s) {st : Style} {m n : ℕ} (e : entry l s ≡ Is st m n) where
-  block : Piece
-  block = piece st (take n (drop m s))
-
-  facts : Entered l s st m n
+module _ (l : Last) (s : List ℕ) (b : Bytes s) {x : Entry} (e : entry l s ≡ Ok x) where
+  facts : Entered l s x
   facts = entry-is l s e
 
-  length-text : length (take n (drop m s)) ≡ n
-  length-text = length-take-le n (drop m s) (rw (length-drop m s) (omega (arith, facts.within)))
+  text : List ℕ
+  text = take x.text (drop x.numbers s)
+
+  length-text : length text ≡ x.text
+  unfolding text
+  length-text = length-take-le x.text (drop x.numbers s) (rw (length-drop x.numbers s) (omega (arith, facts.within)))
 
   parts : (q : Numbers) → (block_numbers ≤ q.size) × (q.size ≤ length s) × (length q.values ≡ block_numbers) → (take q.size s ≡ numbers_bytes q.values) × Words q.values
-      → ruled l (style_from q.values) (get_or q.values bare_width 0) q.size (drop q.size s) ≡ Is st m n → Back l s st m n
-  unfolding block_bytes
+      → ruled l (style_from q.values) (get_or q.values bare_width 0) q.size (drop q.size s) ≡ Ok x → Back l s x
+  unfolding block_bytes text
   parts q (i, j, k) (t, w) d =
       let r = ruled-parts l (style_from q.values) (get_or q.values bare_width 0) q.size (drop q.size s) d in
-      let v : q.values ≡ style_numbers st ++ (length (take n (drop m s)) ∷ []) = numbers-back q.values k w ∙ rw (r.0, r.2, length-text) refl in
-      let u : take m s ≡ numbers_bytes q.values = rw r.1 at t in
+      let st : style_from q.values ≡ x.style = ap (λ (y : Entry). y.style) r in
+      let m : q.size ≡ x.numbers = ap (λ (y : Entry). y.numbers) r in
+      let n : get_or q.values bare_width 0 ≡ x.text = ap (λ (y : Entry). y.text) r in
+      let v : q.values ≡ style_numbers x.style ++ (length (take x.text (drop x.numbers s)) ∷ []) = numbers-back q.values k w ∙ rw (st, n, length-text) refl in
+      let u : take x.numbers s ≡ numbers_bytes q.values = rw m at t in
       record {
-        bytes = take-add m n s ∙ ap (λ (x : List ℕ). x ++ take n (drop m s)) (u ∙ ap numbers_bytes v);
+        bytes = take-add x.numbers x.text s ∙ ap (λ (y : List ℕ). y ++ take x.text (drop x.numbers s)) (u ∙ ap numbers_bytes v);
         fit = record {
           range = facts.range;
           some = rw length-text facts.some;
           differs = facts.differs;
           utf8 = facts.utf8;
-          words = subst (λ (z : Style). Words (style_words z)) r.0 (style-small q.values w);
-          short = rw (length-text, ← r.2) (w bare_width);
-          bare = subst (λ (z : Style). flush z ≡ true) r.0 (style-flush q.values);
+          words = subst (λ (z : Style). Words (style_words z)) st (style-small q.values w);
+          short = rw (length-text, ← n) (w bare_width);
+          bare = subst (λ (z : Style). flush z ≡ true) st (style-flush q.values);
         };
       }
 
-  pub entry_read : Back l s st m n
+  pub entry_read : Back l s x
   unfolding entry
   entry_read = go (numbers_from block_numbers s) (numbers-sized block_numbers s) (numbers-read block_numbers s b) e
     where
-      go : (x : Found Numbers) → Sized block_numbers (length s) x → ReadBack s x → entry_of l s x ≡ Is st m n → Back l s st m n
+      go : (y : Found Numbers) → Sized block_numbers (length s) y → ReadBack s y → entry_of l s y ≡ Ok x → Back l s x
       go (found q) i j d = parts q i j d
       go (refused r) i j d = let z : ◌≡◌ {A = ℕ} 0 1 = cc in absurd (omega arith)

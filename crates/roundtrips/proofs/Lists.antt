@@ -10,17 +10,14 @@ use Prim.Native.Nat.{ℕ, zero, suc, ◌+◌, ◌<◌}
 use native.Mathlib.Omega.{arith}
 use lib.ListN.{length, take, drop, take-append-drop}
 use lib.Seq.{drop-append_seam, take-append_seam, drop-drop}
-use Rattle.answers.specs.declared.Outcome.TheVariants.{Done}
 use Rattle.rooms.specs.Streams.{Stream, ◌▸◌, items, answer, ended}
-use Rattle.rooms.proofs.Streams.{done_refused}
+use Rattle.rooms.proofs.Streams.{ok_err}
 use Rattle.sevens.specs.declared.Numeral.{Numeral}
-use Rattle.sevens.specs.declared.Numeral.TheVariants.{Is as Numbered, Bad as BadNumber, Short}
+use Rattle.answers.specs.declared.Why.{Why}
 use Rattle.sevens.specs.Sevens.{number_of, written}
 use Rattle.sevens.proofs.Sevens.{read-written, written_read}
-use Rattle.styles.specs.declared.Style.{Style}
 use Rattle.blocks.specs.Pages.{Piece, piece, Last, none, last}
 use Rattle.stored.specs.declared.entry.Entry.{Entry}
-use Rattle.stored.specs.declared.entry.Entry.TheVariants.{Is, Bad}
 use Rattle.stored.specs.Entries.{entry}
 use Rattle.stored.specs.Stored.{over, entered, blocks_from, counted, stored}
 use Rattle.storing.specs.Bytes.{numbers_bytes, numbers_in, block_bytes, blocks_bytes, list_bytes}
@@ -30,6 +27,7 @@ use Rattle.roundtrips.specs.Trips.{Bytes, Small, all}
 use Rattle.roundtrips.proofs.Numbers.{bytes_drop}
 use Rattle.roundtrips.proofs.Blocks.{Fit, entry-written, Back, entry_read}
 use Rattle.answers.specs.declared.Refusal.{Refusal}
+use Rattle.std.specs.Prelude.{Result, Ok, Err}
 
 pub good-fit : (l : Last) (x : Piece) (xs : List Piece) → Good l (x ∷ xs) ≡ true → Flat (x ∷ xs) ≡ true → Small (x ∷ xs) → Fit l x
 good-fit l x xs g e (w, h, more) =
@@ -80,33 +78,34 @@ pub record Read (k : ℕ) (l : Last) (s : List ℕ) (q : Stream Refusal Piece) :
   pub small : Small (items q)
   pub counted : length (items q) ≡ k
 
-read-over : (l : Last) (s : List ℕ) (j : ℕ) {r : ℕ} → answer j (over s) ≡ Done r → Read 0 l s (over s)
+read-over : (l : Last) (s : List ℕ) (j : ℕ) {r : ℕ} → answer j (over s) ≡ Ok r → Read 0 l s (over s)
 unfolding ended items all blocks_bytes Good Flat
 read-over l [] j e = record { whole = refl; bytes = refl; good = refl; flat = refl; small = omega arith; counted = refl }
-read-over l (b ∷ s) j e = absurd (done_refused (sym e))
+read-over l (b ∷ s) j e = absurd (ok_err (sym e))
 
-read_more : (k : ℕ) (l : Last) (s : List ℕ) (st : Style) (m n : ℕ) (q : Stream Refusal Piece) → Back l s st m n → Read k (last st) (drop (m + n) s) q
-    → Read (suc k) l s (piece st (take n (drop m s)) ▸ q)
+read_more : (k : ℕ) (l : Last) (s : List ℕ) (x : Entry) (q : Stream Refusal Piece) → Back l s x → Read k (last x.style) (drop (x.numbers + x.text) s) q
+    → Read (suc k) l s (piece x.style (take x.text (drop x.numbers s)) ▸ q)
 unfolding items all blocks_bytes
-read_more k l s st m n q b r = record {
-  whole = ap (λ (z : Stream Refusal Piece). piece st (take n (drop m s)) ▸ z) r.whole;
-  bytes = sym (take-append-drop (m + n) s) ∙ rw (b.bytes, ← r.bytes);
-  good = good_more l (piece st (take n (drop m s))) (items q) b.fit r.good;
-  flat = one-flat (piece st (take n (drop m s))) (items q) b.fit.bare r.flat;
+read_more k l s x q b r = record {
+  whole = ap (λ (z : Stream Refusal Piece). piece x.style (take x.text (drop x.numbers s)) ▸ z) r.whole;
+  bytes = sym (take-append-drop (x.numbers + x.text) s) ∙ rw (b.bytes, ← r.bytes);
+  good = good_more l (piece x.style (take x.text (drop x.numbers s))) (items q) b.fit r.good;
+  flat = one-flat (piece x.style (take x.text (drop x.numbers s))) (items q) b.fit.bare r.flat;
   small = (b.fit.words, b.fit.short, r.small);
   counted = ap suc r.counted;
 }
 
-pub blocks-read : (k : ℕ) (l : Last) (s : List ℕ) → Bytes s → (j : ℕ) {r : ℕ} → answer j (blocks_from k l s) ≡ Done r → Read k l s (blocks_from k l s)
+pub blocks-read : (k : ℕ) (l : Last) (s : List ℕ) → Bytes s → (j : ℕ) {r : ℕ} → answer j (blocks_from k l s) ≡ Ok r → Read k l s (blocks_from k l s)
 unfolding blocks_from ended
 blocks-read zero l s b j e = read-over l s j e
 blocks-read (suc k) l s b j {r} e = go (entry l s) refl e (λ l' m d. blocks-read k l' (drop m s) (bytes_drop s m b) (j + 1) d)
   where
-    go : (x : Entry) → entry l s ≡ x → answer j (entered x s (blocks_from k)) ≡ Done r
-        → ((l' : Last) (m : ℕ) → answer (j + 1) (blocks_from k l' (drop m s)) ≡ Done r → Read k l' (drop m s) (blocks_from k l' (drop m s)))
+    go : (x : Result Entry Refusal) → entry l s ≡ x → answer j (entered x s (blocks_from k)) ≡ Ok r
+        → ((l' : Last) (m : ℕ) → answer (j + 1) (blocks_from k l' (drop m s)) ≡ Ok r → Read k l' (drop m s) (blocks_from k l' (drop m s)))
         → Read (suc k) l s (entered x s (blocks_from k))
-    go (Is st m n) d f more = read_more k l s st m n (blocks_from k (last st) (drop (m + n) s)) (entry_read l s b d) (more (last st) (m + n) f)
-    go (Bad q) d f more = absurd (done_refused (sym f))
+    go (Ok x) d f more =
+        read_more k l s x (blocks_from k (last x.style) (drop (x.numbers + x.text) s)) (entry_read l s b d) (more (last x.style) (x.numbers + x.text) f)
+    go (Err q) d f more = absurd (ok_err (sym f))
 
 -- the blocks of a list that is accepted
 pub record Accepted (s : List ℕ) (q : Stream Refusal Piece) : Type 0 where
@@ -117,21 +116,20 @@ pub record Accepted (s : List ℕ) (q : Stream Refusal Piece) : Type 0 where
   pub small : Small (items q)
   pub few : length (items q) < 4294967296
 
-pub list_read : (s : List ℕ) → Bytes s → (j : ℕ) {r : ℕ} → answer j (stored s) ≡ Done r → Accepted s (stored s)
+pub list_read : (s : List ℕ) → Bytes s → (j : ℕ) {r : ℕ} → answer j (stored s) ≡ Ok r → Accepted s (stored s)
 unfolding stored ended list_bytes
 list_read s b j {r} e = go (number_of s) refl e
   where
-    go : (x : Numeral) → number_of s ≡ x → answer j (counted x s) ≡ Done r → Accepted s (counted x s)
-    go (Numbered n m) d f =
+    go : (x : Result Numeral Why) → number_of s ≡ x → answer j (counted x s) ≡ Ok r → Accepted s (counted x s)
+    go (Ok x) d f =
         let w = written_read s b d in
-        let i = blocks-read n none (drop m s) (bytes_drop s m b) j f in
+        let i = blocks-read x.value none (drop x.length s) (bytes_drop s x.length b) j f in
         record {
           whole = i.whole;
-          bytes = sym (take-append-drop m s) ∙ rw (w.0, ← i.bytes, i.counted);
+          bytes = sym (take-append-drop x.length s) ∙ rw (w.0, ← i.bytes, i.counted);
           good = i.good;
           flat = i.flat;
           small = i.small;
           few = rw i.counted w.1;
         }
-    go BadNumber d f = absurd (done_refused (sym f))
-    go Short d f = absurd (done_refused (sym f))
+    go (Err why) d f = absurd (ok_err (sym f))

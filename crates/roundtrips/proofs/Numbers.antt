@@ -8,7 +8,8 @@ use lib.ListN.{length, take, drop, length-append}
 use lib.Seq.{drop-append_seam, take-add}
 use Rattle.answers.specs.Answers.{Found, found, refused}
 use Rattle.sevens.specs.declared.Numeral.{Numeral}
-use Rattle.sevens.specs.declared.Numeral.TheVariants.{Is as Numbered, Bad as BadNumber, Short}
+use Rattle.answers.specs.declared.Why.{Why}
+use Rattle.std.specs.Prelude.{Result, Ok, Err}
 use Rattle.sevens.specs.Sevens.{number_of, written}
 use Rattle.sevens.proofs.Sevens.{read-written, written_read}
 use Rattle.stored.specs.Entries.{Numbers, behind, and_more, numbers_from}
@@ -52,7 +53,6 @@ unfolding numbers_from numbers_bytes
 numbers-read zero s b = (refl, λ i. omega arith)
 numbers-read (suc k) s b = go (number_of s) refl (λ n. numbers-read k (drop n s) (bytes_drop s n b))
   where
-    go : (x : Numeral) → number_of s ≡ x → ((n : ℕ) → ReadBack (drop n s) (numbers_from k (drop n s))) → ReadBack s (and_more x (λ (n : ℕ). numbers_from k (drop n s)))
-    go (Numbered v n) e more = let w = written_read s b e in back_more s v n (numbers_from k (drop n s)) w.0 w.1 (more n)
-    go BadNumber e more = omega arith
-    go Short e more = omega arith
+    go : (x : Result Numeral Why) → number_of s ≡ x → ((n : ℕ) → ReadBack (drop n s) (numbers_from k (drop n s))) → ReadBack s (and_more x (λ (n : ℕ). numbers_from k (drop n s)))
+    go (Ok x) e more = let w = written_read s b e in back_more s x.value x.length (numbers_from k (drop x.length s)) w.0 w.1 (more x.length)
+    go (Err why) e more = omega arith

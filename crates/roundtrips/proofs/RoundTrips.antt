@@ -13,8 +13,6 @@ use borrow.Author.Tests.{ltb-true}
 use lib.ListN.{length, take}
 use lib.Dec.{ltb}
 use Rattle.answers.specs.declared.Refusal.{Refusal}
-use Rattle.answers.specs.declared.Outcome.{Outcome}
-use Rattle.answers.specs.declared.Outcome.TheVariants.{Done, Refused}
 use Rattle.rooms.specs.Streams.{Stream, items, answer}
 use Rattle.rooms.specs.Rooms.{capacity, filled, content}
 use Rattle.sevens.specs.Sevens.{byte_layout, streamed}
@@ -22,7 +20,6 @@ use Rattle.sevens.proofs.Streamed.{answer-streamed, encode-streamed}
 use Rattle.blocks.specs.Pages.{Piece, none, text_of, records, block_words, roomy, text_capacity}
 use Rattle.blocks.proofs.Blocks.{length-records}
 use Rattle.stored.specs.declared.Counts.{Counts}
-use Rattle.stored.specs.declared.Answer.TheVariants.{Read}
 use Rattle.stored.specs.Stored.{stored, placed, answered, stored_answer, stored_blocks, stored_text}
 use Rattle.storing.specs.Bytes.{list_bytes}
 use Rattle.storing.specs.Good.{Good, Flat}
@@ -33,6 +30,7 @@ use Rattle.storing.proofs.Settling.{written-done}
 use Rattle.roundtrips.specs.Trips.{Bytes, Words, Small, all, Room, counts_in, ReadsAs}
 use Rattle.roundtrips.proofs.Lists.{list_written, Accepted, list_read}
 use Rattle.roundtrips.proofs.Ample.{roomy-all, roomy-whole, roomy-text, small-records, take-filled, Reads, stored-reads}
+use Rattle.std.specs.Prelude.{Result, Ok, Err}
 
 -- ---- what the writer writes
 
@@ -46,11 +44,11 @@ record Wrote (total : ℕ) (ws tx : List ℕ) (n : ℕ) : Type 0 where
   few : length xs < 4294967296
   front : take n (write_room total ws tx) ≡ list_bytes xs
 
-room-is : (total : ℕ) (ws tx bytes : List ℕ) {n : ℕ} → write_answer total ws tx ≡ Done n → list_stream ws tx ≡ streamed bytes → write_room total ws tx ≡ filled total bytes
+room-is : (total : ℕ) (ws tx bytes : List ℕ) {n : ℕ} → write_answer total ws tx ≡ Ok n → list_stream ws tx ≡ streamed bytes → write_room total ws tx ≡ filled total bytes
 unfolding write_room content
 room-is total ws tx bytes {n} e s =
-    ap (λ (o : Outcome). content byte_layout total o (list_stream ws tx)) e
-    ∙ ap (content byte_layout total (Done n)) s
+    ap (λ (o : Result ℕ Refusal). content byte_layout total o (list_stream ws tx)) e
+    ∙ ap (content byte_layout total (Ok n)) s
     ∙ ap (filled total) (encode-streamed bytes)
 
 not-false : (b : Bool) → not b ≡ false → b ≡ true
@@ -63,14 +61,14 @@ flat-records xs ws e i =
     let n : length (records 0 xs) / block_words ≡ length xs = omega (arith, length-records xs 0) in
     not-false (Flat xs) (sym (indented-records xs 0) ∙ ap (λ (k : ℕ). indented k (records 0 xs)) (sym n) ∙ rw e at i)
 
-wrote : (total : ℕ) (ws tx : List ℕ) {n : ℕ} → write_answer total ws tx ≡ Done n → Wrote total ws tx n
+wrote : (total : ℕ) (ws tx : List ℕ) {n : ℕ} → write_answer total ws tx ≡ Ok n → Wrote total ws tx n
 wrote total ws tx {n} e =
     let done = written-done total ws tx e in
-    let a : answer 0 (list_stream ws tx) ≡ Done n = done.0 in
+    let a : answer 0 (list_stream ws tx) ≡ Ok n = done.0 in
     let w = stream-ends ws tx a in
     let bytes : List ℕ = list_bytes w.0 in
     let s : list_stream ws tx ≡ streamed bytes = w.5 in
-    let d : Done (0 + length bytes) ≡ Done n = sym (answer-streamed bytes 0) ∙ ap (answer 0) (sym s) ∙ a in
+    let d : Ok (0 + length bytes) ≡ Ok n = sym (answer-streamed bytes 0) ∙ ap (answer 0) (sym s) ∙ a in
     let l : length bytes ≡ n = (let z : 0 + length bytes ≡ n = cc in omega (arith, z)) in
     record {
       xs = w.0;
@@ -107,7 +105,7 @@ module _ (xs : List Piece) (good : Good none xs ≡ true) (flat : Flat xs ≡ tr
       let z : length xs ≡ length (records 0 xs) / block_words = omega (arith, l) in
       subst (λ (k : ℕ). ReadsAs (list_bytes xs) (record { blocks = k; text = length (text_of xs) }) (records 0 xs) (text_of xs) b t) z list-reads
 
-pub written-reads : (total : ℕ) (ws tx : List ℕ) {n : ℕ} → Words ws → write_answer total ws tx ≡ Done n → (b t : ℕ) → Room ws tx b t
+pub written-reads : (total : ℕ) (ws tx : List ℕ) {n : ℕ} → Words ws → write_answer total ws tx ≡ Ok n → (b t : ℕ) → Room ws tx b t
     → ReadsAs (take n (write_room total ws tx)) (counts_in ws tx) ws tx b t
 written-reads total ws tx {n} small e b t room =
     let w = wrote total ws tx e in
@@ -121,15 +119,15 @@ written-reads total ws tx {n} small e b t room =
 -- ---- what the reader accepts
 
 -- an answer that is no refusal
-read_done : (ps : List Piece) (o : Outcome) {c : Counts} → answered ps o ≡ Read c → (n : ℕ) × (o ≡ Done n)
-read_done ps (Done n) e = (n, refl)
-read_done ps (Refused r) e = let z : ◌≡◌ {A = ℕ} 0 1 = cc in absurd (omega arith)
+read_done : (ps : List Piece) (o : Result ℕ Refusal) {c : Counts} → answered ps o ≡ Ok c → (n : ℕ) × (o ≡ Ok n)
+read_done ps (Ok n) e = (n, refl)
+read_done ps (Err r) e = let z : ◌≡◌ {A = ℕ} 0 1 = cc in absurd (omega arith)
 
-module _ (s : List ℕ) (b t : ℕ) (bytes : Bytes s) {c : Counts} (e : stored_answer b t s ≡ Read c) where
+module _ (s : List ℕ) (b t : ℕ) (bytes : Bytes s) {c : Counts} (e : stored_answer b t s ≡ Ok c) where
   q : Stream Refusal Piece
   q = placed b t s
 
-  done : (n : ℕ) × (answer 0 q ≡ Done n)
+  done : (n : ℕ) × (answer 0 q ≡ Ok n)
   unfolding stored_answer q
   done = read_done (items q) (answer 0 q) e
 
@@ -154,7 +152,7 @@ module _ (s : List ℕ) (b t : ℕ) (bytes : Bytes s) {c : Counts} (e : stored_a
   reads = stored-reads s (items (stored s)) b t (whole ∙ accepted.whole) accepted.good
 
   counts : (c.blocks ≡ length xs) × (c.text ≡ length (text_of xs))
-  counts = let z : Read c ≡ Read (record { blocks = length xs; text = length (text_of xs) }) = sym e ∙ reads.answer in (cc, cc)
+  counts = let z : Ok c ≡ Ok (record { blocks = length xs; text = length (text_of xs) }) = sym e ∙ reads.answer in (cc, cc)
 
   -- the blocks and the text that the rooms hold
   words : take (c.blocks * block_words) (stored_blocks b t s) ≡ records 0 xs
@@ -172,7 +170,7 @@ module _ (s : List ℕ) (b t : ℕ) (bytes : Bytes s) {c : Counts} (e : stored_a
 
   -- the list is written back as it was
   pub record Writes (total : ℕ) : Type 0 where
-    pub answer : write_answer total (take (c.blocks * block_words) (stored_blocks b t s)) (take c.text (stored_text b t s)) ≡ Done (length s)
+    pub answer : write_answer total (take (c.blocks * block_words) (stored_blocks b t s)) (take c.text (stored_text b t s)) ≡ Ok (length s)
     pub room : write_room total (take (c.blocks * block_words) (stored_blocks b t s)) (take c.text (stored_text b t s)) ≡ filled total s
 
   pub read-writes : (total : ℕ) → length s ≤ total → Writes total
@@ -181,12 +179,12 @@ module _ (s : List ℕ) (b t : ℕ) (bytes : Bytes s) {c : Counts} (e : stored_a
       let k : length (list_bytes xs) ≤ total = subst (λ (z : List ℕ). length z ≤ total) accepted.bytes h in
       let w = write-good xs total accepted.good accepted.flat short-text k in
       record {
-        answer = rw (words, texts) (w.0 ∙ ap (λ (z : List ℕ). Done (length z)) (sym accepted.bytes));
+        answer = rw (words, texts) (w.0 ∙ ap (λ (z : List ℕ). Ok (length z)) (sym accepted.bytes));
         room = rw (words, texts) (w.1 ∙ ap (filled total) (sym accepted.bytes));
       }
 
 -- "one meaning has one stored form"
-pub one_form : (s s' : List ℕ) (b t b' t' : ℕ) → Bytes s → Bytes s' → {c : Counts} → stored_answer b t s ≡ Read c → stored_answer b' t' s' ≡ Read c
+pub one_form : (s s' : List ℕ) (b t b' t' : ℕ) → Bytes s → Bytes s' → {c : Counts} → stored_answer b t s ≡ Ok c → stored_answer b' t' s' ≡ Ok c
     → take (c.blocks * block_words) (stored_blocks b t s) ≡ take (c.blocks * block_words) (stored_blocks b' t' s') → take c.text (stored_text b t s) ≡ take c.text (stored_text b' t' s')
     → s ≡ s'
 one_form s s' b t b' t' by by' {c} e e' p r =
@@ -195,10 +193,10 @@ one_form s s' b t b' t' by by' {c} e e' p r =
     let y = read-writes s' b' t' by' e' total (omega arith) in
     let ws : List ℕ = take (c.blocks * block_words) (stored_blocks b t s) in
     let tx : List ℕ = take c.text (stored_text b t s) in
-    let a : write_answer total ws tx ≡ Done (length s') = subst (λ (v : List ℕ). write_answer total v tx ≡ Done (length s')) (sym p)
-    (subst (λ (v : List ℕ). write_answer total (take (c.blocks * block_words) (stored_blocks b' t' s')) v ≡ Done (length s')) (sym r) y.answer) in
+    let a : write_answer total ws tx ≡ Ok (length s') = subst (λ (v : List ℕ). write_answer total v tx ≡ Ok (length s')) (sym p)
+    (subst (λ (v : List ℕ). write_answer total (take (c.blocks * block_words) (stored_blocks b' t' s')) v ≡ Ok (length s')) (sym r) y.answer) in
     let f : write_room total ws tx ≡ filled total s' = subst (λ (v : List ℕ). write_room total v tx ≡ filled total s') (sym p)
     (subst (λ (v : List ℕ). write_room total (take (c.blocks * block_words) (stored_blocks b' t' s')) v ≡ filled total s') (sym r) y.room) in
-    let d : Done (length s) ≡ Done (length s') = sym x.answer ∙ a in
+    let d : Ok (length s) ≡ Ok (length s') = sym x.answer ∙ a in
     let l : length s ≡ length s' = cc in
     sym (take-filled total s (length s) refl) ∙ ap (take (length s)) (sym x.room ∙ f) ∙ take-filled total s' (length s) (sym l)

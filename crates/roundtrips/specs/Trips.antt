@@ -5,9 +5,9 @@ use Rattle.rooms.specs.Rooms.{filled}
 use Rattle.styles.specs.Styles.{style_words}
 use Rattle.blocks.specs.Pages.{Piece, block_words}
 use Rattle.stored.specs.declared.Counts.{Counts}
-use Rattle.stored.specs.declared.Answer.TheVariants.{Read}
 use Rattle.stored.specs.Stored.{stored_answer, stored_blocks, stored_text}
 use Rattle.answers.specs.declared.Refusal.{Refusal}
+use Rattle.std.specs.Prelude.{Ok}
 
 -- every item is a byte; every item has 32 bits
 abbrev pub Bytes : List ℕ → Type 0
@@ -39,6 +39,6 @@ counts_in ws tx = record { blocks = length ws / block_words; text = length tx }
 -- the list s, read into rooms of b words and t bytes: the answer is the counts c, and the rooms hold the blocks' words ws and the
 -- text tx, and zeros behind them
 pub record ReadsAs (s : List ℕ) (c : Counts) (ws tx : List ℕ) (b t : ℕ) : Type 0 where
-  pub answer : stored_answer b t s ≡ Read c
+  pub answer : stored_answer b t s ≡ Ok c
   pub blocks : stored_blocks b t s ≡ filled b ws
   pub text : stored_text b t s ≡ filled t tx

@@ -23,7 +23,6 @@ use Rattle.rooms.specs.Streams.{Stream}
 use Rattle.utf8.specs.declared.Encoded.{Encoded}
 use Rattle.utf8.specs.Utf8.{written, encoded_of}
 use Rattle.utf8.proofs.Utf8.{encoded-length, encoded-bytes}
-use Rattle.tokens.specs.declared.Property.{Property}
 use Rattle.settings.specs.Fields.{Setting, style_of}
 use Rattle.settings.specs.Fields as field
 use Rattle.units.specs.declared.Run.{Run}
@@ -37,7 +36,8 @@ use Rattle.blocks.specs.declared.Page.{Page}
 use Rattle.blocks.specs.Pages.{Piece}
 use Rattle.blocks.specs.Laying.{Laying, on, off, add_of, laid_on, lay_all}
 use Rattle.blocks.proofs.Laying.{lay-more, Placeless, laid-on-placeless}
-use Rattle.runs.specs.Runs.{rows, step_by, owed_by, steps_by, run_words, run_of, value_if, laid_all}
+use Rattle.runs.specs.Runs.{rows, step_by, owed_by, steps_by, laid_all}
+use Rattle.std.specs.Prelude.{Option, option_to_list, Some, None}
 
 pub ne-pos : {d : ℕ} → (d ≡ 0 → ⊥) → 0 < d
 ne-pos h = omega arith
@@ -124,39 +124,48 @@ module _ (value : ℕ) (e : Encoded) (q : e ≡ encoded_of value) where
 
 -- ---- what a `u` word gave
 
-module _ (p : Page) (r b t : List ℕ) (value : ℕ) {some : Bool} where
-  pub value-some : some ≡ true → {l : Laying} → l ≡ add_of p (style_of r) (written value) b t → l ≡ laid_all (on p b t) (spoken rows r (written_all (value_if some value)))
+module _ (p : Page) (r b t : List ℕ) where
+  pub value-some : (c : ℕ) {value : Option ℕ} → value ≡ Some c → {l : Laying} → l ≡ add_of p (style_of r) (written c) b t → l ≡ laid_all (on p b t) (spoken rows r (written_all (option_to_list value)))
   unfolding laid_all spoken written_all
-  value-some f h = h ∙ rw f
+  value-some c e h = h ∙ rw e
 
-  pub value_none : some ≡ false → on p b t ≡ laid_all (on p b t) (spoken rows r (written_all (value_if some value)))
+  pub value_none : {value : Option ℕ} → value ≡ None → on p b t ≡ laid_all (on p b t) (spoken rows r (written_all (option_to_list value)))
   unfolding laid_all spoken written_all
-  value_none f = rw f
+  value_none e = rw e
 
 -- a lost surrogate, and then a value
 module _ (l : Laying) (r : List ℕ) (g : Gave) where
-  values-both : spoken rows r (written_all (values g)) ≡ spoken rows r (written_all (value_if g.lost 65533)) ++ spoken rows r (written_all (value_if g.some g.value))
-  unfolding values
-  values-both =
-      ap (spoken rows r) (written-append (value_if g.lost 65533) (value_if g.some g.value))
-      ∙ spoken-append r (written_all (value_if g.lost 65533)) (written_all (value_if g.some g.value))
+  abbrev lost : List ℕ
+  lost = option_to_list (Some 65533)
 
-  pub values-full : {q : Refusal} → off q ≡ laid_all l (spoken rows r (written_all (value_if g.lost 65533))) → off q ≡ laid_all l (spoken rows r (written_all (values g)))
-  values-full {q} h =
-      let xs : List Piece = spoken rows r (written_all (value_if g.some g.value)) in
+  abbrev value : List ℕ
+  value = option_to_list g.value
+
+  pub values-full : g.lost ≡ true → {q : Refusal} → off q ≡ laid_all l (spoken rows r (written_all lost)) → off q ≡ laid_all l (spoken rows r (written_all (values g)))
+  unfolding values
+  values-full e {q} h =
+      let xs : List Piece = spoken rows r (written_all value) in
       sym (laid-off q xs)
       ∙ ap (λ (y : Laying). laid_all y xs) h
-      ∙ laid-append l (spoken rows r (written_all (value_if g.lost 65533))) xs
-      ∙ ap (laid_all l) (sym values-both)
+      ∙ laid-append l (spoken rows r (written_all lost)) xs
+      ∙ ap (laid_all l) (sym (ap (spoken rows r) (written-append lost value) ∙ spoken-append r (written_all lost) (written_all value)))
+      ∙ rw e refl
 
-  pub values-more : (p : Page) (b t : List ℕ) → on p b t ≡ laid_all l (spoken rows r (written_all (value_if g.lost 65533)))
-      → {y : Laying} → y ≡ laid_all (on p b t) (spoken rows r (written_all (value_if g.some g.value))) → y ≡ laid_all l (spoken rows r (written_all (values g)))
-  values-more p b t h i =
-      let xs : List Piece = spoken rows r (written_all (value_if g.some g.value)) in
+  pub values-more : g.lost ≡ true → (p : Page) (b t : List ℕ) → on p b t ≡ laid_all l (spoken rows r (written_all lost))
+      → {y : Laying} → y ≡ laid_all (on p b t) (spoken rows r (written_all value)) → y ≡ laid_all l (spoken rows r (written_all (values g)))
+  unfolding values
+  values-more e p b t h i =
+      let xs : List Piece = spoken rows r (written_all value) in
       i
       ∙ ap (λ (y : Laying). laid_all y xs) h
-      ∙ laid-append l (spoken rows r (written_all (value_if g.lost 65533))) xs
-      ∙ ap (laid_all l) (sym values-both)
+      ∙ laid-append l (spoken rows r (written_all lost)) xs
+      ∙ ap (laid_all l) (sym (ap (spoken rows r) (written-append lost value) ∙ spoken-append r (written_all lost) (written_all value)))
+      ∙ rw e refl
+
+  -- none was lost
+  pub values_one : g.lost ≡ false → {y : Laying} → y ≡ laid_all l (spoken rows r (written_all value)) → y ≡ laid_all l (spoken rows r (written_all (values g)))
+  unfolding values
+  values_one e h = h ∙ rw e refl
 
 -- ---- where the run ends
 
@@ -178,43 +187,13 @@ module _ (p : Page) (b t : List ℕ) (states : List (List ℕ)) (depth : ℕ) (r
   unfolding said values written_all spoken laid_all
   lost-some z h e = e ∙ rw (held-top [] states depth z, lt-ltb 0 run.high h) refl
 
--- the words of a run that has ended
-pub run_none : (l : List ℕ) → length l ≡ run_words → (run_of (set (set (set l 0 0) 1 0) 2 0) ≡ before) × (length (set (set (set l 0 0) 1 0) 2 0) ≡ run_words)
-run_none [] e = absurd (omega arith)
-run_none (x ∷ []) e = absurd (omega arith)
-run_none (x ∷ y ∷ []) e = absurd (omega arith)
-run_none (x ∷ y ∷ z ∷ []) e = (refl, refl)
-run_none (x ∷ y ∷ z ∷ u ∷ l) e = absurd (omega arith)
-
--- and of one that goes on
-bit_is : (b : Bool) → eqb (cond b 1 0) 1 ≡ b
-bit_is true = refl
-bit_is false = refl
-
-pub run-put : (l : List ℕ) → length l ≡ run_words → (r : Run) {n : ℕ} → n ≡ cond r.begun 1 0
-    → (length (set (set (set l 0 n) 1 r.skipped) 2 r.high) ≡ run_words) × (run_of (set (set (set l 0 n) 1 r.skipped) 2 r.high) ≡ r)
-run-put [] e r q = absurd (omega arith)
-run-put (x ∷ []) e r q = absurd (omega arith)
-run-put (x ∷ y ∷ []) e r q = absurd (omega arith)
-run-put (x ∷ y ∷ z ∷ []) e r q = (refl, rw (q, bit_is r.begun) refl)
-run-put (x ∷ y ∷ z ∷ u ∷ l) e r q = absurd (omega arith)
-
--- a `u` word's step of the run, and what it gives
-module _ (rd : Reading) (skip : ℕ) (run₀ : Run) (num : Property) {run : Run} (e : run ≡ run₀) {g : Gave} (q : g ≡ step_by rd skip run num) where
-  pub unit-laid : (r : List ℕ) (p : Page) (b t : List ℕ) {l : Laying} → l ≡ laid_all (on p b t) (spoken rows r (written_all (values g)))
-      → l ≡ laid_all (on p b t) (spoken rows r (written_all (values (step_by rd skip run₀ num))))
-  unit-laid r p b t h = h ∙ ap (λ (x : Gave). laid_all (on p b t) (spoken rows r (written_all (values x)))) (q ∙ ap (λ (x : Run). step_by rd skip x num) e)
-
-  pub unit-run : {run' : Run} → run' ≡ g.run → run' ≡ (step_by rd skip run₀ num).run
-  unit-run h = h ∙ ap (λ (x : Gave). x.run) (q ∙ ap (λ (x : Run). step_by rd skip x num) e)
-
 -- by whether the reading is the specification's, as the code asks it
 module _ (rd : Reading) (skip : ℕ) {s : Bool} (q : s ≡ is_standard rd) where
-  pub step-standard : s ≡ true → (run : Run) (num : Property) {g : Gave} → g ≡ standard_step run num → g ≡ step_by rd skip run num
+  pub step-standard : s ≡ true → (run : Run) (num : Option ℕ) {g : Gave} → g ≡ standard_step run num → g ≡ step_by rd skip run num
   unfolding step_by
   step-standard e run num h = h ∙ rw (← q, e) refl
 
-  pub step_other : s ≡ false → (run : Run) (num : Property) {g : Gave} → g ≡ step skip run num → g ≡ step_by rd skip run num
+  pub step_other : s ≡ false → (run : Run) (num : Option ℕ) {g : Gave} → g ≡ step skip run num → g ≡ step_by rd skip run num
   unfolding step_by
   step_other e run num h = h ∙ rw (← q, e) refl
 
@@ -234,7 +213,7 @@ module _ (rd : Reading) (skip : ℕ) {s : Bool} (q : s ≡ is_standard rd) where
   owed_none e = owed-is false e
 
 -- a `u` word says no more than it may
-pub steps-few : (rd : Reading) (r : List ℕ) (run : Run) (num : Property) → Few run ((steps_by rd).step r run num)
+pub steps-few : (rd : Reading) (r : List ℕ) (run : Run) (num : Option ℕ) → Few run ((steps_by rd).step r run num)
 unfolding step_by
 steps-few Plain r run num = step-few (get_or r field.skip 0) run num
 steps-few Paragraphs r run num = step-few (get_or r field.skip 0) run num

@@ -5,13 +5,13 @@ use Rattle.settings.specs.Fields.{fresh_row, Setting, put_word, style_of}
 use Rattle.settings.specs.Fields as field
 use Rattle.readings.specs.declared.Reading.{Reading}
 use Rattle.readings.specs.Readings.{is_standard}
-use Rattle.tokens.specs.declared.Property.{Property}
 use Rattle.units.specs.declared.Run.{Run}
 use Rattle.units.specs.declared.Gave.{Gave}
 use Rattle.units.specs.Units.{step, standard_step, skip_count}
 use Rattle.machine.specs.Machine.{States, Steps}
 use Rattle.blocks.specs.Pages.{Piece, piece}
 use Rattle.blocks.specs.Laying.{Laying, laid_on}
+use Rattle.std.specs.Prelude.{Option}
 
 -- a state is the row of its fields' values; text in it is a piece of its style
 abbrev pub rows : States (List ℕ) Setting Piece
@@ -23,7 +23,7 @@ rows = record {
 
 -- a `u` word by the reading: as 01 has it; or by the specification, where characters are passed over behind it, and not units: "Negative counts
 -- skip nothing"
-unfoldable pub step_by : Reading → ℕ → Run → Property → Gave
+unfoldable pub step_by : Reading → ℕ → Run → Option ℕ → Gave
 step_by rd skip run num = cond (is_standard rd) (standard_step run num) (step skip run num)
 
 unfoldable pub owed_by : Reading → ℕ → ℕ
@@ -34,17 +34,6 @@ steps_by rd = record {
   step = λ r. step_by rd (get_or r field.skip 0);
   owes = λ r. owed_by rd (get_or r field.skip 0);
 }
-
--- the run of units under way, in an array of words, as the code carries it
-abbrev pub run_words : ℕ
-run_words = 3
-
-abbrev pub run_of : List ℕ → Run
-run_of l = record { begun = eqb (get_or l 0 0) 1; skipped = get_or l 1 0; high = get_or l 2 0 }
-
--- a scalar value, if there is one
-abbrev pub value_if : Bool → ℕ → List ℕ
-value_if b c = cond b (c ∷ []) []
 
 -- pieces laid one after the other
 unfoldable pub laid_all : Laying → List Piece → Laying

@@ -6,9 +6,10 @@ ghost use Rattle.std.specs.Prelude.{◌≡◌, [], ◌<◌, length, get_or};
 ghost use Rattle.utf8.specs.Utf8.{written};
 ghost use Rattle.settings.specs.Fields.{style_of};
 ghost use Rattle.machine.specs.Stack.{stack_limit};
-ghost use Rattle.blocks.specs.Laying.{roomed, page_of, add_of, Held};
+ghost use Rattle.blocks.specs.Laying.{roomed, add_of, Ready};
 
-use blocks::{PAGE_WORDS, Room, append, start};
+use answers::Why;
+use blocks::{Page, append, start};
 use settings::WIDTH;
 use settings::rows::{STATES, style_of};
 use utf8::encode;
@@ -19,22 +20,16 @@ pub fn lay(
     states: &[[u32; WIDTH]; STATES],
     d: usize,
     bytes: &[u8],
-    page: &mut [usize; PAGE_WORDS],
+    page: &mut Page,
     blocks: &mut [u32],
     text: &mut [u8],
-) -> Room
-    requires { (d < stack_limit) × (length states.now ≡ stack_limit) × Held page.old (length blocks.old) (length text.old) }
-    ensures laid { roomed result (page_of page.new) blocks.new text.new ≡ add_of (page_of page.old) (style_of (get_or states.now d [])) bytes.now blocks.old text.old }
-    ensures held { Held page.new (length blocks.old) (length text.old) }
+) -> Result<(), Why>
+    requires { (d < stack_limit) × (length states.now ≡ stack_limit) × Ready page.old (length blocks.old) (length text.old) }
+    ensures laid { roomed result page.new blocks.new text.new ≡ add_of page.old (style_of (get_or states.now d [])) bytes.now blocks.old text.old }
+    ensures ready { Ready page.new (length blocks.old) (length text.old) }
 {
-    let style = style_of(states, d);
-    if !start(page, style, blocks) {
-        return Room::NoBlock;
-    }
-    if !append(page, bytes, blocks, text) {
-        return Room::NoText;
-    }
-    Room::Fits
+    start(page, style_of(states, d), blocks)?;
+    append(page, bytes, blocks, text)
 }
 
 // A scalar value in the state at place d.
@@ -42,13 +37,13 @@ pub fn character(
     states: &[[u32; WIDTH]; STATES],
     d: usize,
     value: u32,
-    page: &mut [usize; PAGE_WORDS],
+    page: &mut Page,
     blocks: &mut [u32],
     text: &mut [u8],
-) -> Room
-    requires { (d < stack_limit) × (length states.now ≡ stack_limit) × Held page.old (length blocks.old) (length text.old) }
-    ensures laid { roomed result (page_of page.new) blocks.new text.new ≡ add_of (page_of page.old) (style_of (get_or states.now d [])) (written value) blocks.old text.old }
-    ensures held { Held page.new (length blocks.old) (length text.old) }
+) -> Result<(), Why>
+    requires { (d < stack_limit) × (length states.now ≡ stack_limit) × Ready page.old (length blocks.old) (length text.old) }
+    ensures laid { roomed result page.new blocks.new text.new ≡ add_of page.old (style_of (get_or states.now d [])) (written value) blocks.old text.old }
+    ensures ready { Ready page.new (length blocks.old) (length text.old) }
 {
     let e = encode(value);
     let bytes = e.bytes;

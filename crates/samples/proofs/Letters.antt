@@ -5,7 +5,7 @@ use mathlib.Core.Bool.{Bool, true, ◌&&◌}
 use Prim.Native.Nat.{◌*◌}
 use lib.ListN.{length}
 use lib.Dec.{eqb}
-use Rattle.answers.specs.Answers.{Found, found, refused}
+use Rattle.answers.specs.Answers.{Found, found, refused, answer_number, answer_place}
 use Rattle.classes.specs.Bytes.{lead, body, any}
 use Rattle.classes.specs.Texts.{bytes_of}
 use Rattle.names.specs.Names.{same_bytes, place_in, word_number}
@@ -33,10 +33,10 @@ use Rattle.settings.specs.Effects.{fitted, spacing, painter_word, paragraph_word
 use Rattle.blocks.specs.Pages.{block_record, blocks_from, blocks, text_of, records, roomy, block_words}
 use Rattle.runs.specs.Runs.{step_by, owed_by}
 use Rattle.body.specs.Body.{acts, body as body_of}
-use Rattle.parser.specs.declared.Answer.TheVariants.{Read}
-use Rattle.parser.specs.Parsing.{Sizes, Letter, placed, bodied, answer_number, answer_place}
+use Rattle.parser.specs.Parsing.{Sizes, Letter, placed, bodied}
 use Rattle.reader.specs.Reading.{letter_of, answered, read_answer, block_room, text_room}
 use Rattle.samples.specs.Letters.{Sample, samples, telling, crowded, cramped, refusing, placing, placeless, unread, unwritten, listed, listed_counts, listed_blocks, listed_text, indents, indented_blocks, flush_blocks}
+use Rattle.std.specs.Prelude.{Ok}
 
 -- rooms enough for each
 unfoldable pub room : Sizes
@@ -100,7 +100,7 @@ unwritten-letters = refl
 just : Sizes
 just = record { tokens = 6 * token_words; fonts = 0; colours = 0; blocks = 2 * block_words; text = 2 }
 
-listing-answer : read_answer Plain (bytes_of listed) just ≡ Read listed_counts
+listing-answer : read_answer Plain (bytes_of listed) just ≡ Ok listed_counts
 unfolding read_answer listed listed_counts just letter_of shown_by bodied placed roomy body_of acts machine left owed_behind moved said spoken gave settle written_all ◌▸▸◌ blocks blocks_from text_of records table_words font_record walk_from extent table_word aim_from tables_from fonts fonts_from font_token font_word stored inserted has_key font_named colours colours_from colour_token colour_word_of table_limit values step_by owed_by step met_any met taken unit_of utf8 written effect painter_word paragraph_word character_word ending_word indent_word fitted spacing resets style_of flags_of cut_answer token_stream trimmed all_slices last located settled ended items each and_then split slices with_feeds lead body any tokens escaped other other_by word word_tail bare_length named numbered shown_word line_break_and hex_escape hex_value plain mark word_number place_in same_bytes hex_digit hex_pair digits_from digits decimal record_of
 listing-answer = refl
 

@@ -4,10 +4,10 @@ use Rattle.std.specs.Prelude.{List, [], ◌∷◌, ℕ}
 use Rattle.answers.specs.declared.Why.TheVariants.{FontNumber, FontRoom}
 use Rattle.answers.specs.Answers.{Found, found, refused}
 use Rattle.classes.specs.Texts.{bytes_of}
-use Rattle.tokens.specs.declared.Property.TheVariants.{None, Value}
 use Rattle.tokens.specs.Tokens.{Shown, Token, token}
 use Rattle.fonts.specs.Rows.{Font}
 use Rattle.tokens.specs.WordNumbers as words
+use Rattle.std.specs.Prelude.{Some, None}
 
 -- how many fonts find room; the tokens; what they give
 pub record Told : Type 0 where
@@ -17,7 +17,7 @@ pub record Told : Type 0 where
 
 -- `\f` and a number, and `\f` alone
 unfoldable pub f : ℕ → Shown
-f v = Shown.word words.font_number (Value v)
+f v = Shown.word words.font_number (Some v)
 
 unfoldable pub bare : Shown
 bare = Shown.word words.font_number None

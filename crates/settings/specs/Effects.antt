@@ -5,14 +5,13 @@ use Rattle.answers.specs.declared.Why.{Why}
 use Rattle.answers.specs.declared.Why.TheVariants.{NumberField, LineSpacing}
 use Rattle.readings.specs.declared.Reading.{Reading}
 use Rattle.readings.specs.declared.Reading.TheVariants.{Plain, Paragraphs, Standard}
-use Rattle.tokens.specs.declared.Property.{Property}
-use Rattle.tokens.specs.declared.Property.TheVariants.{None, Value}
 use Rattle.tokens.specs.Tokens.{value_of}
 use Rattle.tokens.specs.WordNumbers as words
 use Rattle.settings.specs.declared.Act.{Act}
 use Rattle.settings.specs.declared.Act.TheVariants.{Nothing, Sets, Lines, Plain as ResetsPainter, Pard as ResetsParagraph, Says, Refuses}
 use Rattle.settings.specs.Fields.{Setting, ◌≔◌, resets, painter_width, paragraph_width, width}
 use Rattle.settings.specs.Fields as field
+use Rattle.std.specs.Prelude.{Option, Some, None}
 
 pub data Effect : Type 0 where
   sets : List Setting → Effect
@@ -33,9 +32,9 @@ flag_by Plain v = cond (eqb v 1) 1 0
 flag_by Paragraphs v = cond (eqb v 1) 1 0
 flag_by Standard v = cond (eqb v 0) 0 1
 
-abbrev pub flag_of : Reading → Property → ℕ
+abbrev pub flag_of : Reading → Option ℕ → ℕ
 flag_of rd None = 1
-flag_of rd (Value v) = flag_by rd v
+flag_of rd (Some v) = flag_by rd v
 
 -- "line kind (0 automatic, 1 value), line value"
 abbrev pub lined : ℕ → ℕ → Effect
@@ -57,7 +56,7 @@ ending Paragraphs = says 10
 ending Standard = says 10
 
 -- word by word; what is none of these words is left to what comes next. The style: "`ulnone` is off"; "`plain` resets the style"
-unfoldable pub painter_word : Reading → ℕ → Property → Effect → Effect
+unfoldable pub painter_word : Reading → ℕ → Option ℕ → Effect → Effect
 painter_word rd w num next =
     cond (eqb w words.colour_number) (fitted field.colour (value_of num))
     (cond (eqb w words.font_number) (fitted field.font (value_of num))
@@ -75,7 +74,7 @@ painter_word rd w num next =
 
 -- the paragraph: "`pard` the paragraph"; "`sb sa slmul pardeftab uc` take the number or 0."; "`ql qr qc qj` align.": "alignment (0
 -- left, 1 right, 2 centre, 3 justified)"; and `uc`
-unfoldable pub paragraph_word : ℕ → Property → Effect → Effect
+unfoldable pub paragraph_word : ℕ → Option ℕ → Effect → Effect
 paragraph_word w num next =
     cond (eqb w words.pard) (sets (resets field.alignment paragraph_width))
     (cond (eqb w words.space_between_line) (spacing (value_of num))
@@ -114,7 +113,7 @@ indenting Plain f v = sets []
 indenting Paragraphs f v = setting f v
 indenting Standard f v = setting f v
 
-unfoldable pub indent_word : Reading → ℕ → Property → Effect → Effect
+unfoldable pub indent_word : Reading → ℕ → Option ℕ → Effect → Effect
 indent_word rd w num next =
     cond (eqb w words.left_indent) (indenting rd field.left (value_of num))
     (cond (eqb w words.right_indent) (indenting rd field.right (value_of num))
@@ -122,7 +121,7 @@ indent_word rd w num next =
     next))
 
 -- "Other words do nothing."
-unfoldable pub effect : Reading → ℕ → Property → Effect
+unfoldable pub effect : Reading → ℕ → Option ℕ → Effect
 effect rd w num = painter_word rd w num (paragraph_word w num (character_word w (ending_word rd w (indent_word rd w num (sets [])))))
 
 -- what the code's answer says

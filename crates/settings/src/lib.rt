@@ -11,13 +11,13 @@
 
 pub mod rows;
 
-ghost use Rattle.std.specs.Prelude.{◌≡◌, cond, ◌<◌};
+ghost use Rattle.std.specs.Prelude.{◌≡◌, ◌<◌};
 ghost use Rattle.settings.specs.Fields.{width, fresh_painter, fresh_paragraph, fresh_state, row_of};
 ghost use Rattle.settings.specs.Effects.{flag_by, flag_of, fitted, spacing, ending as ending_of, indenting, effect, meaning, Within};
 
 use answers::Why;
 use readings::Reading;
-use tokens::{Property, words};
+use tokens::words;
 
 pub const COLOUR: usize = 0;
 
@@ -215,28 +215,19 @@ fn flag_by(reading: Reading, v: u32) -> u32
     ensures { result ≡ flag_by reading v }
 {
     match reading {
-        Reading::Plain => bit(v == 1),
-        Reading::Paragraphs => bit(v == 1),
-        Reading::Standard => bit(v != 0),
+        Reading::Plain => u32::from(v == 1),
+        Reading::Paragraphs => u32::from(v == 1),
+        Reading::Standard => u32::from(v != 0),
     }
-}
-
-fn bit(b: bool) -> u32
-    ensures { result ≡ cond b 1 0 }
-{
-    if b {
-        return 1;
-    }
-    0
 }
 
 // No number is on.
-fn flag(reading: Reading, number: Property) -> u32
+fn flag(reading: Reading, number: Option<u32>) -> u32
     ensures { result ≡ flag_of reading number }
 {
     match number {
-        Property::None => 1,
-        Property::Value(v) => flag_by(reading, v),
+        None => 1,
+        Some(v) => flag_by(reading, v),
     }
 }
 
@@ -291,10 +282,10 @@ fn indent(reading: Reading, f: usize, v: u32) -> Act
 }
 
 // A word of the body but `u`.
-pub fn act_of(reading: Reading, w: u32, number: Property) -> Act
+pub fn act_of(reading: Reading, w: u32, number: Option<u32>) -> Act
     ensures { (meaning result ≡ effect reading w number) × Within result }
 {
-    let v = number.value();
+    let v = number.unwrap_or(0);
     match w {
         words::COLOUR_NUMBER => fit(COLOUR, v),
         words::FONT_NUMBER => fit(FONT, v),

@@ -79,10 +79,7 @@ pub fn reset_paragraph(states: &mut [[u32; WIDTH]; STATES], d: usize)
 fn bit(v: u32, n: u32) -> u32
     ensures { (result ≡ bit_of v n) × (result ≤ n) }
 {
-    if v == 1 {
-        return n;
-    }
-    0
+    if v == 1 { n } else { 0 }
 }
 
 // 1 bold, 2 italic, 4 underline, 8 super, 16 sub, 32 scaps, 64 strike.

@@ -17,27 +17,27 @@ use lib.Dec.{ltb}
 use lib.ListN.{length, get_or, set, take, drop, drop_of_length-le}
 use lib.Seq.{drop-cons}
 use borrow.Author.Tests.{lt-ltb, le-ltb, eq-eqb, ne_eqb}
-use Rattle.answers.specs.declared.Outcome.{Outcome}
-use Rattle.answers.specs.declared.Outcome.TheVariants.{Done}
 use Rattle.rooms.specs.Rooms.{Wrote, put}
 use Rattle.rooms.proofs.Rooms.{put_in, put-out, wrote_one, wrote-more, length-put}
 use Rattle.sevens.specs.declared.Numeral.{Numeral}
-use Rattle.sevens.specs.declared.Numeral.TheVariants.{Is, Bad, Short}
-use Rattle.sevens.specs.Sevens.{groups, written, high, sum_from, value_of, is_long, number_of, byte_layout, streamed}
+use Rattle.answers.specs.declared.Why.{Why}
+use Rattle.answers.specs.declared.Why.TheVariants.{StoredNumber, StoredShort}
+use Rattle.sevens.specs.Sevens.{numeral, groups, written, high, sum_from, value_of, is_long, number_of, byte_layout, streamed}
 use Rattle.sevens.proofs.Bits.{group-bits, mark-bits}
 use Rattle.sevens.proofs.Tests.{or_some}
 use Rattle.sevens.proofs.Sevens.{Whole, is_cut, not-cut, whole_is, fewer}
 use Rattle.sevens.proofs.Sevens.{groups-last, groups-more, high-low, high-high, value_low}
-use Rattle.rooms.specs.Streams.{by_refusal}
+use Rattle.std.specs.Prelude.{Result, Ok, Err}
+use Rattle.answers.specs.declared.Refusal.{Refusal}
 
 -- ---- reading
 
-pub no_number : (s : List ℕ) → length s ≡ 0 → Short ≡ number_of s
+pub no_number : (s : List ℕ) → length s ≡ 0 → Err StoredShort ≡ number_of s
 unfolding number_of high
 no_number [] h = refl
 no_number (b ∷ s) h = absurd (omega arith)
 
-pub low-number : (s : List ℕ) → (length s ≡ 0 → ⊥) → get_or s 0 0 < 128 → Is (get_or s 0 0) 1 ≡ number_of s
+pub low-number : (s : List ℕ) → (length s ≡ 0 → ⊥) → get_or s 0 0 < 128 → Ok (numeral (get_or s 0 0) 1) ≡ number_of s
 low-number [] f h = absurd (f refl)
 low-number (b ∷ s) f h =
     let v : value_of (b ∷ s) ≡ b = value_low b s h in
@@ -85,7 +85,7 @@ gathering-start (b ∷ s) group f h e =
     }
 
 module _ (s : List ℕ) (value shift i : ℕ) (g : Gathering s value shift i) where
-  pub gathering-short : i < 5 → length s ≤ i → Short ≡ number_of s
+  pub gathering-short : i < 5 → length s ≤ i → Err StoredShort ≡ number_of s
   unfolding number_of high
   gathering-short h l =
       let d : drop i s ≡ [] = drop_of_length-le s l in
@@ -93,7 +93,7 @@ module _ (s : List ℕ) (value shift i : ℕ) (g : Gathering s value shift i) wh
       let a : high s ≡ length s = omega arith in
       rw (lt-ltb (length s) 5 (omega arith), eq-eqb (high s) (length s) a)
 
-  pub gathering-six : 5 ≤ i → Bad ≡ number_of s
+  pub gathering-six : 5 ≤ i → Err StoredNumber ≡ number_of s
   unfolding number_of
   gathering-six h = rw (le-ltb (length s) 5 (omega arith), lt-ltb 4 (high s) (omega arith))
 
@@ -137,26 +137,26 @@ module _ (s : List ℕ) (value shift i : ℕ) (g : Gathering s value shift i) wh
           omega (arith, g.left, next-is)
 
       -- it ends within the list and five groups
-      ends : (is : Numeral) (t : Bool) → cond (is_cut s) Short (cond (ltb 4 (high s) || t) Bad is) ≡ cond t Bad is
+      ends : (is : Result Numeral Why) (t : Bool) → cond (is_cut s) (Err StoredShort) (cond (ltb 4 (high s) || t) (Err StoredNumber) is) ≡ cond t (Err StoredNumber) is
       ends is t = rw (not-cut s (omega (arith, last-high)), le-ltb 4 (high s) (omega (arith, last-high)))
 
-      pub gathering-long : get_or s i 0 ≡ 0 → Bad ≡ number_of s
+      pub gathering-long : get_or s i 0 ≡ 0 → Err StoredNumber ≡ number_of s
       unfolding number_of is_long
       gathering-long z =
           let q : next ≡ value = next-is ∙ rw z (omega arith) in
           let m : value_of s < 128 ^ high s = rw (last-value, last-high, q) g.small in
           sym
-          (ends (Is (value_of s) (suc (high s))) (is_long s || ltb 4294967295 (value_of s))
+          (ends (Ok (numeral (value_of s) (suc (high s)))) (is_long s || ltb 4294967295 (value_of s))
           ∙ rw (ne_eqb (high s) 0 (λ z. omega (arith, last-high, g.begun)), lt-ltb (value_of s) (128 ^ high s) m))
 
-      pub gathering-over : 4294967295 < next → Bad ≡ number_of s
+      pub gathering-over : 4294967295 < next → Err StoredNumber ≡ number_of s
       unfolding number_of
       gathering-over o =
           sym
-          (ends (Is (value_of s) (suc (high s))) (is_long s || ltb 4294967295 (value_of s))
+          (ends (Ok (numeral (value_of s) (suc (high s)))) (is_long s || ltb 4294967295 (value_of s))
           ∙ rw (lt-ltb 4294967295 (value_of s) (rw last-value o), or_some (is_long s)))
 
-      pub gathering-done : (get_or s i 0 ≡ 0 → ⊥) → next ≤ 4294967295 → Is next (i + 1) ≡ number_of s
+      pub gathering-done : (get_or s i 0 ≡ 0 → ⊥) → next ≤ 4294967295 → Ok (numeral next (i + 1)) ≡ number_of s
       gathering-done f o =
           let w : Whole s = record {
             within = omega (arith, last-high);
@@ -177,8 +177,8 @@ put-past room n b h = put-out 1 room n (b ∷ []) (omega arith)
 -- who writes g has then written v
 abbrev Follows : ℕ → ℕ → List ℕ → ℕ → List ℕ → List ℕ → Type 0
 Follows n v room₀ at room g =
-    (r : Outcome) (room' : List ℕ) → Wrote byte_layout by_refusal at room (streamed g) r room'
-    → Wrote byte_layout by_refusal n room₀ (streamed (written v)) r room'
+    (r : Result ℕ Refusal) (room' : List ℕ) → Wrote byte_layout at room (streamed g) r room'
+    → Wrote byte_layout n room₀ (streamed (written v)) r room'
 
 -- k groups with the high bit may be left
 pub record Putting (n v : ℕ) (room₀ : List ℕ) (at rest : ℕ) (room : List ℕ) : Type 0 where
@@ -193,10 +193,10 @@ putting-start n v room h = record { k = 4; place = refl; small = omega arith; sa
 
 module _ (n v : ℕ) (room₀ : List ℕ) (at rest : ℕ) (room : List ℕ) (p : Putting n v room₀ at rest room)
     (b : ℕ) (room' : List ℕ) (q : room' ≡ put 1 room at (b ∷ [])) where
-  pub putting-done : rest < 128 → b ≡ rest → Wrote byte_layout by_refusal n room₀ (streamed (written v)) (Done (at + 1)) room'
+  pub putting-done : rest < 128 → b ≡ rest → Wrote byte_layout n room₀ (streamed (written v)) (Ok (at + 1)) room'
   unfolding streamed
   putting-done h e =
-      p.left (Done (at + 1)) room'
+      p.left (Ok (at + 1)) room'
       (wrote_one byte_layout (ap streamed (groups-last p.k rest h ∙ ap (λ (x : ℕ). x ∷ []) (sym e))) q)
 
   pub putting-same : length room' ≡ length room₀

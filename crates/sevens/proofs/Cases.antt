@@ -1,58 +1,59 @@
 -- Telling lists: the number that each starts with, computed. Assumes nothing.
 use mathlib.Core.Path.{◌≡◌, refl}
 use mathlib.Core.List.{[], ◌∷◌}
-use Rattle.sevens.specs.declared.Numeral.TheVariants.{Is, Bad, Short}
-use Rattle.sevens.specs.Sevens.{groups, written, high, sum_from, value_of, is_long, number_of}
+use Rattle.std.specs.Prelude.{Ok, Err}
+use Rattle.answers.specs.declared.Why.TheVariants.{StoredNumber, StoredShort}
+use Rattle.sevens.specs.Sevens.{numeral, groups, written, high, sum_from, value_of, is_long, number_of}
 
 -- one byte; what follows is not looked at
-none : number_of [] ≡ Short
+none : number_of [] ≡ Err StoredShort
 unfolding high sum_from value_of is_long number_of
 none = refl
 
-zero_is : number_of (0 ∷ []) ≡ Is 0 1
+zero_is : number_of (0 ∷ []) ≡ Ok (numeral 0 1)
 unfolding high sum_from value_of is_long number_of
 zero_is = refl
 
-one-byte-end : number_of (127 ∷ (200 ∷ [])) ≡ Is 127 1
+one-byte-end : number_of (127 ∷ (200 ∷ [])) ≡ Ok (numeral 127 1)
 unfolding high sum_from value_of is_long number_of
 one-byte-end = refl
 
 -- two bytes; the second may not be zero
-two-bytes-start : number_of (128 ∷ (1 ∷ [])) ≡ Is 128 2
+two-bytes-start : number_of (128 ∷ (1 ∷ [])) ≡ Ok (numeral 128 2)
 unfolding high sum_from value_of is_long number_of
 two-bytes-start = refl
 
-not-shortest : number_of (128 ∷ (0 ∷ [])) ≡ Bad
+not-shortest : number_of (128 ∷ (0 ∷ [])) ≡ Err StoredNumber
 unfolding high sum_from value_of is_long number_of
 not-shortest = refl
 
-low_first : number_of (172 ∷ (2 ∷ [])) ≡ Is 300 2
+low_first : number_of (172 ∷ (2 ∷ [])) ≡ Ok (numeral 300 2)
 unfolding high sum_from value_of is_long number_of
 low_first = refl
 
 -- the list ends first
-cut_short : number_of (128 ∷ []) ≡ Short
+cut_short : number_of (128 ∷ []) ≡ Err StoredShort
 unfolding high sum_from value_of is_long number_of
 cut_short = refl
 
-four-cut-short : number_of (128 ∷ (128 ∷ (128 ∷ (128 ∷ [])))) ≡ Short
+four-cut-short : number_of (128 ∷ (128 ∷ (128 ∷ (128 ∷ [])))) ≡ Err StoredShort
 unfolding high sum_from value_of is_long number_of
 four-cut-short = refl
 
 -- five bytes: the largest number, one more, a last group of zero, a sixth group
-largest : number_of (255 ∷ (255 ∷ (255 ∷ (255 ∷ (15 ∷ []))))) ≡ Is 4294967295 5
+largest : number_of (255 ∷ (255 ∷ (255 ∷ (255 ∷ (15 ∷ []))))) ≡ Ok (numeral 4294967295 5)
 unfolding high sum_from value_of is_long number_of
 largest = refl
 
-too_large : number_of (255 ∷ (255 ∷ (255 ∷ (255 ∷ (16 ∷ []))))) ≡ Bad
+too_large : number_of (255 ∷ (255 ∷ (255 ∷ (255 ∷ (16 ∷ []))))) ≡ Err StoredNumber
 unfolding high sum_from value_of is_long number_of
 too_large = refl
 
-five-not-shortest : number_of (128 ∷ (128 ∷ (128 ∷ (128 ∷ (0 ∷ []))))) ≡ Bad
+five-not-shortest : number_of (128 ∷ (128 ∷ (128 ∷ (128 ∷ (0 ∷ []))))) ≡ Err StoredNumber
 unfolding high sum_from value_of is_long number_of
 five-not-shortest = refl
 
-sixth-group : number_of (128 ∷ (128 ∷ (128 ∷ (128 ∷ (128 ∷ []))))) ≡ Bad
+sixth-group : number_of (128 ∷ (128 ∷ (128 ∷ (128 ∷ (128 ∷ []))))) ≡ Err StoredNumber
 unfolding high sum_from value_of is_long number_of
 sixth-group = refl
 

@@ -19,8 +19,10 @@ use lib.ListN.{length, get_or, take, length-append}
 use lib.Seq.{take_at}
 use borrow.Author.Tests.{ltb-true, ltb-false, lt-ltb, le-ltb, ne_eqb, eqb-false}
 use Rattle.sevens.specs.declared.Numeral.{Numeral}
-use Rattle.sevens.specs.declared.Numeral.TheVariants.{Is, Bad, Short}
-use Rattle.sevens.specs.Sevens.{groups, written, high, sum_from, value_of, is_long, number_of}
+use Rattle.std.specs.Prelude.{Result, Ok, Err}
+use Rattle.answers.specs.declared.Why.{Why}
+use Rattle.answers.specs.declared.Why.TheVariants.{StoredNumber, StoredShort}
+use Rattle.sevens.specs.Sevens.{numeral, groups, written, high, sum_from, value_of, is_long, number_of}
 use Rattle.sevens.proofs.Tests.{and_none, and-false, or-false}
 
 -- ---- the groups of a number
@@ -139,16 +141,16 @@ is_bad s = ltb 4 (high s) || (is_long s || ltb 4294967295 (value_of s))
 pub not-cut : (s : List ℕ) → high s < length s → is_cut s ≡ false
 not-cut s h = rw (ne_eqb (high s) (length s) (λ e. omega arith)) (and_none (ltb (length s) 5))
 
-pub whole_is : (s : List ℕ) → Whole s → number_of s ≡ Is (value_of s) (suc (high s))
+pub whole_is : (s : List ℕ) → Whole s → number_of s ≡ Ok (numeral (value_of s) (suc (high s)))
 unfolding number_of is_long
 whole_is s w =
     rw (not-cut s w.within, le-ltb 4 (high s) w.few, le-ltb 4294967295 (value_of s) (omega arith))
     (go (eqb (high s) 0) refl)
   where
-    is : Numeral
-    is = Is (value_of s) (suc (high s))
+    is : Result Numeral Why
+    is = Ok (numeral (value_of s) (suc (high s)))
 
-    go : (t : Bool) → eqb (high s) 0 ≡ t → cond (not t && ltb (value_of s) (128 ^ high s) || false) Bad is ≡ is
+    go : (t : Bool) → eqb (high s) 0 ≡ t → cond (not t && ltb (value_of s) (128 ^ high s) || false) (Err StoredNumber) is ≡ is
     go true e = refl
     go false e = rw (le-ltb (value_of s) (128 ^ high s) (w.least (eqb-false (high s) 0 e)))
 
@@ -170,22 +172,23 @@ passed s p q =
       small = omega arith;
     }
 
-pub is_whole : (s : List ℕ) {n k : ℕ} → number_of s ≡ Is n k → Whole s × (n ≡ value_of s) × (k ≡ suc (high s))
+pub is_whole : (s : List ℕ) {x : Numeral} → number_of s ≡ Ok x → Whole s × (x.value ≡ value_of s) × (x.length ≡ suc (high s))
 unfolding number_of
-is_whole s {n} {k} e = go (is_cut s) (is_bad s) refl refl e
+is_whole s {x} e = go (is_cut s) (is_bad s) refl refl e
   where
-    go : (t u : Bool) → is_cut s ≡ t → is_bad s ≡ u → cond t Short (cond u Bad (Is (value_of s) (suc (high s)))) ≡ Is n k
-        → Whole s × (n ≡ value_of s) × (k ≡ suc (high s))
+    go : (t u : Bool) → is_cut s ≡ t → is_bad s ≡ u → cond t (Err StoredShort) (cond u (Err StoredNumber) (Ok (numeral (value_of s) (suc (high s))))) ≡ Ok x
+        → Whole s × (x.value ≡ value_of s) × (x.length ≡ suc (high s))
     go true u p q r = let z : ◌≡◌ {A = ℕ} 0 1 = cc in absurd (omega arith)
     go false true p q r = let z : ◌≡◌ {A = ℕ} 0 1 = cc in absurd (omega arith)
     go false false p q r = (passed s p q, (cc), (cc))
 
-pub number-within : (s : List ℕ) {n k : ℕ} → number_of s ≡ Is n k → (0 < k) × (k ≤ length s) × (k ≤ 5) × (n < 4294967296)
+pub number-within : (s : List ℕ) {x : Numeral} → number_of s ≡ Ok x
+    → (0 < x.length) × (x.length ≤ length s) × (x.length ≤ 5) × (x.value < 4294967296)
 number-within s e = let w = is_whole s e in (omega arith, omega arith, omega arith, omega arith)
 
 -- ---- round trips
 
-pub read-written : (n : ℕ) (s : List ℕ) → n < 4294967296 → number_of (written n ++ s) ≡ Is n (length (written n))
+pub read-written : (n : ℕ) (s : List ℕ) → n < 4294967296 → number_of (written n ++ s) ≡ Ok (numeral n (length (written n)))
 unfolding value_of
 read-written n s h =
     let l : List ℕ = written n ++ s in
@@ -261,8 +264,8 @@ groups-value (b ∷ s) k bytes h f least = go (ltb b 128) refl (λ w k' f' m. gr
         rw (v, x)
         (value-more b k (value_of s) (high s) (take (suc (high s)) s) l (bytes 0) (omega arith) m (rest (omega arith)))
 
-pub written_read : (s : List ℕ) {n k : ℕ} → ((i : ℕ) → get_or s i 0 < 256) → number_of s ≡ Is n k
-    → (take k s ≡ written n) × (n < 4294967296) × (k ≤ length s) × (0 < k)
+pub written_read : (s : List ℕ) {x : Numeral} → ((i : ℕ) → get_or s i 0 < 256) → number_of s ≡ Ok x
+    → (take x.length s ≡ written x.value) × (x.value < 4294967296) × (x.length ≤ length s) × (0 < x.length)
 written_read s bytes e =
     let w = is_whole s e in
     let z = number-within s e in

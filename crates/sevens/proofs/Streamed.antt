@@ -8,23 +8,23 @@ use mathlib.Core.List.{List, [], ◌∷◌, ◌++◌}
 use Prim.Native.Nat.{ℕ, suc, ◌+◌}
 use native.Mathlib.Omega.{arith}
 use lib.ListN.{length}
-use Rattle.answers.specs.declared.Outcome.TheVariants.{Done}
-use Rattle.rooms.specs.Streams.{Stream, ◌▸◌, and_then, count, answer, by_refusal, ended}
+use Rattle.rooms.specs.Streams.{Stream, ◌▸◌, and_then, count, answer, ended}
 use Rattle.rooms.specs.Rooms.{Wrote, encode}
 use Rattle.rooms.proofs.Streams.{answer-count}
 use Rattle.sevens.specs.Sevens.{byte_layout, streamed}
 use Rattle.answers.specs.declared.Refusal.{Refusal}
+use Rattle.std.specs.Prelude.{Ok}
 
 pub count-streamed : (s : List ℕ) → count (streamed s) ≡ length s
 unfolding streamed count
 count-streamed [] = refl
 count-streamed (b ∷ s) = ap suc (count-streamed s)
 
-pub answer-streamed : (s : List ℕ) (n : ℕ) → answer n (streamed s) ≡ Done (n + length s)
+pub answer-streamed : (s : List ℕ) (n : ℕ) → answer n (streamed s) ≡ Ok (n + length s)
 unfolding streamed ended
-answer-streamed [] n = ap Done (let e : n ≡ n + 0 = omega arith in e)
+answer-streamed [] n = ap Ok (let e : n ≡ n + 0 = omega arith in e)
 answer-streamed (b ∷ s) n =
-    answer-streamed s (n + 1) ∙ ap Done (let e : n + 1 + length s ≡ n + suc (length s) = omega arith in e)
+    answer-streamed s (n + 1) ∙ ap Ok (let e : n + 1 + length s ≡ n + suc (length s) = omega arith in e)
 
 pub encode-streamed : (s : List ℕ) → encode byte_layout (streamed s) ≡ s
 unfolding streamed encode
@@ -36,6 +36,6 @@ unfolding streamed and_then
 streamed-append [] b = refl
 streamed-append (x ∷ a) b = ap (λ (s : Stream Refusal ℕ). x ▸ s) (streamed-append a b)
 
-pub place_after : (s : List ℕ) {n r : ℕ} {room room' : List ℕ} → Wrote byte_layout by_refusal n room (streamed s) (Done r) room'
+pub place_after : (s : List ℕ) {n r : ℕ} {room room' : List ℕ} → Wrote byte_layout n room (streamed s) (Ok r) room'
     → r ≡ n + length s
 place_after s {n} {r} w = omega (arith, answer-count (streamed s) n r (sym w.says), count-streamed s)

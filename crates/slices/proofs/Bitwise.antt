@@ -18,8 +18,9 @@ use borrow.Author.Tests.{ltb-true, eqb-true}
 use Rattle.classes.proofs.Runs.{and_left, and_right}
 use Rattle.classes.specs.Bytes.{is_special}
 use Rattle.slices.specs.Slices.{is_start}
-use Rattle.slices.specs.Eights.{packed, marked, mark_of}
-use Rattle.slices.proofs.Packed.{Bytes, at-eight, packed-both, packed-sum}
+use Rattle.classes.specs.Eights.{packed, marked, mark_of}
+use Rattle.classes.proofs.Marks.{at-eight}
+use Rattle.slices.proofs.Packed.{Bytes, packed-both, packed-sum}
 
 -- a test holds of all numbers below n
 unfoldable below : (ℕ → Bool) → ℕ → Bool

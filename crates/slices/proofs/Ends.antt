@@ -12,8 +12,9 @@ use Rattle.slices.specs.Slices.{starts_slice, up_to, slice_length}
 use Rattle.classes.specs.Bytes.{is_special, any, lead}
 use Rattle.classes.proofs.Runs.{or_left, or_right}
 use borrow.Author.Tests.{ne_eqb}
-use Rattle.slices.specs.Eights.{packed, marked, outside}
-use Rattle.slices.proofs.Marking.{unmarked, some-marked, lead-outside, lead-marked}
+use Rattle.classes.specs.Eights.{packed, marked, outside}
+use Rattle.std.specs.Array.{IsFirstChunk}
+use Rattle.classes.proofs.Marks.{chunk-is, chunk-within, unmarked, some-marked, lead-outside, lead-marked}
 use Rattle.slices.proofs.Slices.{last_byte, last_byte-at}
 
 -- fewer than two bytes are one slice, or none
@@ -95,30 +96,40 @@ module _ (s : List ℕ) (total : ℕ) where
     pub within : i < length s
     pub special : is_special (get_or s i 0) ≡ true
 
-  module _ {i : ℕ} (a : At i) (l : i + 8 ≤ length s) where
-    eight : length (take (i + 8 - i) (drop i s)) ≡ 8
-    eight = simp (length-take, length-drop) (omega arith)
+  -- eight bytes, as the code takes them
+  module _ {i : ℕ} (a : At i) (b : List ℕ) (x : IsFirstChunk (take (length s - i) (drop i s)) b 8) where
+    l : i + 8 ≤ length s
+    l = chunk-within s i 8 b x a.within
+
+    eight : length (take 8 (drop i s)) ≡ 8
+    eight = simp (length-take, length-drop) (omega (arith, l))
 
     -- eight bytes without a mark
-    pub passed : (m : ℕ) → m ≡ packed (marked is_special (take (i + 8 - i) (drop i s))) → m ≡ 0 → At (i + 8)
-    passed m q z = at-pass a (omega arith) l (unmarked is_special (take (i + 8 - i) (drop i s)) (sym q ∙ z))
+    pub passed : (m : ℕ) → m ≡ packed (marked is_special b) → m ≡ 0 → At (i + 8)
+    passed m p z =
+        let q : m ≡ packed (marked is_special (take 8 (drop i s))) = rw (chunk-is s i 8 b x) at p in
+        let w : i + 8 - i ≡ 8 = omega arith in
+        at-pass a (omega arith) l (rw w (unmarked is_special (take 8 (drop i s)) (sym q ∙ z)))
 
     -- eight bytes with a mark
-    module _ (m k : ℕ) (q : m ≡ packed (marked is_special (take (i + 8 - i) (drop i s)))) (n : m ≡ 0 → ⊥) (f : (p : ℕ → Bool) (t : List ℕ) → length t ≡ 8 → m ≡ packed (marked p t) → k ≡ lead (outside p) t) where
-      first : k ≡ lead (outside is_special) (take (i + 8 - i) (drop i s))
-      first = f is_special (take (i + 8 - i) (drop i s)) eight q
+    module _ (m k : ℕ) (p : m ≡ packed (marked is_special b)) (n : m ≡ 0 → ⊥) (f : (p : ℕ → Bool) (t : List ℕ) → length t ≡ 8 → m ≡ packed (marked p t) → k ≡ lead (outside p) t) where
+      q : m ≡ packed (marked is_special (take 8 (drop i s)))
+      q = rw (chunk-is s i 8 b x) at p
+
+      first : k ≡ lead (outside is_special) (take 8 (drop i s))
+      first = f is_special (take 8 (drop i s)) eight q
 
       few : k < 8
-      few = let h = some-marked is_special (take (i + 8 - i) (drop i s)) (λ z. n (q ∙ z)) in omega (arith, h, eight, first)
+      few = let h = some-marked is_special (take 8 (drop i s)) (λ z. n (q ∙ z)) in omega (arith, h, eight, first)
 
       pub found : Found (i + k)
       found =
           let z : i + k - i ≡ k = omega arith in
-          let t : take k (take (i + 8 - i) (drop i s)) ≡ take k (drop i s) = take-take k (i + 8 - i) (drop i s) (omega (arith, few)) in
-          let p : any is_special (take k (take (i + 8 - i) (drop i s))) ≡ false = rw (← first) at (lead-outside is_special (take (i + 8 - i) (drop i s))) in
-          let u : is_special (get_or (take (i + 8 - i) (drop i s)) k 0) ≡ true = rw (← first) at (lead-marked is_special (take (i + 8 - i) (drop i s)) (omega (arith, first, few, eight))) in
-          let g : get_or (take (i + 8 - i) (drop i s)) k 0 ≡ get_or s (i + k) 0 = get_or-take (i + 8 - i) (drop i s) k 0 (omega (arith, few)) ∙ get_or-drop i s k 0 in
-          record { at = at-pass a (omega arith) (omega (arith, few)) (rw (z, ← t) p); within = omega (arith, few); special = rw (← g) u }
+          let t : take k (take 8 (drop i s)) ≡ take k (drop i s) = take-take k 8 (drop i s) (omega (arith, few)) in
+          let p : any is_special (take k (take 8 (drop i s))) ≡ false = rw (← first) at (lead-outside is_special (take 8 (drop i s))) in
+          let u : is_special (get_or (take 8 (drop i s)) k 0) ≡ true = rw (← first) at (lead-marked is_special (take 8 (drop i s)) (omega (arith, first, few, eight))) in
+          let g : get_or (take 8 (drop i s)) k 0 ≡ get_or s (i + k) 0 = get_or-take 8 (drop i s) k 0 (omega (arith, few)) ∙ get_or-drop i s k 0 in
+          record { at = at-pass a (omega arith) (omega (arith, few, l)) (rw (z, ← t) p); within = omega (arith, few, l); special = rw (← g) u }
 
   -- it starts the next slice, unless a backslash stands before it
   pub found-ends : {i : ℕ} → Found i → (get_or s (i - 1) 0 ≡ 92 → ⊥) → i ≡ total

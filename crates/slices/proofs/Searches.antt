@@ -14,8 +14,9 @@ use native.Mathlib.Omega.{arith}
 use lib.ListN.{length, get_or, take, drop, length-take, length-drop, drop_of_length-le}
 use lib.Seq.{drop-cons, drop-drop}
 use Rattle.classes.specs.Bytes.{lead}
-use Rattle.slices.specs.Eights.{packed, marked, outside}
-use Rattle.slices.proofs.Marking.{unmarked, some-marked, lead-all}
+use Rattle.classes.specs.Eights.{packed, marked, outside}
+use Rattle.std.specs.Array.{IsFirstChunk}
+use Rattle.classes.proofs.Marks.{chunk-is, chunk-within, unmarked, some-marked, lead-all}
 
 -- all of the first k bytes pass, or not all
 lead-on : (g : ℕ → Bool) (k : ℕ) (s : List ℕ) → k ≤ length s → lead g (take k s) ≡ k → lead g s ≡ k + lead g (drop k s)
@@ -67,29 +68,31 @@ module _ (f : ℕ → Bool) (s : List ℕ) (total : ℕ) where
         let l : lead (outside f) (drop i s) ≡ 0 = rw (drop_of_length-le s h) in
         omega (arith, g.ends)
 
-    module _ (h : i + 8 ≤ length s) (m : ℕ) (q : m ≡ packed (marked f (take (i + 8 - i) (drop i s)))) where
-      width : i + 8 - i ≡ 8
-      width = omega arith
+    -- eight bytes, as the code takes them
+    module _ (b : List ℕ) (x : IsFirstChunk (take (length s - i) (drop i s)) b 8) (m : ℕ) (p : m ≡ packed (marked f b)) where
+      h : i + 8 ≤ length s
+      h = chunk-within s i 8 b x g.within
 
-      eight : length (take (i + 8 - i) (drop i s)) ≡ 8
-      eight = simp (length-take, length-drop) (omega arith)
+      q : m ≡ packed (marked f (take 8 (drop i s)))
+      q = rw (chunk-is s i 8 b x) at p
+
+      eight : length (take 8 (drop i s)) ≡ 8
+      eight = simp (length-take, length-drop) (omega (arith, h))
 
       pub goes-eight : m ≡ 0 → Goes (i + 8)
       goes-eight z =
-          let a : lead (outside f) (take (i + 8 - i) (drop i s)) ≡ length (take (i + 8 - i) (drop i s)) = lead-all f (take (i + 8 - i) (drop i s)) (unmarked f (take (i + 8 - i) (drop i s)) (sym q ∙ z)) in
-          let e : lead (outside f) (drop i s) ≡ (i + 8 - i) + lead (outside f) (drop (i + 8 - i) (drop i s)) = lead-on (outside f) (i + 8 - i) (drop i s) (simp length-drop (omega arith)) (omega (arith, a, eight)) in
-          let w : i + (i + 8 - i) ≡ i + 8 = omega arith in
-          let d : drop (i + 8 - i) (drop i s) ≡ drop (i + 8) s = drop-drop (i + 8 - i) i s ∙ ap (λ (n : ℕ). drop n s) w in
-          record { within = h; ends = rw (← d) (omega (arith, g.ends, e)) }
+          let a : lead (outside f) (take 8 (drop i s)) ≡ length (take 8 (drop i s)) = lead-all f (take 8 (drop i s)) (unmarked f (take 8 (drop i s)) (sym q ∙ z)) in
+          let e : lead (outside f) (drop i s) ≡ 8 + lead (outside f) (drop 8 (drop i s)) = lead-on (outside f) 8 (drop i s) (simp length-drop (omega (arith, h))) (omega (arith, a, eight)) in
+          record { within = h; ends = rw (← drop-drop 8 i s) (omega (arith, g.ends, e)) }
 
       module _ (k : ℕ) (n : m ≡ 0 → ⊥) (t : (p : ℕ → Bool) (l : List ℕ) → length l ≡ 8 → m ≡ packed (marked p l) → k ≡ lead (outside p) l) where
-        first : k ≡ lead (outside f) (take (i + 8 - i) (drop i s))
-        first = t f (take (i + 8 - i) (drop i s)) eight q
+        first : k ≡ lead (outside f) (take 8 (drop i s))
+        first = t f (take 8 (drop i s)) eight q
 
         pub goes-few : k < 8
-        goes-few = let l = some-marked f (take (i + 8 - i) (drop i s)) (λ z. n (q ∙ z)) in omega (arith, l, eight, first)
+        goes-few = let l = some-marked f (take 8 (drop i s)) (λ z. n (q ∙ z)) in omega (arith, l, eight, first)
 
         pub goes-found : i + k ≡ total
         goes-found =
-            let e : lead (outside f) (drop i s) ≡ lead (outside f) (take (i + 8 - i) (drop i s)) = lead-stops (outside f) (i + 8 - i) (drop i s) (omega (arith, first, goes-few)) (simp length-drop (omega arith)) in
+            let e : lead (outside f) (drop i s) ≡ lead (outside f) (take 8 (drop i s)) = lead-stops (outside f) 8 (drop i s) (omega (arith, first, goes-few)) (simp length-drop (omega (arith, h))) in
             omega (arith, e, first, g.ends)

@@ -18,7 +18,7 @@ use lib.Dec.{eqb}
 use lib.ListN.{length, get_or, take, drop}
 use Rattle.classes.specs.Bytes.{is_special, lead}
 use Rattle.classes.proofs.Runs.{and_left, and_right, or_left}
-use Rattle.slices.specs.Eights.{outside}
+use Rattle.classes.specs.Eights.{outside}
 use Rattle.slices.specs.Slices.{Behind, anything, escape, return, is_start, starts_standard, behind, split_standard, standard_slices, up_to_standard, standard_length, is_return, starts_with_feed}
 use Rattle.slices.proofs.Cuttings.{Cutting, joined}
 use Rattle.slices.proofs.Cuttings as cuttings

@@ -1,30 +1,14 @@
 // Eight bytes looked at as one number, so that the next byte that can start a slice is found without a look at each.
 //
-//   word_of     bytes as one number, the first one lowest
-//   marks       a number's bytes that are special: 128 in their place, else 0
+//   marks       a number's bytes that are special: 128 in their place, else 0; the first byte is the lowest
 //   starts      the same of those that start a slice in standard reading
-//   marks_of, starts_of   each with the number made
-//   first_mark  how many bytes stand before the first that is marked
+//   marks_of, starts_of   each of eight bytes
 //
 // What a byte is, is said in `classes`; here it is only found faster.
-ghost use Rattle.std.specs.Prelude.{◌≡◌, Bool, List, ℕ, ◌≤◌, ◌<◌, length, get_or};
-ghost use Rattle.classes.specs.Bytes.{is_special, lead};
+ghost use Rattle.std.specs.Prelude.{◌≡◌, Bool, List, ℕ, ◌<◌, length, get_or};
+ghost use Rattle.classes.specs.Bytes.{is_special};
 ghost use Rattle.slices.specs.Slices.{is_start};
-ghost use Rattle.slices.specs.Eights.{packed, marked, outside};
-
-// The bytes as one number. The compiler makes one load of it.
-fn word_of(s: &[u8]) -> u64
-    requires { length s.now ≤ 8 }
-    ensures { result ≡ packed s.now }
-{
-    let mut w: u64 = 0;
-    let mut i = s.len();
-    while 0 < i {
-        i -= 1;
-        w = w * 256 + (s[i] as u64);
-    }
-    w
-}
+ghost use Rattle.classes.specs.Eights.{packed, marked};
 
 // 128 in the place of each special byte. The steps are those of one byte, done in eight: no sum touches the next byte, and 128 is
 // reached by the special ones alone. Of the braces, which are two apart, both give 0x7D under the mask, the most that there is. A
@@ -49,27 +33,16 @@ fn starts(y: u64) -> u64
     marks(y) | (returns & (y ^ 0xFFFFFFFFFFFFFFFF) & 0x8080808080808080)
 }
 
-// 128 in the place of each special byte of eight.
-pub fn marks_of(s: &[u8]) -> u64
-    requires { length s.now ≡ 8 }
-    ensures { result ≡ packed (marked is_special s.now) }
+// 128 in the place of each special byte of eight. The compiler makes one load of them.
+pub fn marks_of(eight: &[u8; 8]) -> u64
+    ensures { result ≡ packed (marked is_special eight.now) }
 {
-    let w = word_of(s);
-    marks(w)
+    marks(u64::from_le_bytes(*eight))
 }
 
-// 128 in the place of each byte of eight that starts a slice in standard reading.
-pub fn starts_of(s: &[u8]) -> u64
-    requires { length s.now ≡ 8 }
-    ensures { result ≡ packed (marked is_start s.now) }
+// 128 in the place of each byte of eight that starts a slice in standard reading. What differs is the callee alone.
+pub fn starts_of(eight: &[u8; 8]) -> u64
+    ensures { result ≡ packed (marked is_start eight.now) }
 {
-    let w = word_of(s);
-    starts(w)
-}
-
-// How many of eight bytes stand before the first that is marked.
-pub fn first_mark(m: u64) -> usize
-    ensures { (f : ℕ → Bool) (s : List ℕ) → length s ≡ 8 → m ≡ packed (marked f s) → result ≡ lead (outside f) s }
-{
-    (u64::trailing_zeros(m) / 8) as usize
+    starts(u64::from_le_bytes(*eight))
 }

@@ -10,10 +10,11 @@ mod eights;
 ghost use Rattle.std.specs.Prelude.{◌≡◌, ◌&&◌, ◌+◌, ◌-◌, ◌≤◌, ◌<◌, length, get_or, take, drop};
 ghost use Rattle.readings.specs.declared.Reading.TheVariants.{Paragraphs};
 ghost use Rattle.classes.specs.Bytes.{lead};
-ghost use Rattle.slices.specs.Eights.{outside};
+ghost use Rattle.classes.specs.Eights.{outside};
 ghost use Rattle.slices.specs.Slices.{starts_slice, up_to, slice_length, is_return, starts_with_feed, is_start, standard_length, length_by};
 
-use crate::eights::{first_mark, marks_of, starts_of};
+use crate::eights::{marks_of, starts_of};
+use classes::eights::first_mark;
 use readings::Reading;
 
 // Whether b starts a new slice behind the byte `before`.
@@ -28,14 +29,12 @@ fn end_from(s: &[u8], from: usize) -> usize
     requires { (0 < from) × (from ≤ length s.now) }
     ensures { result ≡ from + up_to (get_or s.now (from - 1) 0) (drop from s.now) }
 {
-    let mut i = from;
-    while i < s.len() {
+    for i in from..s.len() {
         if starts_slice(s[i - 1], s[i]) {
             return i;
         }
-        i += 1;
     }
-    i
+    s.len()
 }
 
 // The length of the first slice of s; 0 if s is empty. A slice of one byte is seen by itself; then eight bytes are looked at as
@@ -53,13 +52,13 @@ pub fn slice_end(s: &[u8]) -> usize
         return 1;
     }
     let mut i: usize = 2;
-    while 8 <= s.len() - i {
-        let next = i + 8;
-        let marks = marks_of(&s[i..next]);
+    // A `while`: what it finds tells how far it goes on.
+    while let Some(eight) = s[i..].first_chunk() {
+        let marks = marks_of(eight);
         if marks == 0 {
-            i = next;
+            i += 8;
         } else {
-            i = i + first_mark(marks);
+            i += first_mark(marks);
             if s[i - 1] != b'\\' {
                 return i;
             }
@@ -121,15 +120,8 @@ fn start_from(s: &[u8], from: usize) -> usize
     requires { from ≤ length s.now }
     ensures { result ≡ from + lead (outside is_start) (drop from s.now) }
 {
-    let mut i = from;
-    while i < s.len() {
-        let b = s[i];
-        if is_start(b) {
-            return i;
-        }
-        i += 1;
-    }
-    i
+    let passed = s[from..].iter().take_while(|b| !is_start(**b)).count();
+    from + passed
 }
 
 // The length of the first slice in standard reading; 0 if s is empty. Eight bytes are looked at as one number: the first that
@@ -140,13 +132,12 @@ fn standard_end(s: &[u8]) -> usize
     ensures some { 0 < length s.now → 0 < result }
 {
     let mut i = standard_from(s);
-    while 8 <= s.len() - i {
-        let next = i + 8;
-        let marks = starts_of(&s[i..next]);
+    while let Some(eight) = s[i..].first_chunk() {
+        let marks = starts_of(eight);
         if marks != 0 {
             return i + first_mark(marks);
         }
-        i = next;
+        i += 8;
     }
     start_from(s, i)
 }

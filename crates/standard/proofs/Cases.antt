@@ -10,11 +10,11 @@ use Rattle.classes.specs.Texts.{bytes_of}
 use Rattle.names.specs.Names.{same_bytes, place_in, word_number}
 use Rattle.numbers.specs.Numbers.{hex_digit, hex_pair, digits_from, digits, decimal}
 use Rattle.rooms.specs.Streams.{Stream, end, stop, ◌▸◌, and_then}
-use Rattle.tokens.specs.declared.Property.TheVariants.{None, Value}
 use Rattle.tokens.specs.Tokens.{Shown}
 use Rattle.tokens.specs.WordNumbers as words
 use Rattle.controls.specs.Controls.{shown_word, numbered}
 use Rattle.standard.specs.Standard.{leads, tail, number_length, named, word, hex_value, hex_escape, break_length, line_break_and, escaped, tokens}
+use Rattle.std.specs.Prelude.{Some, None}
 
 abbrev text : ℕ → String → Shown
 text p s = Shown.text p (bytes_of s)
@@ -27,25 +27,25 @@ record Case : Type 0 where
 abbrev cases : List Case
 cases =
     -- one space belongs to a word; a number ends it
-    record { slice = "\\b2 a"; gives = Shown.word words.bold (Value 2) ▸ text 11 "a" ▸ end }
+    record { slice = "\\b2 a"; gives = Shown.word words.bold (Some 2) ▸ text 11 "a" ▸ end }
     -- a minus sign without a digit is text, and so is a plus sign
     ∷ record { slice = "\\b-"; gives = Shown.word words.bold None ▸ text 9 "-" ▸ end }
-    ∷ record { slice = "\\b-1"; gives = Shown.word words.bold (Value 4294967295) ▸ end }
+    ∷ record { slice = "\\b-1"; gives = Shown.word words.bold (Some 4294967295) ▸ end }
     ∷ record { slice = "\\b+1"; gives = Shown.word words.bold None ▸ text 9 "+1" ▸ end }
     -- capitals belong to a word, and to its name
     ∷ record { slice = "\\B"; gives = Shown.unknown 7 (bytes_of "\\B") None ▸ end }
-    ∷ record { slice = "\\bB1 "; gives = Shown.unknown 7 (bytes_of "\\bB") (Value 1) ▸ end }
+    ∷ record { slice = "\\bB1 "; gives = Shown.unknown 7 (bytes_of "\\bB") (Some 1) ▸ end }
     -- no other white space vanishes, and one space alone
     ∷ record { slice = "\\b\t"; gives = Shown.word words.bold None ▸ text 9 "\t" ▸ end }
     ∷ record { slice = "\\b  "; gives = Shown.word words.bold None ▸ text 10 " " ▸ end }
     -- no semicolon is dropped
     ∷ record { slice = "\\b;"; gives = Shown.word words.bold None ▸ text 9 ";" ▸ end }
     -- the character behind a `u` word, which plain reading takes for a part of it
-    ∷ record { slice = "\\u8217?"; gives = Shown.word words.unicode (Value 8217) ▸ text 13 "?" ▸ end }
+    ∷ record { slice = "\\u8217?"; gives = Shown.word words.unicode (Some 8217) ▸ text 13 "?" ▸ end }
     -- a symbol and a hex escape take no space
     ∷ record { slice = "\\~b"; gives = Shown.symbol 126 None ▸ text 9 "b" ▸ end }
     ∷ record { slice = "\\~ b"; gives = Shown.symbol 126 None ▸ text 9 " b" ▸ end }
-    ∷ record { slice = "\\'80 x"; gives = Shown.symbol 39 (Value 128) ▸ text 11 " x" ▸ end }
+    ∷ record { slice = "\\'80 x"; gives = Shown.symbol 39 (Some 128) ▸ text 11 " x" ▸ end }
     -- 3, 4 and 5 of the answer numbers
     ∷ record { slice = "\\'8"; gives = stop HexShort }
     ∷ record { slice = "\\'zz"; gives = stop HexBad }

@@ -15,16 +15,13 @@ use Rattle.answers.specs.declared.Why.{Why}
 use Rattle.classes.specs.declared.Class.TheVariants.{Alpha}
 use Rattle.classes.specs.Bytes.{is_white, is_alpha, in_class, lead}
 use Rattle.names.specs.Names.{word_number}
-use Rattle.numbers.specs.declared.Number.{Number}
-use Rattle.numbers.specs.declared.Number.TheVariants.{Is, Bad}
 use Rattle.numbers.specs.Numbers.{hex_pair, decimal}
 use Rattle.rooms.specs.Streams.{Stream, end, stop, ◌▸◌, and_then, each}
-use Rattle.tokens.specs.declared.Property.{Property}
-use Rattle.tokens.specs.declared.Property.TheVariants.{None, Value}
 use Rattle.tokens.specs.Tokens.{Shown}
 use Rattle.controls.specs.Controls.{shown_word, numbered}
 use Rattle.standard.specs.Closing.{is_closing, closed, is_bracket}
 use Rattle.standard.specs.Standard.{leads, tail, is_escape, number_length, named, word, hex_value, hex_escape, break_length, line_break_and, escaped, tokens}
+use Rattle.std.specs.Prelude.{Option, Some, None}
 
 -- ends without a refusal
 unfoldable pub whole : {E A : Type 0} → Stream E A → Bool
@@ -52,7 +49,7 @@ open-tail p [] h = refl
 open-tail p (b ∷ s) h = refl
 
 -- a word, and what stands behind it
-shown-open : (p : ℕ) (name : List ℕ) (num : Property) → is_closing (shown_word p name num) ≡ false
+shown-open : (p : ℕ) (name : List ℕ) (num : Option ℕ) → is_closing (shown_word p name num) ≡ false
 unfolding shown_word
 shown-open p name num = go (ltb (word_number name) 49)
   where
@@ -60,10 +57,10 @@ shown-open p name num = go (ltb (word_number name) 49)
     go true = refl
     go false = refl
 
-numbered-open : (t : Bool) (p : ℕ) (name : List ℕ) (v : Number) (b : Stream Why Shown) → Open false b → Open t (and_then (numbered p name v) b)
+numbered-open : (t : Bool) (p : ℕ) (name : List ℕ) (v : Option ℕ) (b : Stream Why Shown) → Open false b → Open t (and_then (numbered p name v) b)
 unfolding numbered and_then closed whole
-numbered-open t p name (Is v) b h w = ap (λ (u : Bool). closed u b) (shown-open p name (Value v)) ∙ h w
-numbered-open t p name Bad b h w = absurd (false≢true w)
+numbered-open t p name (Some v) b h w = ap (λ (u : Bool). closed u b) (shown-open p name (Some v)) ∙ h w
+numbered-open t p name None b h w = absurd (false≢true w)
 
 named-open : (t : Bool) (p : ℕ) (name s : List ℕ) (b : Stream Why Shown) → Open false b → Open t (and_then (named p name s) b)
 unfolding named and_then closed whole
@@ -84,9 +81,9 @@ hex-open t p [] w = absurd (false≢true w)
 hex-open t p (a ∷ []) w = absurd (false≢true w)
 hex-open t p (a ∷ b ∷ s) w = go (hex_pair a b) w
   where
-    go : (v : Number) → whole (hex_value v (tail (p + 4) s)) ≡ true → closed t (hex_value v (tail (p + 4) s)) ≡ false
-    go (Is v) w = open-tail (p + 4) s w
-    go Bad w = absurd (false≢true w)
+    go : (v : Option ℕ) → whole (hex_value v (tail (p + 4) s)) ≡ true → closed t (hex_value v (tail (p + 4) s)) ≡ false
+    go (Some v) w = open-tail (p + 4) s w
+    go None w = absurd (false≢true w)
 
 escaped-open : (t : Bool) (p : ℕ) (s : List ℕ) → Open t (escaped p s)
 unfolding escaped line_break_and closed whole

@@ -11,17 +11,15 @@ use lib.ListN.{length, take, drop, length-take, length-drop, take-append-drop}
 use lib.Dec.{eqb}
 use Rattle.classes.specs.declared.Class.TheVariants.{Alpha}
 use Rattle.classes.specs.Bytes.{is_alpha, in_class, lead}
-use Rattle.numbers.specs.declared.Number.{Number}
-use Rattle.numbers.specs.declared.Number.TheVariants.{Is, Bad}
 use Rattle.numbers.specs.Numbers.{hex_pair, decimal}
 use Rattle.numbers.proofs.Numbers.{hex-pair-small, decimal-small}
 use Rattle.answers.specs.declared.Why.{Why}
 use Rattle.rooms.specs.Streams.{Stream}
 use Rattle.rooms.proofs.Streams.{Each, Each-then, Each-either}
 use Rattle.tokens.specs.Tokens.{Shown}
-use Rattle.tokens.specs.declared.Property.TheVariants.{None}
 use Rattle.controls.proofs.Places.{Stands, at_back, shown-stands, numbered-stands}
 use Rattle.standard.specs.Standard.{leads, tail, is_escape, number_length, named, word, hex_value, hex_escape, break_length, line_break_and, escaped, tokens}
+use Rattle.std.specs.Prelude.{Option, Some, None}
 
 -- the rules below at place p of the source, each with what stands in the slice in front of its bytes
 module _ (p : ℕ) where
@@ -50,9 +48,9 @@ module _ (p : ℕ) where
   hex-stands b (c ∷ []) = tt
   hex-stands b (c ∷ d ∷ s) = go (hex_pair c d) refl
     where
-      go : (n : Number) → hex_pair c d ≡ n → Each (Stands (92 ∷ b ∷ c ∷ d ∷ s) p) (hex_value n (tail (p + 4) s))
-      go (Is v) e = (hex-pair-small c d v e, tail-stands (92 ∷ b ∷ c ∷ d ∷ []) s (p + 4) (λ h. omega arith))
-      go Bad e = tt
+      go : (n : Option ℕ) → hex_pair c d ≡ n → Each (Stands (92 ∷ b ∷ c ∷ d ∷ s) p) (hex_value n (tail (p + 4) s))
+      go (Some v) e = (hex-pair-small c d v e, tail-stands (92 ∷ b ∷ c ∷ d ∷ []) s (p + 4) (λ h. omega arith))
+      go None e = tt
 
   -- behind a backslash and another byte
   behind-stands : (b : ℕ) (s : List ℕ) → Each (Stands (92 ∷ b ∷ s) p) (tail (p + 2) s)

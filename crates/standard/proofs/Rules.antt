@@ -14,16 +14,14 @@ use Rattle.answers.specs.declared.Why.TheVariants.{HexShort, HexBad}
 use Rattle.classes.specs.declared.Class.TheVariants.{Alpha, Digit}
 use Rattle.classes.specs.Bytes.{is_alpha, in_class, lead}
 use Rattle.classes.proofs.Runs.{or_left, or_right}
-use Rattle.numbers.specs.declared.Number.{Number}
-use Rattle.numbers.specs.declared.Number.TheVariants.{Is, Bad}
 use Rattle.numbers.specs.Numbers.{hex_pair, decimal}
 use Rattle.rooms.specs.Streams.{Stream, end, stop, ◌▸◌, and_then}
-use Rattle.tokens.specs.declared.Property.TheVariants.{None, Value}
 use Rattle.tokens.specs.declared.Record.{Record}
 use Rattle.tokens.specs.Tokens.{Shown, bare_record, symbol_record, record_of}
 use Rattle.tokens.proofs.Records.{symbol-record, ignorable-record, opening-record, closing-record}
 use Rattle.controls.specs.Controls.{shown_word, numbered}
 use Rattle.standard.specs.Standard.{leads, tail, is_escape, number_from, number_length, named, word, hex_value, hex_escape, break_length, line_break_and, symbol_of, bracket_of, escaped, tokens}
+use Rattle.std.specs.Prelude.{Option, Some, None}
 
 -- the bytes from a place on, as the code has them
 abbrev pub part : ℕ → List ℕ → List ℕ
@@ -115,14 +113,14 @@ module _ (p : ℕ) where
   hex-at (a ∷ []) h = absurd (omega arith)
   hex-at (a ∷ b ∷ s) h = rw (part-drop 2 (a ∷ b ∷ s))
 
-  module _ (s : List ℕ) (h : 2 ≤ length s) (r : Number) (q : r ≡ hex_pair (get_or s 0 0) (get_or s 1 0)) where
-    pub hex-bad : r ≡ Bad → hex_escape p s ≡ stop HexBad
+  module _ (s : List ℕ) (h : 2 ≤ length s) (r : Option ℕ) (q : r ≡ hex_pair (get_or s 0 0) (get_or s 1 0)) where
+    pub hex-bad : r ≡ None → hex_escape p s ≡ stop HexBad
     unfolding hex_value
-    hex-bad b = hex-at s h ∙ ap (λ (v : Number). hex_value v (tail (p + 4) (part 2 s))) (sym q ∙ b)
+    hex-bad b = hex-at s h ∙ ap (λ (v : Option ℕ). hex_value v (tail (p + 4) (part 2 s))) (sym q ∙ b)
 
-    pub hex-is : (v : ℕ) → r ≡ Is v → hex_escape p s ≡ Shown.symbol 39 (Value v) ▸ tail (p + 4) (part 2 s)
+    pub hex-is : (v : ℕ) → r ≡ Some v → hex_escape p s ≡ Shown.symbol 39 (Some v) ▸ tail (p + 4) (part 2 s)
     unfolding hex_value
-    hex-is v b = hex-at s h ∙ ap (λ (v : Number). hex_value v (tail (p + 4) (part 2 s))) (sym q ∙ b)
+    hex-is v b = hex-at s h ∙ ap (λ (v : Option ℕ). hex_value v (tail (p + 4) (part 2 s))) (sym q ∙ b)
 
 -- a line break
 module _ (p b : ℕ) (s : List ℕ) where

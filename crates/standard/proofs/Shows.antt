@@ -14,16 +14,13 @@ use Rattle.answers.specs.declared.Why.TheVariants.{HexShort, HexBad, NumberBad}
 use Rattle.classes.specs.declared.Class.TheVariants.{Alpha}
 use Rattle.classes.specs.Bytes.{is_alpha, in_class, lead}
 use Rattle.names.specs.Names.{word_number}
-use Rattle.numbers.specs.declared.Number.{Number}
-use Rattle.numbers.specs.declared.Number.TheVariants.{Is, Bad}
 use Rattle.numbers.specs.Numbers.{hex_pair, decimal}
 use Rattle.rooms.specs.Streams.{Stream, end, stop, ◌▸◌, and_then}
 use Rattle.rooms.proofs.Streams.{Each, Each-then, Each-either}
-use Rattle.tokens.specs.declared.Property.{Property}
-use Rattle.tokens.specs.declared.Property.TheVariants.{None, Value}
 use Rattle.tokens.specs.Tokens.{Shown}
 use Rattle.controls.specs.Controls.{shown_word, numbered}
 use Rattle.standard.specs.Standard.{leads, tail, is_escape, number_length, named, word, hex_value, hex_escape, break_length, line_break_and, escaped, tokens}
+use Rattle.std.specs.Prelude.{Option, Some, None}
 
 -- a property of each kind of item; no text is empty
 pub record Kinds (P : Shown → Type 0) : Type 0 where
@@ -32,9 +29,9 @@ pub record Kinds (P : Shown → Type 0) : Type 0 where
   pub closing : P Shown.closing
   pub line_break : P Shown.line_break
   pub ignorable : P Shown.ignorable
-  pub known : (w : ℕ) (num : Property) → P (Shown.word w num)
-  pub unknown : (p : ℕ) (name : List ℕ) (num : Property) → P (Shown.unknown p (92 ∷ name) num)
-  pub symbol : (b : ℕ) (num : Property) → P (Shown.symbol b num)
+  pub known : (w : ℕ) (num : Option ℕ) → P (Shown.word w num)
+  pub unknown : (p : ℕ) (name : List ℕ) (num : Option ℕ) → P (Shown.unknown p (92 ∷ name) num)
+  pub symbol : (b : ℕ) (num : Option ℕ) → P (Shown.symbol b num)
 
 module _ (P : Shown → Type 0) (k : Kinds P) where
   tail-each : (p : ℕ) (s : List ℕ) → Each P (tail p s)
@@ -42,7 +39,7 @@ module _ (P : Shown → Type 0) (k : Kinds P) where
   tail-each p [] = tt
   tail-each p (b ∷ s) = (k.text p b s, tt)
 
-  shown-each : (p : ℕ) (name : List ℕ) (num : Property) → P (shown_word p name num)
+  shown-each : (p : ℕ) (name : List ℕ) (num : Option ℕ) → P (shown_word p name num)
   unfolding shown_word
   shown-each p name num = go (ltb (word_number name) 49)
     where
@@ -50,10 +47,10 @@ module _ (P : Shown → Type 0) (k : Kinds P) where
       go true = k.known (word_number name) num
       go false = k.unknown p name num
 
-  numbered-each : (p : ℕ) (name : List ℕ) (v : Number) → Each P (numbered p name v)
+  numbered-each : (p : ℕ) (name : List ℕ) (v : Option ℕ) → Each P (numbered p name v)
   unfolding numbered
-  numbered-each p name (Is v) = (shown-each p name (Value v), tt)
-  numbered-each p name Bad = tt
+  numbered-each p name (Some v) = (shown-each p name (Some v), tt)
+  numbered-each p name None = tt
 
   named-each : (p : ℕ) (name s : List ℕ) → Each P (named p name s)
   unfolding named
@@ -74,9 +71,9 @@ module _ (P : Shown → Type 0) (k : Kinds P) where
   hex-each p (a ∷ []) = tt
   hex-each p (a ∷ b ∷ s) = go (hex_pair a b)
     where
-      go : (v : Number) → Each P (hex_value v (tail (p + 4) s))
-      go (Is v) = (k.symbol 39 (Value v), tail-each (p + 4) s)
-      go Bad = tt
+      go : (v : Option ℕ) → Each P (hex_value v (tail (p + 4) s))
+      go (Some v) = (k.symbol 39 (Some v), tail-each (p + 4) s)
+      go None = tt
 
   escaped-each : (p : ℕ) (s : List ℕ) → Each P (escaped p s)
   unfolding escaped line_break_and
@@ -108,9 +105,9 @@ pub record Moved (R : Shown → Shown → Type 0) : Type 0 where
   pub text : (p q : ℕ) (s : List ℕ) → R (Shown.text p s) (Shown.text q s)
   pub line_break : R Shown.line_break Shown.line_break
   pub ignorable : R Shown.ignorable Shown.ignorable
-  pub known : (w : ℕ) (num : Property) → R (Shown.word w num) (Shown.word w num)
-  pub unknown : (p q : ℕ) (bs : List ℕ) (num : Property) → R (Shown.unknown p bs num) (Shown.unknown q bs num)
-  pub symbol : (b : ℕ) (num : Property) → R (Shown.symbol b num) (Shown.symbol b num)
+  pub known : (w : ℕ) (num : Option ℕ) → R (Shown.word w num) (Shown.word w num)
+  pub unknown : (p q : ℕ) (bs : List ℕ) (num : Option ℕ) → R (Shown.unknown p bs num) (Shown.unknown q bs num)
+  pub symbol : (b : ℕ) (num : Option ℕ) → R (Shown.symbol b num) (Shown.symbol b num)
 
 module _ (R : Shown → Shown → Type 0) where
   alike-cond : {a b c d : Stream Why Shown} (x : Bool) → Alike R a c → Alike R b d → Alike R (cond x a b) (cond x c d)
@@ -129,7 +126,7 @@ module _ (R : Shown → Shown → Type 0) where
     tail-alike p q [] = ends
     tail-alike p q (b ∷ s) = more (k.text p q (b ∷ s)) ends
 
-    shown-alike : (p q : ℕ) (name : List ℕ) (num : Property) → R (shown_word p name num) (shown_word q name num)
+    shown-alike : (p q : ℕ) (name : List ℕ) (num : Option ℕ) → R (shown_word p name num) (shown_word q name num)
     unfolding shown_word
     shown-alike p q name num = go (ltb (word_number name) 49)
       where
@@ -137,10 +134,10 @@ module _ (R : Shown → Shown → Type 0) where
         go true = k.known (word_number name) num
         go false = k.unknown p q (92 ∷ name) num
 
-    numbered-alike : (p q : ℕ) (name : List ℕ) (v : Number) → Alike R (numbered p name v) (numbered q name v)
+    numbered-alike : (p q : ℕ) (name : List ℕ) (v : Option ℕ) → Alike R (numbered p name v) (numbered q name v)
     unfolding numbered
-    numbered-alike p q name (Is v) = more (shown-alike p q name (Value v)) ends
-    numbered-alike p q name Bad = stops NumberBad
+    numbered-alike p q name (Some v) = more (shown-alike p q name (Some v)) ends
+    numbered-alike p q name None = stops NumberBad
 
     named-alike : (p q : ℕ) (name s : List ℕ) → Alike R (named p name s) (named q name s)
     unfolding named
@@ -155,10 +152,10 @@ module _ (R : Shown → Shown → Type 0) where
         let e = m + n + leads 32 (drop (m + n) s) in
         alike_then (named-alike p q (take m s) (take n (drop m s))) (tail-alike (p + 1 + e) (q + 1 + e) (drop e s))
 
-    value-alike : (p q : ℕ) (s : List ℕ) (v : Number) → Alike R (hex_value v (tail (p + 4) s)) (hex_value v (tail (q + 4) s))
+    value-alike : (p q : ℕ) (s : List ℕ) (v : Option ℕ) → Alike R (hex_value v (tail (p + 4) s)) (hex_value v (tail (q + 4) s))
     unfolding hex_value
-    value-alike p q s (Is v) = more (k.symbol 39 (Value v)) (tail-alike (p + 4) (q + 4) s)
-    value-alike p q s Bad = stops HexBad
+    value-alike p q s (Some v) = more (k.symbol 39 (Some v)) (tail-alike (p + 4) (q + 4) s)
+    value-alike p q s None = stops HexBad
 
     hex-alike : (p q : ℕ) (s : List ℕ) → Alike R (hex_escape p s) (hex_escape q s)
     unfolding hex_escape

@@ -11,19 +11,16 @@ use native.Mathlib.Omega.{arith}
 use lib.ListN.{length, take, drop, length-drop}
 use lib.Dec.{eqb}
 use Rattle.answers.specs.declared.Why.{Why}
-use Rattle.answers.specs.declared.Written.{Written}
-use Rattle.answers.specs.declared.Written.TheVariants.{Done}
 use Rattle.classes.specs.declared.Class.TheVariants.{Alpha}
 use Rattle.classes.specs.Bytes.{is_alpha, in_class, lead}
-use Rattle.numbers.specs.declared.Number.{Number}
-use Rattle.numbers.specs.declared.Number.TheVariants.{Is, Bad}
 use Rattle.numbers.specs.Numbers.{hex_pair, decimal}
-use Rattle.rooms.specs.Streams.{Stream, count, by_name}
+use Rattle.rooms.specs.Streams.{Stream, count}
 use Rattle.rooms.specs.Rooms.{Wrote}
-use Rattle.rooms.proofs.Streams.{count-then, ended-count, name-apart}
+use Rattle.rooms.proofs.Streams.{count-then, ended-count}
 use Rattle.tokens.specs.Tokens.{Shown, shown_layout}
 use Rattle.controls.proofs.Words.{count-numbered}
 use Rattle.standard.specs.Standard.{leads, tail, is_escape, number_length, named, word, hex_value, hex_escape, break_length, line_break_and, escaped, tokens}
+use Rattle.std.specs.Prelude.{Result, Ok, Option, Some, None}
 
 -- a bound on both is a bound on a choice
 either : (t : Bool) (a b : Stream Why Shown) (k : ℕ) → count a ≤ k → count b ≤ k → count (cond t a b) ≤ k
@@ -53,10 +50,10 @@ count_word p s =
     let a = named p (take k s) (take n (drop k s)) in
     omega (arith, count-then a (tail (p + 1 + e) (drop e s)), count-named p (take k s) (take n (drop k s)), count-behind (p + 1 + e) e s)
 
-count-hex_value : (v : Number) (rest : Stream Why Shown) (k : ℕ) → count rest ≤ k → count (hex_value v rest) ≤ k + 1
+count-hex_value : (v : Option ℕ) (rest : Stream Why Shown) (k : ℕ) → count rest ≤ k → count (hex_value v rest) ≤ k + 1
 unfolding hex_value count
-count-hex_value (Is v) rest k h = omega arith
-count-hex_value Bad rest k h = omega arith
+count-hex_value (Some v) rest k h = omega arith
+count-hex_value None rest k h = omega arith
 
 count-hex_escape : (p : ℕ) (s : List ℕ) → count (hex_escape p s) ≤ length s + 1
 unfolding hex_escape count
@@ -89,8 +86,8 @@ count-tokens p (b ∷ s) =
     (either (eqb b 125) _ _ _ (omega (arith, t))
     (either (eqb b 10 || eqb b 13) _ _ _ (omega (arith, t)) (count-tail p (b ∷ s)))))
 
-pub named-next : (p : ℕ) (name s : List ℕ) {n m : ℕ} {r : Written} {room room' : List ℕ} → Wrote shown_layout by_name n room (named p name s) r room' → r ≡ Done m → m ≤ n + 1
-named-next p name s {n} {m} v d = omega (arith, ended-count name-apart (named p name s) n m (sym v.says ∙ d), count-named p name s)
+pub named-next : (p : ℕ) (name s : List ℕ) {n m : ℕ} {r : Result ℕ Why} {room room' : List ℕ} → Wrote shown_layout n room (named p name s) r room' → r ≡ Ok m → m ≤ n + 1
+named-next p name s {n} {m} v d = omega (arith, ended-count (named p name s) n m (sym v.says ∙ d), count-named p name s)
 
-pub tokens-next : (p : ℕ) (s : List ℕ) {n m : ℕ} {r : Written} {room room' : List ℕ} → Wrote shown_layout by_name n room (tokens p s) r room' → r ≡ Done m → m ≤ n + length s
-tokens-next p s {n} {m} v d = omega (arith, ended-count name-apart (tokens p s) n m (sym v.says ∙ d), count-tokens p s)
+pub tokens-next : (p : ℕ) (s : List ℕ) {n m : ℕ} {r : Result ℕ Why} {room room' : List ℕ} → Wrote shown_layout n room (tokens p s) r room' → r ≡ Ok m → m ≤ n + length s
+tokens-next p s {n} {m} v d = omega (arith, ended-count (tokens p s) n m (sym v.says ∙ d), count-tokens p s)

@@ -5,13 +5,11 @@ use Rattle.answers.specs.declared.Why.{Why}
 use Rattle.answers.specs.declared.Why.TheVariants.{HexShort, HexBad}
 use Rattle.classes.specs.declared.Class.TheVariants.{Alpha, Digit}
 use Rattle.classes.specs.Bytes.{is_alpha, in_class, lead}
-use Rattle.numbers.specs.declared.Number.{Number}
-use Rattle.numbers.specs.declared.Number.TheVariants.{Is, Bad}
 use Rattle.numbers.specs.Numbers.{hex_pair, decimal}
 use Rattle.rooms.specs.Streams.{Stream, end, stop, ◌▸◌, and_then}
-use Rattle.tokens.specs.declared.Property.TheVariants.{None, Value}
 use Rattle.tokens.specs.Tokens.{Shown}
 use Rattle.controls.specs.Controls.{shown_word, numbered}
+use Rattle.std.specs.Prelude.{Option, Some, None}
 
 -- 1 if a byte stands in front, else 0
 unfoldable pub leads : ℕ → List ℕ → ℕ
@@ -52,9 +50,9 @@ word p s =
     and_then (named p (take k s) (take n (drop k s))) (tail (p + 1 + e) (drop e s))
 
 -- "`\'` and two bytes: as 01 has them (3, 4), and no longer a `u` word."; "Behind a symbol or a hex escape no space vanishes."
-unfoldable pub hex_value : Number → Stream Why Shown → Stream Why Shown
-hex_value (Is v) rest = Shown.symbol 39 (Value v) ▸ rest
-hex_value Bad rest = stop HexBad
+unfoldable pub hex_value : Option ℕ → Stream Why Shown → Stream Why Shown
+hex_value (Some v) rest = Shown.symbol 39 (Some v) ▸ rest
+hex_value None rest = stop HexBad
 
 unfoldable pub hex_escape : ℕ → List ℕ → Stream Why Shown
 hex_escape p [] = stop HexShort

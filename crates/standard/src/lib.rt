@@ -16,16 +16,15 @@ ghost use Rattle.classes.specs.declared.Class.TheVariants.{Alpha};
 ghost use Rattle.classes.specs.Bytes.{in_class, lead};
 ghost use Rattle.names.specs.Names.{rows};
 ghost use Rattle.rooms.specs.Rooms.{Wrote};
-ghost use Rattle.rooms.specs.Streams.{by_name};
 ghost use Rattle.tokens.specs.Tokens.{shown_layout, record_of};
 ghost use Rattle.standard.specs.Standard.{leads as leads_of, tail as tail_of, is_escape, number_length, named as named_of, word as word_of, hex_escape, break_length, line_break_and, symbol_of, bracket_of, escaped as escaped_of, tokens as tokens_of};
 
-use answers::{Why, Written};
+use answers::Why;
 use classes::{Class, is_alpha, lead_of};
 use controls::{numbered_word, word_record};
 use names::Table;
-use numbers::{Number, hex_pair};
-use tokens::{Property, Record, put};
+use numbers::hex_pair;
+use tokens::{Record, put};
 
 // `{`, `}` or `\`, which a backslash makes plain text.
 fn is_escape(b: u8) -> bool
@@ -41,7 +40,7 @@ fn symbol(b: u8) -> Record
     if b == b'*' {
         return Record::bare(4);
     }
-    Record::symbol(b as u32, Property::None)
+    Record::symbol(b as u32, None)
 }
 
 // The record of a bracket's byte.
@@ -95,15 +94,15 @@ fn number_length(s: &[u8]) -> usize
 }
 
 // Text, if there is any; also if it is all white space.
-fn tail(s: &[u8], place: usize, room: &mut [u32], n: usize) -> Written
+fn tail(s: &[u8], place: usize, room: &mut [u32], n: usize) -> Result<usize, Why>
     requires { (place + length s.now ≤ 65536) × (n ≤ place) }
-    ensures { Wrote shown_layout by_name n room.old (tail_of place s.now) result room.new }
+    ensures { Wrote shown_layout n room.old (tail_of place s.now) result room.new }
 {
     if s.len() == 0 {
-        return Written::Done(n);
+        return Ok(n);
     }
     put(room, n, Record::text(place as u32, s.len() as u32));
-    Written::Done(n + 1)
+    Ok(n + 1)
 }
 
 // A word behind its backslash at `place`, by its name and the bytes of its number.
@@ -114,56 +113,46 @@ fn named(
     names: &Table,
     room: &mut [u32],
     n: usize,
-) -> Written
+) -> Result<usize, Why>
     requires { (place + (1 + length name.now) ≤ 65536) × (n ≤ place) × (names.now ≡ rows) }
-    ensures { Wrote shown_layout by_name n room.old (named_of place name.now digits.now) result room.new }
+    ensures { Wrote shown_layout n room.old (named_of place name.now digits.now) result room.new }
 {
     if digits.len() == 0 {
-        put(room, n, word_record(name, Property::None, place, names));
-        return Written::Done(n + 1);
+        put(room, n, word_record(name, None, place, names));
+        return Ok(n + 1);
     }
     numbered_word(name, digits, place, names, room, n)
 }
 
 // A word and the text behind it; s follows the backslash at `place`. One space belongs to the word, and no other white space.
-fn word(s: &[u8], place: usize, names: &Table, room: &mut [u32], n: usize) -> Written
+fn word(s: &[u8], place: usize, names: &Table, room: &mut [u32], n: usize) -> Result<usize, Why>
     requires { (place + (1 + length s.now) ≤ 65536) × (n ≤ place) × (names.now ≡ rows) }
-    ensures { Wrote shown_layout by_name n room.old (word_of place s.now) result room.new }
+    ensures { Wrote shown_layout n room.old (word_of place s.now) result room.new }
 {
     let k = letters_of(s);
     let m = k + number_length(&s[k..]);
-    let first = named(&s[..k], &s[k..m], place, names, room, n);
-    match first {
-        Written::Refused(why) => Written::Refused(why),
-        Written::Done(next) => {
-            let e = m + leads(&s[m..], b' ');
-            tail(&s[e..], place + 1 + e, room, next)
-        }
-    }
+    let next = named(&s[..k], &s[k..m], place, names, room, n)?;
+    let e = m + leads(&s[m..], b' ');
+    tail(&s[e..], place + 1 + e, room, next)
 }
 
 // `\'` at `place`, and s behind it: two hexadecimal digits, and text.
-fn hex_escape(s: &[u8], place: usize, room: &mut [u32], n: usize) -> Written
+fn hex_escape(s: &[u8], place: usize, room: &mut [u32], n: usize) -> Result<usize, Why>
     requires { (place + (2 + length s.now) ≤ 65536) × (n ≤ place) }
-    ensures { Wrote shown_layout by_name n room.old (hex_escape place s.now) result room.new }
+    ensures { Wrote shown_layout n room.old (hex_escape place s.now) result room.new }
 {
     if s.len() < 2 {
-        return Written::Refused(Why::HexShort);
+        return Err(Why::HexShort);
     }
-    let value = hex_pair(s[0], s[1]);
-    match value {
-        Number::Bad => Written::Refused(Why::HexBad),
-        Number::Is(v) => {
-            put(room, n, Record::symbol(39, Property::Value(v)));
-            tail(&s[2..], place + 4, room, n + 1)
-        }
-    }
+    let v = hex_pair(s[0], s[1]).ok_or(Why::HexBad)?;
+    put(room, n, Record::symbol(39, Some(v)));
+    tail(&s[2..], place + 4, room, n + 1)
 }
 
 // A line break, and s behind it, which follows the backslash at `place` and b; a line feed behind a carriage return belongs to it.
-fn line_break(b: u8, s: &[u8], place: usize, room: &mut [u32], n: usize) -> Written
+fn line_break(b: u8, s: &[u8], place: usize, room: &mut [u32], n: usize) -> Result<usize, Why>
     requires { (place + (2 + length s.now) ≤ 65536) × (n ≤ place) }
-    ensures { Wrote shown_layout by_name n room.old (line_break_and place (break_length b s.now) s.now) result room.new }
+    ensures { Wrote shown_layout n room.old (line_break_and place (break_length b s.now) s.now) result room.new }
 {
     put(room, n, Record::bare(3));
     if b == b'\r' {
@@ -174,13 +163,13 @@ fn line_break(b: u8, s: &[u8], place: usize, room: &mut [u32], n: usize) -> Writ
 }
 
 // What a backslash at `place` makes of s, the bytes behind it.
-fn escaped(s: &[u8], place: usize, names: &Table, room: &mut [u32], n: usize) -> Written
+fn escaped(s: &[u8], place: usize, names: &Table, room: &mut [u32], n: usize) -> Result<usize, Why>
     requires { (place + (1 + length s.now) ≤ 65536) × (n ≤ place) × (names.now ≡ rows) }
-    ensures { Wrote shown_layout by_name n room.old (escaped_of place s.now) result room.new }
+    ensures { Wrote shown_layout n room.old (escaped_of place s.now) result room.new }
 {
     if s.len() == 0 {
-        put(room, n, Record::symbol(0, Property::None));
-        return Written::Done(n + 1);
+        put(room, n, Record::symbol(0, None));
+        return Ok(n + 1);
     }
     let b = s[0];
     if is_alpha(b) {
@@ -200,12 +189,18 @@ fn escaped(s: &[u8], place: usize, names: &Table, room: &mut [u32], n: usize) ->
 }
 
 // The tokens of a slice that stands at `place`.
-pub fn slice_tokens(s: &[u8], place: usize, names: &Table, room: &mut [u32], n: usize) -> Written
+pub fn slice_tokens(
+    s: &[u8],
+    place: usize,
+    names: &Table,
+    room: &mut [u32],
+    n: usize,
+) -> Result<usize, Why>
     requires { (place + length s.now ≤ 65536) × (n ≤ place) × (names.now ≡ rows) }
-    ensures { Wrote shown_layout by_name n room.old (tokens_of place s.now) result room.new }
+    ensures { Wrote shown_layout n room.old (tokens_of place s.now) result room.new }
 {
     if s.len() == 0 {
-        return Written::Done(n);
+        return Ok(n);
     }
     let b = s[0];
     if b == b'\\' {

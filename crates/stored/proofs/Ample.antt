@@ -11,23 +11,21 @@ use native.Mathlib.Omega.{arith}
 use borrow.Author.Tests.{le-ltb, ne_eqb}
 use lib.ListN.{length, drop, length-drop}
 use lib.Dec.{ltb, eqb}
-use Rattle.answers.specs.declared.Outcome.{Outcome}
-use Rattle.answers.specs.declared.Outcome.TheVariants.{Done, Refused}
 use Rattle.answers.specs.declared.Why.TheVariants.{TextRoom, BlockRoom}
-use Rattle.answers.specs.Answers.{refusal, outcome_number}
+use Rattle.answers.specs.Answers.{refusal, answer_number}
 use Rattle.rooms.specs.Streams.{Stream, end, stop, ◌▸◌, items, count, answer}
 use Rattle.rooms.specs.Rooms.{capacity}
 use Rattle.sevens.specs.declared.Numeral.{Numeral}
-use Rattle.sevens.specs.declared.Numeral.TheVariants.{Is as Numbered, Bad as BadNumber, Short}
+use Rattle.answers.specs.declared.Why.{Why}
 use Rattle.sevens.specs.Sevens.{number_of}
 use Rattle.blocks.specs.Pages.{Piece, Last, none, last, starts, roomy, block_words}
 use Rattle.stored.specs.declared.entry.Entry.{Entry}
-use Rattle.stored.specs.declared.entry.Entry.TheVariants.{Is, Bad}
 use Rattle.stored.specs.Entries.{entry}
-use Rattle.stored.specs.Stored.{over, entered, blocks_from, counted, stored, placed, answered, stored_answer, answer_number}
+use Rattle.stored.specs.Stored.{over, entered, blocks_from, counted, stored, placed, answered, stored_answer}
 use Rattle.stored.specs.Checks.{checked}
 use Rattle.stored.proofs.Entries.{entry-is}
 use Rattle.answers.specs.declared.Refusal.{Refusal}
+use Rattle.std.specs.Prelude.{Result, Ok, Err}
 
 count-over : (s : List ℕ) → count (over s) ≤ length s
 unfolding count
@@ -39,22 +37,22 @@ unfolding blocks_from count
 count-blocks zero l s = count-over s
 count-blocks (suc k) l s = go (entry l s) refl (λ l' m. count-blocks k l' (drop m s))
   where
-    go : (e : Entry) → entry l s ≡ e → ((l' : Last) (m : ℕ) → count (blocks_from k l' (drop m s)) ≤ length (drop m s))
+    go : (e : Result Entry Refusal) → entry l s ≡ e → ((l' : Last) (m : ℕ) → count (blocks_from k l' (drop m s)) ≤ length (drop m s))
         → count (entered e s (blocks_from k)) ≤ length s
-    go (Is st m n) e more =
+    go (Ok x) e more =
         let w = entry-is l s e in
-        let h : count (blocks_from k (last st) (drop (m + n) s)) ≤ length s - (m + n) = rw (length-drop (m + n) s) at (more (last st) (m + n)) in
+        let n : ℕ = x.numbers + x.text in
+        let h : count (blocks_from k (last x.style) (drop n s)) ≤ length s - n = rw (length-drop n s) at (more (last x.style) n) in
         omega (arith, h, w.within, w.numbers)
-    go (Bad r) e more = omega arith
+    go (Err r) e more = omega arith
 
 pub count-stored : (s : List ℕ) → count (stored s) ≤ length s
 unfolding stored count
 count-stored s = go (number_of s)
   where
-    go : (x : Numeral) → count (counted x s) ≤ length s
-    go (Numbered n m) = let h = count-blocks n none (drop m s) in let l = length-drop m s in omega (arith, h, l)
-    go BadNumber = omega arith
-    go Short = omega arith
+    go : (x : Result Numeral Why) → count (counted x s) ≤ length s
+    go (Ok x) = let h = count-blocks x.value none (drop x.length s) in let l = length-drop x.length s in omega (arith, h, l)
+    go (Err why) = omega arith
 
 -- the next block, by whether it starts one
 one : (b t : ℕ) (y : Bool) (x : Piece) (s z : Stream Refusal Piece) → 0 < b
@@ -79,7 +77,7 @@ roomy-blocks (x ▸ s) b c t l h k =
 
 -- "rooms counted as ample"
 pub check-reads : (s : List ℕ) (b t : ℕ) → length s ≤ capacity block_words b → 2147483647 ≤ t
-    → answer_number (stored_answer b t s) ≡ outcome_number (checked s)
+    → answer_number (stored_answer b t s) ≡ answer_number (checked s)
 unfolding stored_answer checked placed
 check-reads s b t h k =
     let c = count-stored s in
@@ -87,6 +85,6 @@ check-reads s b t h k =
     roomy-blocks (stored s) (capacity block_words b) (length s) 2147483647 none (omega (arith, c, h)) c in
     rw (le-ltb t 2147483647 k, e) (go (answer 0 (roomy (length s) 2147483647 none (stored s))))
   where
-    go : (o : Outcome) → answer_number (answered (items (roomy (length s) 2147483647 none (stored s))) o) ≡ outcome_number o
-    go (Done n) = refl
-    go (Refused r) = refl
+    go : (o : Result ℕ Refusal) → answer_number (answered (items (roomy (length s) 2147483647 none (stored s))) o) ≡ answer_number o
+    go (Ok n) = refl
+    go (Err r) = refl

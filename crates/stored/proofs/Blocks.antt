@@ -1,18 +1,19 @@
 -- The blocks of a list, step by step.
 --     blocks-next, -over         a block and those behind it; none are left
 --     over-some, -none           bytes are left over, or none are
---     stored_is, -bad, -short    the whole list, by its count
+--     stored_is, -not            the whole list, by its count
 -- Assumes nothing.
 use mathlib.Core.Path.{◌≡◌, refl}
 use mathlib.Core.List.{List, [], ◌∷◌}
 use Prim.Native.Nat.{ℕ, suc, ◌-◌, ◌≤◌, ◌<◌}
 use native.Mathlib.Omega.{arith}
 use lib.ListN.{length, take, drop}
-use Rattle.answers.specs.declared.Why.TheVariants.{StoredNumber, StoredShort, StoredLong}
+use Rattle.answers.specs.declared.Why.TheVariants.{StoredLong}
 use Rattle.answers.specs.Answers.{refusal}
 use Rattle.rooms.specs.Streams.{end, stop}
 use Rattle.sevens.specs.declared.Numeral.{Numeral}
-use Rattle.sevens.specs.declared.Numeral.TheVariants.{Is as Numbered, Bad as BadNumber, Short}
+use Rattle.answers.specs.declared.Why.{Why}
+use Rattle.std.specs.Prelude.{Ok, Err}
 use Rattle.sevens.specs.Sevens.{number_of}
 use Rattle.blocks.specs.Pages.{Last, none}
 use Rattle.stored.specs.Entries.{entry}
@@ -35,15 +36,11 @@ pub over_none : (t : List ℕ) → length t ≤ 0 → over t ≡ end
 over_none [] h = refl
 over_none (b ∷ t) h = absurd (omega arith)
 
-module _ (s : List ℕ) {x : Numeral} (d : x ≡ number_of s) where
-  pub stored_is : {v m k : ℕ} → x ≡ Numbered v m → k ≡ v → stored s ≡ blocks_from k none (take (length s - m) (drop m s))
+module _ (s : List ℕ) where
+  pub stored_is : {x : Numeral} → number_of s ≡ Ok x → stored s ≡ blocks_from x.value none (take (length s - x.length) (drop x.length s))
   unfolding stored
-  stored_is {v} {m} e f = rw (← d, e, f, part m s)
+  stored_is {x} e = rw (e, part x.length s)
 
-  pub stored-bad : x ≡ BadNumber → stored s ≡ stop (refusal StoredNumber)
+  pub stored-not : {why : Why} → number_of s ≡ Err why → stored s ≡ stop (refusal why)
   unfolding stored
-  stored-bad e = rw (← d, e)
-
-  pub stored_short : x ≡ Short → stored s ≡ stop (refusal StoredShort)
-  unfolding stored
-  stored_short e = rw (← d, e)
+  stored-not e = rw e

@@ -5,7 +5,7 @@ use mathlib.Core.List.{List, [], ◌∷◌}
 use mathlib.Core.Bool.{Bool, true, false, cond, ◌&&◌}
 use Prim.Native.Nat.{ℕ}
 use lib.Dec.{eqb}
-use Rattle.answers.specs.Answers.{outcome_number}
+use Rattle.answers.specs.Answers.{answer_number}
 use Rattle.rooms.specs.Streams.{items, ended}
 use Rattle.sevens.specs.Sevens.{high, sum_from, value_of, is_long, number_of}
 use Rattle.wellformed.specs.WellFormed.{behind, goes_on}
@@ -13,7 +13,7 @@ use Rattle.fields.specs.Fields.{unfolded, by_place, in_range}
 use Rattle.styles.specs.Styles.{style_at}
 use Rattle.blocks.specs.Pages.{blocks, text_of, block_record, records, roomy, blocks_from as joined_from}
 use Rattle.stored.specs.Entries.{numbers_from, ruled, entry}
-use Rattle.stored.specs.Stored.{blocks_from, stored, placed, stored_answer, stored_blocks, stored_text, answer_number}
+use Rattle.stored.specs.Stored.{blocks_from, stored, placed, stored_answer, stored_blocks, stored_text}
 use Rattle.stored.specs.Checks.{checked}
 
 -- a list, the words of a block room and the bytes of a text room, the answer's number, what the rooms hold, the check's number
@@ -87,7 +87,7 @@ held n ws room = cond (eqb n 0) (same ws room) (zeros room)
 agrees : Case → Bool
 agrees c =
     eqb (answer_number (stored_answer c.blocks c.text c.list)) c.number
-    && (eqb (outcome_number (checked c.list)) c.checks
+    && (eqb (answer_number (checked c.list)) c.checks
     && (held c.number c.holds (stored_blocks c.blocks c.text c.list)
     && held c.number c.says (stored_text c.blocks c.text c.list)))
 

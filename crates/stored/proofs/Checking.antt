@@ -1,33 +1,31 @@
 -- The loop over a list's blocks, without rooms.
 --     Checking, checking-..     those that are left, checked here, give the answer of all of them
---     check-is, -bad, -short    the whole list, by its count
+--     check-is, -not            the whole list, by its count
 -- Assumes nothing.
 use mathlib.Core.Path.{◌≡◌, refl, sym, ◌∙◌}
 use mathlib.Core.List.{List}
-use mathlib.Core.Bool.{Bool, true, false}
+use mathlib.Core.Bool.{true}
 use Prim.Native.Nat.{ℕ, ◌+◌, ◌-◌, ◌≤◌, ◌<◌}
 use native.Mathlib.Omega.{arith}
 use borrow.Author.Tests.{lt-ltb, le-ltb, ne_eqb}
 use lib.ListN.{length, take, drop, length-take, length-drop}
 use Rattle.answers.specs.declared.Refusal.{Refusal}
-use Rattle.answers.specs.declared.Outcome.{Outcome}
-use Rattle.answers.specs.declared.Outcome.TheVariants.{Done, Refused}
-use Rattle.answers.specs.declared.Why.TheVariants.{StoredNumber, StoredShort, StoredLong, TextRoom}
+use Rattle.answers.specs.declared.Why.TheVariants.{StoredLong, TextRoom}
 use Rattle.answers.specs.Answers.{refusal}
 use Rattle.sevens.specs.declared.Numeral.{Numeral}
-use Rattle.sevens.specs.declared.Numeral.TheVariants.{Is as Numbered, Bad as BadNumber, Short}
+use Rattle.answers.specs.declared.Why.{Why}
 use Rattle.sevens.specs.Sevens.{number_of}
 use Rattle.rooms.specs.Streams.{Stream, stop, ◌▸◌, answer, ended}
 use Rattle.styles.specs.declared.Style.{Style}
 use Rattle.blocks.specs.Pages.{Piece, piece, Last, none, last, starts, roomy}
 use Rattle.fields.specs.Fields.{last_of}
 use Rattle.stored.specs.declared.entry.Entry.{Entry}
-use Rattle.stored.specs.declared.entry.Entry.TheVariants.{Is, Bad}
 use Rattle.stored.specs.Entries.{entry}
 use Rattle.stored.proofs.Entries.{part, Entered, entry-is}
 use Rattle.stored.specs.Stored.{entered, blocks_from}
-use Rattle.stored.proofs.Blocks.{blocks-next, blocks-over, over-some, over_none, stored_is, stored-bad, stored_short}
+use Rattle.stored.proofs.Blocks.{blocks-next, blocks-over, over-some, over_none, stored_is, stored-not}
 use Rattle.stored.specs.Checks.{checked}
+use Rattle.std.specs.Prelude.{Result, Ok, Err, Option, Some}
 
 module _ (b t : ℕ) (l : Last) (x : Piece) (s : Stream Refusal Piece) (e : starts l x.style ≡ true) (h : 0 < b) where
   roomy-next : length x.bytes ≤ t → roomy b t l (x ▸ s) ≡ x ▸ roomy (b - 1) (t - length x.bytes) (last x.style) s
@@ -38,97 +36,84 @@ module _ (b t : ℕ) (l : Last) (x : Piece) (s : Stream Refusal Piece) (e : star
   unfolding roomy
   roomy-over k = rw (e, ne_eqb b 0 (λ z. omega arith), lt-ltb t (length x.bytes) k)
 
--- blocks of the list s are checked, t, n blocks and room for `left` bytes are left
-pub record Checking (k : ℕ) (s t : List ℕ) (n left : ℕ) (begun : Bool) (before : Style) : Type 0 where
-  pub held : n ≤ k
-  pub short : length t + (k - n) ≤ length s
+-- i blocks of the list s are checked, t and room for `left` bytes are left
+pub record Checking (k : ℕ) (s t : List ℕ) (i left : ℕ) (before : Option Style) : Type 0 where
+  pub short : length t + i ≤ length s
   pub all : (B : ℕ) → length s ≤ B
-      → answer 0 (roomy B 2147483647 none (blocks_from k none s)) ≡ answer (k - n) (roomy (B - (k - n)) left (last_of begun before) (blocks_from n (last_of begun before) t))
+      → answer 0 (roomy B 2147483647 none (blocks_from k none s)) ≡ answer i (roomy (B - i) left (last_of before) (blocks_from (k - i) (last_of before) t))
 
-pub checking-start : (k : ℕ) (s : List ℕ) (before : Style) → Checking k s s k 2147483647 false before
-checking-start k s before =
-    let z : k - k ≡ 0 = omega arith in
-    let y : (B : ℕ) → B - 0 ≡ B = λ B. omega arith in
-    record { held = omega arith; short = omega arith; all = λ B h. rw (z, y B) refl }
+module _ {k : ℕ} {s t : List ℕ} {i left : ℕ} {before : Option Style} (g : Checking k s t i left before) where
+  module _ (h : i < k) where
+    module _ (B : ℕ) (w : length s ≤ B) where
+      to-check : {e : Result Entry Refusal} → entry (last_of before) t ≡ e
+          → answer 0 (roomy B 2147483647 none (blocks_from k none s))
+          ≡ answer i (roomy (B - i) left (last_of before) (entered e t (blocks_from (k - (i + 1)))))
+      to-check d = g.all B w ∙ rw (blocks-next (k - i) (k - (i + 1)) (last_of before) t (omega arith), d)
 
-module _ {k : ℕ} {s t : List ℕ} {n left : ℕ} {begun : Bool} {before : Style} (g : Checking k s t n left begun before) where
-  module _ (h : 0 < n) {e : Entry} (d : e ≡ entry (last_of begun before) t) (B : ℕ) (w : length s ≤ B) where
-    to-check : answer 0 (roomy B 2147483647 none (blocks_from k none s))
-        ≡ answer (k - n) (roomy (B - (k - n)) left (last_of begun before) (entered e t (blocks_from (n - 1))))
-    to-check = g.all B w ∙ rw (blocks-next n (n - 1) (last_of begun before) t (omega arith), ← d)
+      pub checking-bad : {r : Refusal} → entry (last_of before) t ≡ Err r → Err r ≡ answer 0 (roomy B 2147483647 none (blocks_from k none s))
+      unfolding roomy ended
+      checking-bad d = sym (to-check d)
 
-    pub checking-bad : {r : Refusal} → e ≡ Bad r → Refused r ≡ answer 0 (roomy B 2147483647 none (blocks_from k none s))
-    unfolding roomy ended
-    checking-bad f = sym (to-check ∙ rw f)
+      module _ {e : Entry} (d : entry (last_of before) t ≡ Ok e) where
+        facts : Entered (last_of before) t e
+        facts = entry-is (last_of before) t d
 
-    module _ {st : Style} {m c : ℕ} (f : e ≡ Is st m c) where
-      facts : Entered (last_of begun before) t st m c
-      facts = entry-is (last_of begun before) t (sym d ∙ f)
+        bytes : length (take e.text (drop e.numbers t)) ≡ e.text
+        bytes = length-take e.text (drop e.numbers t) ∙ simp length-drop (omega (arith, facts.within))
 
-      bytes : length (take c (drop m t)) ≡ c
-      bytes = length-take c (drop m t) ∙ simp length-drop (omega (arith, facts.within))
+        pub checking-text : left < e.text → {r : Refusal} → r ≡ refusal TextRoom
+            → Err r ≡ answer 0 (roomy B 2147483647 none (blocks_from k none s))
+        unfolding ended
+        checking-text l q =
+            sym (to-check d ∙ rw (
+              q,
+              roomy-over (B - i) left (last_of before) (piece e.style (take e.text (drop e.numbers t))) (blocks_from (k - (i + 1)) (last e.style) (drop (e.numbers + e.text) t))
+                  facts.differs (omega (arith, w, g.short, facts.within, facts.numbers)) (rw bytes l),
+            ))
 
-      pub checking-text : left < c → {r : Refusal} → r ≡ refusal TextRoom
-          → Refused r ≡ answer 0 (roomy B 2147483647 none (blocks_from k none s))
-      unfolding ended
-      checking-text l q =
-          sym (to-check ∙ rw (
-            f,
-            q,
-            roomy-over (B - (k - n)) left (last_of begun before) (piece st (take c (drop m t))) (blocks_from (n - 1) (last st) (drop (m + c) t))
-                facts.differs (omega (arith, w, g.short, facts.within, facts.numbers)) (rw bytes l),
-          ))
+        checking-next : e.text ≤ left → answer 0 (roomy B 2147483647 none (blocks_from k none s))
+            ≡ answer (i + 1) (roomy (B - (i + 1)) (left - e.text) (last e.style) (blocks_from (k - (i + 1)) (last e.style) (drop (e.numbers + e.text) t)))
+        unfolding ended
+        checking-next l =
+            let j : B - (i + 1) ≡ B - i - 1 = omega arith in
+            to-check d ∙ rw (
+              j,
+              roomy-next (B - i) left (last_of before) (piece e.style (take e.text (drop e.numbers t))) (blocks_from (k - (i + 1)) (last e.style) (drop (e.numbers + e.text) t))
+                  facts.differs (omega (arith, w, g.short, facts.within, facts.numbers)) (rw bytes l),
+              bytes,
+            ) refl
 
-      checking-next : c ≤ left → answer 0 (roomy B 2147483647 none (blocks_from k none s))
-          ≡ answer (k - (n - 1)) (roomy (B - (k - (n - 1))) (left - c) (last st) (blocks_from (n - 1) (last st) (drop (m + c) t)))
-      unfolding ended
-      checking-next l =
-          let i : k - (n - 1) ≡ k - n + 1 = omega (arith, h, g.held) in
-          let j : B - (k - n + 1) ≡ B - (k - n) - 1 = omega arith in
-          to-check ∙ rw (
-            f,
-            i,
-            j,
-            roomy-next (B - (k - n)) left (last_of begun before) (piece st (take c (drop m t))) (blocks_from (n - 1) (last st) (drop (m + c) t))
-                facts.differs (omega (arith, w, g.short, facts.within, facts.numbers)) (rw bytes l),
-            bytes,
-          ) refl
+    pub checking-more : {e : Entry} → entry (last_of before) t ≡ Ok e → e.text ≤ left
+        → Checking k s (take (length t - (e.numbers + e.text)) (drop (e.numbers + e.text) t)) (i + 1) (left - e.text) (Some e.style)
+    checking-more {e} d l =
+        let q = entry-is (last_of before) t d in
+        rw (part (e.numbers + e.text) t) (record {
+          short = simp length-drop (omega (arith, g.short, q.within, q.numbers));
+          all = λ B w. checking-next B w d l;
+        })
 
-  pub checking-more : 0 < n → {e : Entry} → e ≡ entry (last_of begun before) t → {st : Style} {m c : ℕ} → e ≡ Is st m c
-      → c ≤ left
-      → Checking k s (take (length t - (m + c)) (drop (m + c) t)) (n - 1) (left - c) true st
-  checking-more h d {st} {m} {c} f l =
-      let q = entry-is (last_of begun before) t (sym d ∙ f) in
-      rw (part (m + c) t) (record {
-        held = omega (arith, g.held);
-        short = simp length-drop (omega (arith, h, g.held, g.short, q.within, q.numbers));
-        all = λ B w. checking-next h d B w f l;
-      })
-
-  module _ (h : n ≤ 0) (B : ℕ) (w : length s ≤ B) where
+  module _ (h : k ≤ i) (B : ℕ) (w : length s ≤ B) where
     pub checking-left : 0 < length t → {r : Refusal} → r ≡ refusal StoredLong
-        → Refused r ≡ answer 0 (roomy B 2147483647 none (blocks_from k none s))
+        → Err r ≡ answer 0 (roomy B 2147483647 none (blocks_from k none s))
     unfolding roomy ended
-    checking-left l e = sym (g.all B w ∙ rw (e, blocks-over n (last_of begun before) t h, over-some t l))
+    checking-left l e = sym (g.all B w ∙ rw (e, blocks-over (k - i) (last_of before) t (omega arith), over-some t l))
 
-    pub checking-end : length t ≤ 0 → Done k ≡ answer 0 (roomy B 2147483647 none (blocks_from k none s))
+    pub checking-end : i ≤ k → length t ≤ 0 → Ok k ≡ answer 0 (roomy B 2147483647 none (blocks_from k none s))
     unfolding roomy ended
-    checking-end l = let z : k - n ≡ k = omega (arith, h) in sym (g.all B w ∙ rw (blocks-over n (last_of begun before) t h, over_none t l, z))
+    checking-end m l =
+        let z : i ≡ k = omega arith in
+        sym (g.all B w ∙ rw (blocks-over (k - i) (last_of before) t (omega arith), over_none t l, z))
 
 -- ---- the whole list
 
-module _ (s : List ℕ) {x : Numeral} (d : x ≡ number_of s) where
-  pub check-is : {v m k : ℕ} → x ≡ Numbered v m → k ≡ v → {r : Outcome}
-      → ((b : ℕ) → length (take (length s - m) (drop m s)) ≤ b → r ≡ answer 0 (roomy b 2147483647 none (blocks_from k none (take (length s - m) (drop m s))))) → r ≡ checked s
+module _ (s : List ℕ) where
+  pub check-is : {x : Numeral} → number_of s ≡ Ok x → {k : ℕ} → k ≡ x.value → {r : Result ℕ Refusal}
+      → ((b : ℕ) → length (take (length s - x.length) (drop x.length s)) ≤ b → r ≡ answer 0 (roomy b 2147483647 none (blocks_from k none (take (length s - x.length) (drop x.length s))))) → r ≡ checked s
   unfolding checked
-  check-is {v} {m} {k} e f h =
-      let l : length (take (length s - m) (drop m s)) ≤ length s = rw (part m s, length-drop m s) (omega arith) in
-      h (length s) l ∙ rw (stored_is s d e f)
+  check-is {x} e f h =
+      let l : length (take (length s - x.length) (drop x.length s)) ≤ length s = rw (part x.length s, length-drop x.length s) (omega arith) in
+      h (length s) l ∙ rw (stored_is s e, f)
 
-  pub check-bad : x ≡ BadNumber → {r : Refusal} → r ≡ refusal StoredNumber → Refused r ≡ checked s
+  pub check-not : {why : Why} → number_of s ≡ Err why → {r : Refusal} → r ≡ refusal why → Err r ≡ checked s
   unfolding checked roomy ended
-  check-bad e f = rw (f, stored-bad s d e)
-
-  pub check-short : x ≡ Short → {r : Refusal} → r ≡ refusal StoredShort → Refused r ≡ checked s
-  unfolding checked roomy ended
-  check-short e f = rw (f, stored_short s d e)
+  check-not e f = rw (f, stored-not s e)

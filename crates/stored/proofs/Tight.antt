@@ -3,14 +3,15 @@
 use mathlib.Core.Path.{◌≡◌, sym, ◌∙◌}
 use mathlib.Core.List.{List}
 use Prim.Native.Nat.{ℕ}
-use Rattle.answers.specs.declared.Outcome.{Outcome}
-use Rattle.stored.specs.declared.Answer.{Answer}
 use Rattle.stored.specs.Stored.{ReadsList}
 use Rattle.stored.specs.Checks.{Checks}
+use Rattle.std.specs.Prelude.{Result}
+use Rattle.stored.specs.declared.Counts.{Counts}
+use Rattle.answers.specs.declared.Refusal.{Refusal}
 
-pub read-list-tight : {list blocks text : List ℕ} {r q : Answer} {a b c d : List ℕ} → ReadsList list blocks text r a b → ReadsList list blocks text q c d
+pub read-list-tight : {list blocks text : List ℕ} {r q : Result Counts Refusal} {a b c d : List ℕ} → ReadsList list blocks text r a b → ReadsList list blocks text q c d
     → (r ≡ q) × (a ≡ c) × (b ≡ d)
 read-list-tight x y = (x.answer ∙ sym y.answer, x.blocks ∙ sym y.blocks, x.text ∙ sym y.text)
 
-pub check-tight : (list : List ℕ) {r q : Outcome} → Checks list r → Checks list q → r ≡ q
+pub check-tight : (list : List ℕ) {r q : Result ℕ Refusal} → Checks list r → Checks list q → r ≡ q
 check-tight list x y = x ∙ sym y

@@ -1,23 +1,19 @@
 -- 01, Stored form: a stored list, and the one answer and the one content of two lent rooms.
 -- Assumes nothing: these are definitions.
 use Rattle.std.specs.Prelude.{ℕ, zero, suc, ◌+◌, ◌≡◌, List, [], ◌∷◌, length, take, drop, replicate}
-use Rattle.answers.specs.declared.Outcome.{Outcome}
-use Rattle.answers.specs.declared.Outcome.TheVariants.{Done, Refused}
-use Rattle.answers.specs.declared.Why.TheVariants.{StoredNumber, StoredShort, StoredLong}
-use Rattle.answers.specs.Answers.{refusal, why_number}
+use Rattle.answers.specs.declared.Why.{Why}
+use Rattle.answers.specs.declared.Why.TheVariants.{StoredLong}
+use Rattle.answers.specs.Answers.{refusal}
 use Rattle.rooms.specs.Streams.{Stream, end, stop, ◌▸◌, items, answer}
 use Rattle.rooms.specs.Rooms.{capacity, filled}
 use Rattle.sevens.specs.declared.Numeral.{Numeral}
-use Rattle.sevens.specs.declared.Numeral.TheVariants.{Is as Numbered, Bad as BadNumber, Short}
 use Rattle.sevens.specs.Sevens.{number_of}
 use Rattle.blocks.specs.Pages.{Piece, piece, Last, none, last, blocks, text_of, records, block_words, text_capacity, roomy}
 use Rattle.stored.specs.declared.entry.Entry.{Entry}
-use Rattle.stored.specs.declared.entry.Entry.TheVariants.{Is, Bad}
 use Rattle.stored.specs.declared.Counts.{Counts}
-use Rattle.stored.specs.declared.Answer.{Answer}
-use Rattle.stored.specs.declared.Answer.TheVariants.{Read, Refuses}
 use Rattle.stored.specs.Entries.{entry}
 use Rattle.answers.specs.declared.Refusal.{Refusal}
+use Rattle.std.specs.Prelude.{Result, Ok, Err}
 
 -- the end of a list: 23 "has bytes left over"
 abbrev pub over : List ℕ → Stream Refusal Piece
@@ -25,9 +21,9 @@ over [] = end
 over (b ∷ s) = stop (refusal StoredLong)
 
 -- a block, and what follows it
-abbrev pub entered : Entry → List ℕ → (Last → List ℕ → Stream Refusal Piece) → Stream Refusal Piece
-entered (Is st m n) s more = piece st (take n (drop m s)) ▸ more (last st) (drop (m + n) s)
-entered (Bad r) s more = stop r
+abbrev pub entered : Result Entry Refusal → List ℕ → (Last → List ℕ → Stream Refusal Piece) → Stream Refusal Piece
+entered (Ok e) s more = piece e.style (take e.text (drop e.numbers s)) ▸ more (last e.style) (drop (e.numbers + e.text) s)
+entered (Err r) s more = stop r
 
 -- k blocks, where a block l came before
 unfoldable pub blocks_from : ℕ → Last → List ℕ → Stream Refusal Piece
@@ -35,10 +31,9 @@ blocks_from zero l s = over s
 blocks_from (suc k) l s = entered (entry l s) s (blocks_from k)
 
 -- "The list: block count; per block .."
-abbrev pub counted : Numeral → List ℕ → Stream Refusal Piece
-counted (Numbered n m) s = blocks_from n none (drop m s)
-counted BadNumber s = stop (refusal StoredNumber)
-counted Short s = stop (refusal StoredShort)
+abbrev pub counted : Result Numeral Why → List ℕ → Stream Refusal Piece
+counted (Ok x) s = blocks_from x.value none (drop x.length s)
+counted (Err why) s = stop (refusal why)
 
 unfoldable pub stored : List ℕ → Stream Refusal Piece
 stored s = counted (number_of s) s
@@ -50,17 +45,17 @@ placed b t s = roomy (capacity block_words b) (text_capacity t) none (stored s)
 abbrev pub counts_of : List Piece → Counts
 counts_of ps = record { blocks = length (blocks ps); text = length (text_of ps) }
 
-abbrev pub answered : List Piece → Outcome → Answer
-answered ps (Done n) = Read (counts_of ps)
-answered ps (Refused r) = Refuses r
+abbrev pub answered : List Piece → Result ℕ Refusal → Result Counts Refusal
+answered ps (Ok n) = Ok (counts_of ps)
+answered ps (Err r) = Err r
 
 -- the one answer
-unfoldable pub stored_answer : ℕ → ℕ → List ℕ → Answer
+unfoldable pub stored_answer : ℕ → ℕ → List ℕ → Result Counts Refusal
 stored_answer b t s = let q = placed b t s in answered (items q) (answer 0 q)
 
-abbrev pub holding : ℕ → List ℕ → Outcome → List ℕ
-holding total ws (Done n) = filled total ws
-holding total ws (Refused r) = replicate total 0
+abbrev pub holding : ℕ → List ℕ → Result ℕ Refusal → List ℕ
+holding total ws (Ok n) = filled total ws
+holding total ws (Err r) = replicate total 0
 
 -- the one content of each room
 unfoldable pub stored_blocks : ℕ → ℕ → List ℕ → List ℕ
@@ -69,17 +64,13 @@ stored_blocks b t s = let q = placed b t s in holding b (records 0 (blocks (item
 unfoldable pub stored_text : ℕ → ℕ → List ℕ → List ℕ
 stored_text b t s = let q = placed b t s in holding t (text_of (items q)) (answer 0 q)
 
--- "0 is success."; "Any refusal returns zero counts"
-abbrev pub answer_number : Answer → ℕ
-answer_number (Read n) = 0
-answer_number (Refuses r) = why_number r.why
-
-abbrev pub answer_counts : Answer → Counts
-answer_counts (Read n) = n
-answer_counts (Refuses r) = record { blocks = 0; text = 0 }
+-- "Any refusal returns zero counts"
+abbrev pub answer_counts : Result Counts Refusal → Counts
+answer_counts (Ok n) = n
+answer_counts (Err r) = record { blocks = 0; text = 0 }
 
 -- What `read_list` promises of a list and two rooms: the one answer, and the one content of each room.
-pub record ReadsList (list bs ts : List ℕ) (r : Answer) (bs' ts' : List ℕ) : Type 0 where
+pub record ReadsList (list bs ts : List ℕ) (r : Result Counts Refusal) (bs' ts' : List ℕ) : Type 0 where
   pub answer : r ≡ stored_answer (length bs) (length ts) list
   pub blocks : bs' ≡ stored_blocks (length bs) (length ts) list
   pub text : ts' ≡ stored_text (length bs) (length ts) list

@@ -14,72 +14,51 @@ ghost use Rattle.stored.specs.Stored.{blocks_from};
 ghost use Rattle.stored.specs.Checks.{Checks};
 
 use crate::entry::{Entry, numbers_at, ruled};
-use answers::{Outcome, Refusal, Why};
+use answers::{Refusal, Why};
 use fields::{BLOCK_NUMBERS, style_from};
 use rooms::wide;
-use sevens::{Numeral, number_at};
+use sevens::number_at;
 use styles::{BARE_WORDS, Style};
 
 // As `entry::block_at`, and said again so that the compiler lays it into the loop below, which it does with what is called in
 // one place alone: else a style goes through memory twice for each block.
-fn block_at(s: &[u8], begun: bool, before: Style) -> Entry
-    ensures { result ≡ entry (last_of begun before) s.now }
+fn block_at(s: &[u8], before: Option<Style>) -> Result<Entry, Refusal>
+    ensures { result ≡ entry (last_of before) s.now }
 {
     let mut words = [0u32; BLOCK_NUMBERS];
-    let numbers = numbers_at(s, &mut words);
-    match numbers {
-        Outcome::Refused(refusal) => Entry::Bad(refusal),
-        Outcome::Done(m) => {
-            let style = style_from(&words[..BARE_WORDS]);
-            let n = wide(words[BARE_WORDS]);
-            ruled(&s[m..], begun, before, style, n, m)
-        }
-    }
+    let m = numbers_at(s, &mut words)?;
+    let style = style_from(&words[..BARE_WORDS]);
+    let n = wide(words[BARE_WORDS]);
+    ruled(&s[m..], before, style, n, m)
 }
 
 // Checks k blocks: how many there are, or the refusal.
-fn check_blocks(list: &[u8], k: usize) -> Outcome
+fn check_blocks(list: &[u8], k: usize) -> Result<usize, Refusal>
     ensures { (b : ℕ) → length list.now ≤ b
         → result ≡ answer 0 (roomy b 2147483647 none (blocks_from k none list.now)) }
 {
     let mut t = list;
-    let mut n = k;
     let mut left: usize = 2147483647;
-    let mut begun = false;
-    let mut before = Style::blank();
-    while 0 < n {
-        let e = block_at(t, begun, before);
-        match e {
-            Entry::Bad(refusal) => {
-                return Outcome::Refused(refusal);
-            }
-            Entry::Is(style, m, count) => {
-                if left < count {
-                    return Outcome::Refused(Refusal::of(Why::TextRoom));
-                }
-                left -= count;
-                let next = m + count;
-                t = &t[next..];
-                n -= 1;
-                begun = true;
-                before = style;
-            }
+    let mut before = None;
+    for _ in 0..k {
+        let e = block_at(t, before)?;
+        if left < e.text {
+            return Err(Refusal::of(Why::TextRoom));
         }
+        left -= e.text;
+        t = &t[e.numbers + e.text..];
+        before = Some(e.style);
     }
     if t.len() != 0 {
-        return Outcome::Refused(Refusal::of(Why::StoredLong));
+        return Err(Refusal::of(Why::StoredLong));
     }
-    Outcome::Done(k)
+    Ok(k)
 }
 
 // The answer that `read_list` would give with ample rooms, in one pass over the list.
-pub fn check(list: &[u8]) -> Outcome
+pub fn check(list: &[u8]) -> Result<usize, Refusal>
     ensures { Checks list.now result }
 {
-    let n = number_at(list);
-    match n {
-        Numeral::Is(k, m) => check_blocks(&list[m..], wide(k)),
-        Numeral::Bad => Outcome::Refused(Refusal::of(Why::StoredNumber)),
-        Numeral::Short => Outcome::Refused(Refusal::of(Why::StoredShort)),
-    }
+    let n = number_at(list).map_err(Refusal::of)?;
+    check_blocks(&list[n.length..], wide(n.value))
 }

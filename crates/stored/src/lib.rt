@@ -1,7 +1,7 @@
 // A stored list (01, Stored form), read into two lent rooms.
 //
-//   Answer     how many blocks and bytes of text were read, or a refusal
 //   read_list  the whole: each room holds its records and zeros, or zeros alone
+//   counts_of  how many blocks and bytes of text a host is told of
 //
 // `read_list` is total. It reads blocks by `crate::entry::block_at`.
 #![tactic(auto)]
@@ -13,14 +13,13 @@ ghost use Rattle.std.specs.Prelude.{◌≡◌, length, replicate};
 ghost use Rattle.blocks.specs.Pages.{none};
 ghost use Rattle.blocks.specs.Laying.{told, on, lay_all, blank as blank_page, Still};
 ghost use Rattle.stored.specs.Stored.{blocks_from, stored, ReadsList};
-ghost use Rattle.stored.specs.Stored.{answer_number, answer_counts};
+ghost use Rattle.stored.specs.Stored.{answer_counts};
 
-use crate::entry::{Entry, block_at};
+use crate::entry::block_at;
 use answers::{Refusal, Why};
-use blocks::{BLOCK_WORDS, BLOCKS, FROM, Laid, PAGE_WORDS, Page, Room, TEXT, add};
-use rooms::{clear_bytes_from, clear_from, wide};
-use sevens::{Numeral, number_at};
-use styles::Style;
+use blocks::{BLOCK_WORDS, Page, add};
+use rooms::{clear_from, wide};
+use sevens::number_at;
 
 // How many blocks, and how many bytes of text.
 #[derive(Clone, Copy)]
@@ -29,96 +28,62 @@ pub struct Counts {
     pub text: usize,
 }
 
-#[derive(Clone, Copy)]
-pub enum Answer {
-    Read(Counts),
-    Refuses(Refusal),
-}
-
 // Lays k blocks onto a page.
-fn lay_blocks(list: &[u8], k: usize, blocks: &mut [u32], text: &mut [u8]) -> Laid
+fn lay_blocks(list: &[u8], k: usize, blocks: &mut [u32], text: &mut [u8]) -> Result<Page, Refusal>
     ensures laid { told result blocks.new text.new
         ≡ lay_all (on blank_page blocks.old text.old) (blocks_from k none list.now) }
     ensures still { Still result (length blocks.old) (length text.old) }
 {
     let mut t = list;
-    let mut n = k;
-    let mut page = [0usize; PAGE_WORDS];
-    let mut begun = false;
-    let mut before = Style::blank();
-    while 0 < n {
-        let e = block_at(t, begun, before);
-        match e {
-            Entry::Bad(refusal) => {
-                return Laid::Full(refusal);
-            }
-            Entry::Is(style, m, count) => {
-                let u = &t[m..];
-                let laid = add(&mut page, style, &u[..count], blocks, text);
-                match laid {
-                    Room::NoBlock => {
-                        return Laid::Full(Refusal::of(Why::BlockRoom));
-                    }
-                    Room::NoText => {
-                        return Laid::Full(Refusal::of(Why::TextRoom));
-                    }
-                    Room::Fits => {}
-                }
-                t = &u[count..];
-                n -= 1;
-                begun = true;
-                before = style;
-            }
-        }
+    let mut page = Page::blank();
+    let mut before = None;
+    for _ in 0..k {
+        let e = block_at(t, before)?;
+        let u = &t[e.numbers..];
+        add(&mut page, e.style, &u[..e.text], blocks, text).map_err(Refusal::of)?;
+        t = &u[e.text..];
+        before = Some(e.style);
     }
     if 0 < t.len() {
-        return Laid::Full(Refusal::of(Why::StoredLong));
+        return Err(Refusal::of(Why::StoredLong));
     }
-    Laid::On(Page {
-        blocks: page[BLOCKS],
-        text: page[TEXT],
-        from: page[FROM],
-    })
+    Ok(page)
 }
 
 // Lays a whole list onto a page.
-fn lay_list(list: &[u8], blocks: &mut [u32], text: &mut [u8]) -> Laid
+fn lay_list(list: &[u8], blocks: &mut [u32], text: &mut [u8]) -> Result<Page, Refusal>
     ensures laid { told result blocks.new text.new
         ≡ lay_all (on blank_page blocks.old text.old) (stored list.now) }
     ensures still { Still result (length blocks.old) (length text.old) }
 {
-    let n = number_at(list);
-    match n {
-        Numeral::Is(k, m) => lay_blocks(&list[m..], wide(k), blocks, text),
-        Numeral::Bad => Laid::Full(Refusal::of(Why::StoredNumber)),
-        Numeral::Short => Laid::Full(Refusal::of(Why::StoredShort)),
-    }
+    let n = number_at(list).map_err(Refusal::of)?;
+    lay_blocks(&list[n.length..], wide(n.value), blocks, text)
 }
 
 // A refusal, and both rooms all zero.
-fn refuse(refusal: Refusal, blocks: &mut [u32], text: &mut [u8]) -> Answer
-    ensures answer { result ≡ Answer.Refuses refusal }
+fn refuse(refusal: Refusal, blocks: &mut [u32], text: &mut [u8]) -> Result<Counts, Refusal>
+    ensures answer { result ≡ Err refusal }
     ensures block_room { blocks.new ≡ replicate (length blocks.old) 0 }
     ensures text_room { text.new ≡ replicate (length text.old) 0 }
 {
-    clear_from(blocks, 0);
-    clear_bytes_from(text, 0);
-    Answer::Refuses(refusal)
+    clear_from(blocks, 0, 0);
+    clear_from(text, 0, 0);
+    Err(refusal)
 }
 
 // Reads a stored list.
-pub fn read_list(list: &[u8], blocks: &mut [u32], text: &mut [u8]) -> Answer
+pub fn read_list(list: &[u8], blocks: &mut [u32], text: &mut [u8]) -> Result<Counts, Refusal>
     ensures { ReadsList list.now blocks.old text.old result blocks.new text.new }
 {
     let laid = lay_list(list, blocks, text);
     match laid {
-        Laid::Full(refusal) => refuse(refusal, blocks, text),
-        Laid::On(page) => {
+        Err(refusal) => refuse(refusal, blocks, text),
+        Ok(page) => {
             let count = page.blocks;
             let length = page.text;
-            clear_from(blocks, count * BLOCK_WORDS);
-            clear_bytes_from(text, length);
-            Answer::Read(Counts {
+            clear_from(blocks, count * BLOCK_WORDS, 0);
+            clear_from(text, length, 0);
+            Ok(Counts {
                 blocks: count,
                 text: length,
             })
@@ -126,24 +91,9 @@ pub fn read_list(list: &[u8], blocks: &mut [u32], text: &mut [u8]) -> Answer
     }
 }
 
-impl Answer {
-    // 0, or the refusal's number in 01's table.
-    pub fn number(self) -> u32
-        ensures { result ≡ answer_number self }
-    {
-        match self {
-            Answer::Read(_) => 0,
-            Answer::Refuses(refusal) => refusal.number(),
-        }
-    }
-
-    // How many blocks and bytes; zeros on refusal.
-    pub fn counts(self) -> Counts
-        ensures { result ≡ answer_counts self }
-    {
-        match self {
-            Answer::Read(counts) => counts,
-            Answer::Refuses(_) => Counts { blocks: 0, text: 0 },
-        }
-    }
+// How many blocks and bytes; zeros on refusal.
+pub fn counts_of(answer: Result<Counts, Refusal>) -> Counts
+    ensures { result ≡ answer_counts answer }
+{
+    answer.unwrap_or(Counts { blocks: 0, text: 0 })
 }

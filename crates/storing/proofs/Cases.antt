@@ -5,7 +5,7 @@ use mathlib.Core.Bool.{Bool, true, false, ◌&&◌}
 use Prim.Native.Nat.{ℕ}
 use lib.Dec.{eqb}
 use lib.ListN.{length}
-use Rattle.answers.specs.Answers.{outcome_number, outcome_count}
+use Rattle.answers.specs.Answers.{answer_number, outcome_count}
 use Rattle.rooms.specs.Streams.{and_then, ended}
 use Rattle.rooms.specs.Rooms.{filled, encode, settled, content}
 use Rattle.sevens.specs.Sevens.{groups, streamed}
@@ -80,7 +80,7 @@ same_bytes (x ∷ xs) (y ∷ ys) = eqb x y && same_bytes xs ys
 right : Case → Bool
 right c =
     let o = write_answer c.room c.words c.text in
-    (eqb (outcome_number o) c.number && eqb (outcome_count o) (length c.list))
+    (eqb (answer_number o) c.number && eqb (outcome_count o) (length c.list))
     && same_bytes (write_room c.room c.words c.text) (filled c.room c.list)
 
 every : List Case → Bool

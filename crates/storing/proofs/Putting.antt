@@ -12,9 +12,7 @@ use native.Mathlib.Numerals.{add-one}
 use native.Mathlib.Omega.{arith}
 use lib.ListN.{length, get_or, take, drop, length-append, drop_of_length-le}
 use lib.Seq.{drop-cons}
-use Rattle.answers.specs.declared.Outcome.{Outcome}
-use Rattle.answers.specs.declared.Outcome.TheVariants.{Done}
-use Rattle.rooms.specs.Streams.{Stream, end, and_then, by_refusal}
+use Rattle.rooms.specs.Streams.{Stream, end, and_then}
 use Rattle.rooms.specs.Rooms.{Wrote, put}
 use Rattle.rooms.proofs.Rooms.{wrote_none, wrote_then, wrote-more, length-put}
 use Rattle.sevens.specs.Sevens.{written, byte_layout, streamed}
@@ -27,15 +25,15 @@ use Rattle.fields.proofs.Styles.{length-by_place}
 use Rattle.blocks.specs.Pages.{Piece, piece}
 use Rattle.storing.specs.Bytes.{numbers_bytes, numbers_in, block_bytes}
 use Rattle.answers.specs.declared.Refusal.{Refusal}
-use Rattle.rooms.proofs.Streams.{refusal-apart}
+use Rattle.std.specs.Prelude.{Result, Ok}
 
 -- who writes y from place `at` on has then written x from place n on
 abbrev pub Ahead : ℕ → List ℕ → Stream Refusal ℕ → ℕ → List ℕ → Stream Refusal ℕ → Type 0
 Ahead n room₀ x at room y =
-    (r : Outcome) (room' : List ℕ) → Wrote byte_layout by_refusal at room y r room' → Wrote byte_layout by_refusal n room₀ x r room'
+    (r : Result ℕ Refusal) (room' : List ℕ) → Wrote byte_layout at room y r room' → Wrote byte_layout n room₀ x r room'
 
 -- what is written keeps the room's length
-pub wrote-length : {n : ℕ} {room room' : List ℕ} {s : Stream Refusal ℕ} {r : Outcome} → Wrote byte_layout by_refusal n room s r room'
+pub wrote-length : {n : ℕ} {room room' : List ℕ} {s : Stream Refusal ℕ} {r : Result ℕ Refusal} → Wrote byte_layout n room s r room'
     → length room' ≡ length room
 wrote-length w = w.long
 
@@ -55,26 +53,23 @@ pub record Numbers (ws : List ℕ) (n : ℕ) (room₀ room : List ℕ) (at i : �
   pub same : length room ≡ length room₀
   pub left : Ahead n room₀ (streamed (numbers_bytes ws)) at room (streamed (numbers_bytes (drop i ws)))
 
-pub numbers-start : (ws : List ℕ) (n : ℕ) (room : List ℕ) → Numbers ws n room room n 0
-numbers-start ws n room = record { within = omega arith; place = omega arith; same = refl; left = λ r room' w. w }
-
 module _ {ws : List ℕ} {n : ℕ} {room₀ room : List ℕ} {at i : ℕ} (l : Numbers ws n room₀ room at i) where
   pub numbers_more : i < length ws → {at' : ℕ} {room' : List ℕ}
-      → Wrote byte_layout by_refusal at room (streamed (written (get_or ws i 0))) (Done at') room' → Numbers ws n room₀ room' at' (i + 1)
+      → Wrote byte_layout at room (streamed (written (get_or ws i 0))) (Ok at') room' → Numbers ws n room₀ room' at' (i + 1)
   numbers_more h {at'} {room'} w = record {
     within = omega arith;
     place = omega (arith, l.place, place_after (written (get_or ws i 0)) w, written-length (get_or ws i 0));
     same = wrote-length w ∙ l.same;
     left = λ r room'' v. l.left r room''
-        (wrote_then byte_layout refusal-apart (streamed (numbers_bytes (drop (i + 1) ws))) (numbers-cons ws i h) w refl v);
+        (wrote_then byte_layout (streamed (numbers_bytes (drop (i + 1) ws))) (numbers-cons ws i h) w refl v);
   }
 
-  pub numbers-done : length ws ≤ i → Wrote byte_layout by_refusal n room₀ (streamed (numbers_bytes ws)) (Done at) room
+  pub numbers-done : length ws ≤ i → Wrote byte_layout n room₀ (streamed (numbers_bytes ws)) (Ok at) room
   unfolding numbers_bytes streamed
   numbers-done h =
       let e : streamed (numbers_bytes (drop i ws)) ≡ end =
       ap (λ (x : List ℕ). streamed (numbers_bytes x)) (drop_of_length-le ws h) in
-      l.left (Done at) room (wrote_none byte_layout e)
+      l.left (Ok at) room (wrote_none byte_layout e)
 
 pub length-numbers : (ws : List ℕ) → length (numbers_bytes ws) ≤ 5 * length ws
 unfolding numbers_bytes
@@ -90,9 +85,6 @@ pub record Bytes (bs : List ℕ) (n : ℕ) (room₀ room : List ℕ) (at i : ℕ
   pub same : length room ≡ length room₀
   pub left : Ahead n room₀ (streamed bs) at room (streamed (drop i bs))
 
-pub bytes-start : (bs : List ℕ) (n : ℕ) (room : List ℕ) → Bytes bs n room room n 0
-bytes-start bs n room = record { within = omega arith; place = omega arith; same = refl; left = λ r room' w. w }
-
 module _ {bs : List ℕ} {n : ℕ} {room₀ room : List ℕ} {at i : ℕ} (l : Bytes bs n room₀ room at i) where
   pub bytes-more : i < length bs → {room' : List ℕ} → room' ≡ put 1 room at (get_or bs i 0 ∷ [])
       → Bytes bs n room₀ room' (at + 1) (i + 1)
@@ -104,9 +96,9 @@ module _ {bs : List ℕ} {n : ℕ} {room₀ room : List ℕ} {at i : ℕ} (l : B
     left = λ r room'' v. l.left r room'' (wrote-more byte_layout (ap streamed (drop-cons bs i 0 h) ∙ rw (add-one i)) e v);
   }
 
-  pub bytes-done : length bs ≤ i → Wrote byte_layout by_refusal n room₀ (streamed bs) (Done at) room
+  pub bytes-done : length bs ≤ i → Wrote byte_layout n room₀ (streamed bs) (Ok at) room
   unfolding streamed
-  bytes-done h = l.left (Done at) room (wrote_none byte_layout (ap streamed (drop_of_length-le bs h)))
+  bytes-done h = l.left (Ok at) room (wrote_none byte_layout (ap streamed (drop_of_length-le bs h)))
 
 -- ---- a block
 
@@ -121,15 +113,15 @@ length-block x = omega (arith, length-append (numbers_bytes (numbers_in x)) x.by
 
 pub block-wrote : (s : Style) (text ws : List ℕ) → ws ≡ style_numbers s ++ (length text ∷ [])
     → {n at r : ℕ} {room room' room'' : List ℕ}
-    → Wrote byte_layout by_refusal n room (streamed (numbers_bytes ws)) (Done at) room'
-    → Wrote byte_layout by_refusal at room' (streamed text) (Done r) room''
-    → Wrote byte_layout by_refusal n room (streamed (block_bytes (piece s text))) (Done r) room''
+    → Wrote byte_layout n room (streamed (numbers_bytes ws)) (Ok at) room'
+    → Wrote byte_layout at room' (streamed text) (Ok r) room''
+    → Wrote byte_layout n room (streamed (block_bytes (piece s text))) (Ok r) room''
 unfolding block_bytes
 block-wrote s text ws e w v =
-    wrote_then byte_layout refusal-apart (streamed text) (rw (← e) (streamed-append (numbers_bytes ws) text)) w refl v
+    wrote_then byte_layout (streamed text) (rw (← e) (streamed-append (numbers_bytes ws) text)) w refl v
 
 -- the place behind numbers
 pub numbers-place : (ws : List ℕ) {n at : ℕ} {room room' : List ℕ}
-    → Wrote byte_layout by_refusal n room (streamed (numbers_bytes ws)) (Done at) room'
+    → Wrote byte_layout n room (streamed (numbers_bytes ws)) (Ok at) room'
     → at ≤ n + 5 * length ws
 numbers-place ws w = omega (arith, place_after (numbers_bytes ws) w, length-numbers ws)

@@ -2,18 +2,15 @@
 -- and at least one of text, so that the next place is at most 61 times the place in the text, and five more.
 -- Assumes nothing.
 use mathlib.Core.Path.{◌≡◌, refl, sym, ◌∙◌}
-use mathlib.Core.List.{List}
-use mathlib.Core.Bool.{Bool, true, false, not}
-use Prim.Native.Nat.{ℕ, suc, ◌+◌, ◌-◌, ◌*◌, ◌/◌, ◌≤◌, ◌<◌}
+use mathlib.Core.List.{List, ◌++◌}
+use mathlib.Core.Bool.{Bool, true, false}
+use Prim.Native.Nat.{ℕ, ◌+◌, ◌-◌, ◌*◌, ◌/◌, ◌≤◌, ◌<◌}
 use native.Mathlib.Omega.{arith}
-use borrow.Author.Tests.{not-true, not-false, eq-eqb, ne_eqb}
+use borrow.Author.Tests.{eq-eqb, ne_eqb}
 use lib.ListN.{length, take, drop, length-take, length-drop}
-use lib.Seq.{take_all}
 use Rattle.answers.specs.declared.Why.TheVariants.{StoredField}
-use Rattle.answers.specs.declared.Outcome.{Outcome}
-use Rattle.answers.specs.declared.Outcome.TheVariants.{Done, Refused}
 use Rattle.answers.specs.Answers.{refusal}
-use Rattle.rooms.specs.Streams.{Stream, end, stop, and_then, by_refusal}
+use Rattle.rooms.specs.Streams.{Stream, end, stop, and_then}
 use Rattle.rooms.specs.Rooms.{Wrote}
 use Rattle.rooms.proofs.Rooms.{wrote_none, wrote-stop, wrote_then}
 use Rattle.sevens.specs.Sevens.{byte_layout, streamed}
@@ -24,93 +21,88 @@ use Rattle.blocks.specs.Pages.{Piece, piece, Last, none, last, block_words}
 use Rattle.styles.specs.Styles.{style_at}
 use Rattle.storing.specs.Fitting.{length_at, fits}
 use Rattle.storing.proofs.Fitting.{Fit, fits-fit}
+use Rattle.storing.proofs.Fronts.{one_fewer, front-style, front-length, front-fits, front-rest}
 use Rattle.storing.specs.Bytes.{block_bytes}
 use Rattle.storing.proofs.Putting.{Ahead, wrote-length, length-block}
 use Rattle.storing.specs.Lists.{pieces_from, bytes_of}
 use Rattle.answers.specs.declared.Refusal.{Refusal}
-use Rattle.rooms.proofs.Streams.{refusal-apart}
+use Rattle.std.specs.Prelude.{Result, Ok, Err, Option, Some}
 
 -- the bytes of the records that words are
 abbrev pub rows_of : List ℕ → Last → ℕ → List ℕ → Stream Refusal ℕ
 rows_of ws l p tx = bytes_of (pieces_from (length ws / block_words) l p ws tx)
 
-module _ (l : Last) (p : ℕ) (tx ws : List ℕ) where
-  one_fewer : block_words ≤ length ws → length ws / block_words ≡ suc (length (drop block_words ws) / block_words)
-  one_fewer h = simp length-drop (omega arith)
+module _ (l : Last) (p : ℕ) (tx : List ℕ) where
+  module _ (w ws : List ℕ) (n : length w ≡ block_words) where
+    row-bad : fits l p w tx ≡ false → rows_of (w ++ ws) l p tx ≡ stop (refusal StoredField)
+    unfolding pieces_from bytes_of
+    row-bad f = rw (one_fewer w ws n, front-fits w ws n l p tx, f)
 
-  row-bad : block_words ≤ length ws → fits l p ws tx ≡ false → rows_of ws l p tx ≡ stop (refusal StoredField)
-  unfolding pieces_from bytes_of
-  row-bad h f = rw (one_fewer h, f)
+    row-good : fits l p w tx ≡ true
+        → rows_of (w ++ ws) l p tx
+        ≡ and_then (streamed (block_bytes (piece (style_at w) (take (length_at w) (drop p tx)))))
+        (rows_of ws (last (style_at w)) (p + length_at w) tx)
+    unfolding pieces_from bytes_of
+    row-good f = rw (one_fewer w ws n, front-fits w ws n l p tx, f, front-style w ws n, front-length w ws n, front-rest w ws n)
 
-  row-good : block_words ≤ length ws → fits l p ws tx ≡ true
-      → rows_of ws l p tx
-      ≡ and_then (streamed (block_bytes (piece (style_at ws) (take (length_at ws) (drop p tx)))))
-      (rows_of (drop block_words ws) (last (style_at ws)) (p + length_at ws) tx)
-  unfolding pieces_from bytes_of
-  row-good h f = rw (one_fewer h, f)
+  module _ (ws : List ℕ) (h : length ws < block_words) where
+    none_left : length ws / block_words ≡ 0
+    none_left = omega arith
 
-  none_left : length ws < block_words → length ws / block_words ≡ 0
-  none_left h = omega arith
+    rows-rest : (p ≡ length tx → ⊥) → rows_of ws l p tx ≡ stop (refusal StoredField)
+    unfolding pieces_from bytes_of
+    rows-rest f = rw (none_left, ne_eqb p (length tx) f)
 
-  rows-rest : length ws < block_words → (p ≡ length tx → ⊥) → rows_of ws l p tx ≡ stop (refusal StoredField)
-  unfolding pieces_from bytes_of
-  rows-rest h f = rw (none_left h, ne_eqb p (length tx) f)
-
-  rows_end : length ws < block_words → p ≡ length tx → rows_of ws l p tx ≡ end
-  unfolding pieces_from bytes_of
-  rows_end h e = rw (none_left h, eq-eqb p (length tx) e)
+    rows_end : p ≡ length tx → rows_of ws l p tx ≡ end
+    unfolding pieces_from bytes_of
+    rows_end e = rw (none_left, eq-eqb p (length tx) e)
 
 -- ws are the words left, behind p bytes of the text
-pub record Rows (blocks tx : List ℕ) (n : ℕ) (room₀ room ws : List ℕ) (begun : Bool) (before : Style) (p at : ℕ) : Type 0 where
+pub record Rows (blocks tx : List ℕ) (n : ℕ) (room₀ room ws : List ℕ) (before : Option Style) (p at : ℕ) : Type 0 where
   pub within : p ≤ length tx
   pub place : at ≤ 5 + 61 * p
   pub same : length room ≡ length room₀
-  pub left : Ahead n room₀ (rows_of blocks none 0 tx) at room (rows_of ws (last_of begun before) p tx)
+  pub left : Ahead n room₀ (rows_of blocks none 0 tx) at room (rows_of ws (last_of before) p tx)
 
-pub rows_start : (blocks tx : List ℕ) (n : ℕ) (room : List ℕ) (s : Style) → n ≤ 5
-    → Rows blocks tx n room room blocks false s 0 n
-rows_start blocks tx n room s h = record { within = omega arith; place = omega arith; same = refl; left = λ r room' w. w }
+module _ {blocks tx : List ℕ} {n : ℕ} {room₀ room ws : List ℕ} {before : Option Style} {p at : ℕ}
+    (l : Rows blocks tx n room₀ room ws before p at) where
+  stops : rows_of ws (last_of before) p tx ≡ stop (refusal StoredField) → {r : Result ℕ Refusal} → r ≡ Err (refusal StoredField)
+      → Wrote byte_layout n room₀ (rows_of blocks none 0 tx) r room
+  stops e q = rw q (l.left (Err (refusal StoredField)) room (wrote-stop byte_layout e refl))
 
-module _ {blocks tx : List ℕ} {n : ℕ} {room₀ room ws : List ℕ} {begun : Bool} {before : Style} {p at : ℕ}
-    (l : Rows blocks tx n room₀ room ws begun before p at) where
-  stops : rows_of ws (last_of begun before) p tx ≡ stop (refusal StoredField) → {r : Outcome} → r ≡ Refused (refusal StoredField)
-      → Wrote byte_layout by_refusal n room₀ (rows_of blocks none 0 tx) r room
-  stops e q = rw q (l.left (Refused (refusal StoredField)) room (wrote-stop byte_layout e refl))
+  pub rows-over : length ws < block_words → p < length tx → {r : Result ℕ Refusal} → r ≡ Err (refusal StoredField)
+      → Wrote byte_layout n room₀ (rows_of blocks none 0 tx) r room
+  rows-over h f q = stops (rows-rest (last_of before) p tx ws h (λ e. omega arith)) q
 
-  pub rows-stop : block_words ≤ length ws → {a : Bool} {r : Outcome} → a ≡ fits (last_of begun before) p ws tx → not a ≡ true
-      → r ≡ Refused (refusal StoredField)
-      → Wrote byte_layout by_refusal n room₀ (rows_of blocks none 0 tx) r room
-  rows-stop h {a} e t q = stops (row-bad (last_of begun before) p tx ws h (sym e ∙ not-true a t)) q
-
-  pub rows-over : length ws < block_words → p < length tx → {r : Outcome} → r ≡ Refused (refusal StoredField)
-      → Wrote byte_layout by_refusal n room₀ (rows_of blocks none 0 tx) r room
-  rows-over h f q = stops (rows-rest (last_of begun before) p tx ws h (λ e. omega arith)) q
-
-  pub rows-done : length ws < block_words → length tx ≤ p → Wrote byte_layout by_refusal n room₀ (rows_of blocks none 0 tx) (Done at) room
+  pub rows-done : length ws < block_words → length tx ≤ p → Wrote byte_layout n room₀ (rows_of blocks none 0 tx) (Ok at) room
   rows-done h e =
       let q : p ≡ length tx = omega (arith, l.within) in
-      l.left (Done at) room (wrote_none byte_layout (rows_end (last_of begun before) p tx ws h q))
+      l.left (Ok at) room (wrote_none byte_layout (rows_end (last_of before) p tx ws h q))
 
-  module _ (h : block_words ≤ length ws) {a : Bool} (e : a ≡ fits (last_of begun before) p ws tx) (t : not a ≡ false) where
-    pub row-fit : Fit (last_of begun before) p ws tx
-    row-fit = fits-fit (last_of begun before) p ws tx (sym e ∙ not-false a t)
+-- the next record
+module _ (w ws : List ℕ) {blocks tx : List ℕ} {n : ℕ} {room₀ room : List ℕ} {before : Option Style} {p at : ℕ}
+    (l : Rows blocks tx n room₀ room (w ++ ws) before p at) (k : length w ≡ block_words) {a : Bool} (e : a ≡ fits (last_of before) p w tx) where
+  pub rows-stop : a ≡ false → {r : Result ℕ Refusal} → r ≡ Err (refusal StoredField) → Wrote byte_layout n room₀ (rows_of blocks none 0 tx) r room
+  rows-stop t q = stops l (row-bad (last_of before) p tx w ws k (sym e ∙ t)) q
 
-    pub rows_more : {s : Style} {count : ℕ} → s ≡ style_at ws → count ≡ length_at ws → {at' : ℕ} {room' : List ℕ}
-        → Wrote byte_layout by_refusal at room (streamed (block_bytes (piece s (take (p + count - p) (drop p tx))))) (Done at') room'
-        → Rows blocks tx n room₀ room' (take (length ws - block_words) (drop block_words ws)) true s (p + count) at'
-    rows_more {s} {count} es ec {at'} {room'} w =
-        let k : p + count - p ≡ length_at ws = omega arith in
+  module _ (t : a ≡ true) where
+    pub row-fit : Fit (last_of before) p w tx
+    row-fit = fits-fit (last_of before) p w tx (sym e ∙ t)
+
+    pub rows_more : {s : Style} {count : ℕ} → s ≡ style_at w → count ≡ length_at w → {at' : ℕ} {room' : List ℕ}
+        → Wrote byte_layout at room (streamed (block_bytes (piece s (take (p + count - p) (drop p tx))))) (Ok at') room'
+        → Rows blocks tx n room₀ room' ws (Some s) (p + count) at'
+    rows_more {s} {count} es ec {at'} {room'} v =
+        let i : p + count - p ≡ length_at w = omega arith in
         let x : Piece = piece s (take (p + count - p) (drop p tx)) in
         let f = row-fit in
         let z : length x.bytes ≡ count = simp (length-take, length-drop) (omega (arith, f.within)) in
-        let d : take (length ws - block_words) (drop block_words ws) ≡ drop block_words ws =
-        take_all (length ws - block_words) (drop block_words ws) (simp length-drop (omega arith)) in
-        let next : Stream Refusal ℕ = rows_of (take (length ws - block_words) (drop block_words ws)) (last s) (p + count) tx in
-        let c : rows_of ws (last_of begun before) p tx ≡ and_then (streamed (block_bytes x)) next =
-        row-good (last_of begun before) p tx ws h (sym e ∙ not-false a t) ∙ rw (k, es, ec, d) in
+        let next : Stream Refusal ℕ = rows_of ws (last s) (p + count) tx in
+        let c : rows_of (w ++ ws) (last_of before) p tx ≡ and_then (streamed (block_bytes x)) next =
+        row-good (last_of before) p tx w ws k (sym e ∙ t) ∙ rw (i, es, ec) in
         record {
           within = omega (arith, l.within, f.within);
-          place = omega (arith, l.place, f.some, place_after (block_bytes x) w, length-block x);
-          same = wrote-length w ∙ l.same;
-          left = λ r room'' v. l.left r room'' (wrote_then byte_layout refusal-apart next c w refl v);
+          place = omega (arith, l.place, f.some, place_after (block_bytes x) v, length-block x);
+          same = wrote-length v ∙ l.same;
+          left = λ r room'' u. l.left r room'' (wrote_then byte_layout next c v refl u);
         }

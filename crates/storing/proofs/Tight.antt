@@ -3,9 +3,10 @@
 use mathlib.Core.Path.{◌≡◌, sym, ◌∙◌}
 use mathlib.Core.List.{List}
 use Prim.Native.Nat.{ℕ}
-use Rattle.answers.specs.declared.Outcome.{Outcome}
 use Rattle.storing.specs.Storing.{WritesList}
+use Rattle.std.specs.Prelude.{Result}
+use Rattle.answers.specs.declared.Refusal.{Refusal}
 
-pub write-list-tight : {blocks text room : List ℕ} {r q : Outcome} {a b : List ℕ} → WritesList blocks text room r a → WritesList blocks text room q b
+pub write-list-tight : {blocks text room : List ℕ} {r q : Result ℕ Refusal} {a b : List ℕ} → WritesList blocks text room r a → WritesList blocks text room q b
     → (r ≡ q) × (a ≡ b)
 write-list-tight x y = (x.answer ∙ sym y.answer, x.content ∙ sym y.content)

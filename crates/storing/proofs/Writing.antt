@@ -15,12 +15,11 @@ use lib.ListN.{length, get_or, take, drop, length-append, length-take, length-dr
 use lib.Seq.{take_at, drop_at, drop-drop, drop-cons, drop-length}
 use lib.Dec.{leb, ltb, eqb}
 use Rattle.answers.specs.declared.Why.TheVariants.{StoredField, OutputRoom, IndentNotZero}
-use Rattle.answers.specs.declared.Outcome.TheVariants.{Done, Refused}
 use Rattle.answers.specs.Answers.{refusal}
 use Rattle.classes.proofs.Runs.{and_left, and_right}
 use Rattle.rooms.specs.Streams.{Stream, end, stop, and_then, answer, ended}
 use Rattle.rooms.specs.Rooms.{filled, settled, content}
-use Rattle.rooms.proofs.Streams.{answer-then, done_refused}
+use Rattle.rooms.proofs.Streams.{answer-then, ok_err}
 use Rattle.rooms.proofs.Rooms.{settled-fits}
 use Rattle.sevens.specs.Sevens.{written, byte_layout, streamed}
 use Rattle.sevens.proofs.Streamed.{answer-streamed, streamed-append, encode-streamed}
@@ -37,6 +36,7 @@ use Rattle.storing.proofs.Lists.{list-is}
 use Rattle.storing.specs.Storing.{indented, list_answer, write_answer, write_room}
 use Rattle.storing.specs.Good.{Good, Flat}
 use Rattle.answers.specs.declared.Refusal.{Refusal}
+use Rattle.std.specs.Prelude.{Ok, Err}
 
 -- ---- good blocks
 
@@ -88,9 +88,9 @@ module _ (k : ℕ) (l : Last) (p : ℕ) (ws tx : List ℕ) where
   unfolding pieces_from bytes_of
   row_more f = rw f
 
-  row-stop : fits l p ws tx ≡ false → (m n : ℕ) → answer m (bytes_of (pieces_from (suc k) l p ws tx)) ≡ Done n → ⊥
+  row-stop : fits l p ws tx ≡ false → (m n : ℕ) → answer m (bytes_of (pieces_from (suc k) l p ws tx)) ≡ Ok n → ⊥
   unfolding pieces_from bytes_of ended
-  row-stop f m n e = done_refused (sym (rw f at e))
+  row-stop f m n e = ok_err (sym (rw f at e))
 
 blocks-cons : (x : Piece) (xs : List Piece)
     → and_then (streamed (block_bytes x)) (streamed (blocks_bytes xs)) ≡ streamed (blocks_bytes (x ∷ xs))
@@ -191,16 +191,16 @@ no_words [] h = refl
 no_words (w ∷ ws) h = absurd (omega arith)
 
 rows_none : (l : Last) (p : ℕ) (ws tx : List ℕ) (m n : ℕ) → length ws ≡ 0
-    → answer m (bytes_of (pieces_from 0 l p ws tx)) ≡ Done n → Rows 0 l p ws tx
+    → answer m (bytes_of (pieces_from 0 l p ws tx)) ≡ Ok n → Rows 0 l p ws tx
 unfolding pieces_from bytes_of ended records text_of Good blocks_bytes streamed
 rows_none l p ws tx m n z = go (eqb p (length tx)) refl
   where
-    go : (t : Bool) → eqb p (length tx) ≡ t → answer m (bytes_of (cond t end (stop (refusal StoredField)))) ≡ Done n
+    go : (t : Bool) → eqb p (length tx) ≡ t → answer m (bytes_of (cond t end (stop (refusal StoredField)))) ≡ Ok n
         → Rows 0 l p ws tx
     go true e a =
         let q : p ≡ length tx = eqb-true p (length tx) e in
         ([], refl, no_words ws z, rw q (drop-length tx), refl, rw e)
-    go false e a = absurd (done_refused (sym a))
+    go false e a = absurd (ok_err (sym a))
 
 rows-some : (k : ℕ) (l : Last) (p : ℕ) (ws tx : List ℕ) → length ws ≡ suc k * block_words → fits l p ws tx ≡ true
     → Rows k (last (style_at ws)) (p + length_at ws) (drop block_words ws) tx → Rows (suc k) l p ws tx
@@ -234,38 +234,38 @@ rows-some k l p ws tx z f q =
     )
 
 rows-ends : (k : ℕ) (l : Last) (p : ℕ) (ws tx : List ℕ) (m n : ℕ) → length ws ≡ k * block_words
-    → answer m (bytes_of (pieces_from k l p ws tx)) ≡ Done n → Rows k l p ws tx
+    → answer m (bytes_of (pieces_from k l p ws tx)) ≡ Ok n → Rows k l p ws tx
 rows-ends zero l p ws tx m n z a = rows_none l p ws tx m n (omega arith) a
 rows-ends (suc k) l p ws tx m n z a =
     go (fits l p ws tx) refl (rows-ends k (last (style_at ws)) (p + length_at ws) (drop block_words ws) tx)
   where
     go : (t : Bool) → fits l p ws tx ≡ t
         → ((m n : ℕ) → length (drop block_words ws) ≡ k * block_words
-        → answer m (bytes_of (pieces_from k (last (style_at ws)) (p + length_at ws) (drop block_words ws) tx)) ≡ Done n
+        → answer m (bytes_of (pieces_from k (last (style_at ws)) (p + length_at ws) (drop block_words ws) tx)) ≡ Ok n
         → Rows k (last (style_at ws)) (p + length_at ws) (drop block_words ws) tx)
         → Rows (suc k) l p ws tx
     go true f ih =
         let b : List ℕ = block_bytes (piece (style_at ws) (take (length_at ws) (drop p tx))) in
         let s : Stream Refusal ℕ = bytes_of (pieces_from k (last (style_at ws)) (p + length_at ws) (drop block_words ws) tx) in
-        let e : answer (m + length b) s ≡ Done n =
+        let e : answer (m + length b) s ≡ Ok n =
         sym (answer-then s (streamed b) m (m + length b) (answer-streamed b m))
         ∙ ap (answer m) (sym (row_more k l p ws tx f))
         ∙ a in
         rows-some k l p ws tx z f (ih (m + length b) n (simp length-drop (omega arith)) e)
     go false f ih = absurd (row-stop k l p ws tx f m n a)
 
-list-whole : (ws tx : List ℕ) {n : ℕ} → answer 0 (list_stream ws tx) ≡ Done n → whole ws ≡ true
+list-whole : (ws tx : List ℕ) {n : ℕ} → answer 0 (list_stream ws tx) ≡ Ok n → whole ws ≡ true
 unfolding list_stream ended
 list-whole ws tx {n} = go (whole ws)
   where
     go : (t : Bool)
         → answer 0 (cond t (and_then (streamed (written (length ws / block_words))) (bytes_of (pieces_from (length ws / block_words) none 0 ws tx)))
-        (stop (refusal StoredField))) ≡ Done n
+        (stop (refusal StoredField))) ≡ Ok n
         → t ≡ true
     go true a = refl
-    go false a = absurd (done_refused (sym a))
+    go false a = absurd (ok_err (sym a))
 
-pub stream-ends : (ws tx : List ℕ) {n : ℕ} → answer 0 (list_stream ws tx) ≡ Done n
+pub stream-ends : (ws tx : List ℕ) {n : ℕ} → answer 0 (list_stream ws tx) ≡ Ok n
     → (xs : List Piece) × (Good none xs ≡ true) × (ws ≡ records 0 xs) × (tx ≡ text_of xs) × (length xs < 4294967296)
     × (list_stream ws tx ≡ streamed (list_bytes xs))
 stream-ends ws tx {n} a =
@@ -273,7 +273,7 @@ stream-ends ws tx {n} a =
     let m : ℕ = 0 + length (written k) in
     let w : whole ws ≡ true = list-whole ws tx a in
     let s : Stream Refusal ℕ = bytes_of (pieces_from k none 0 ws tx) in
-    let b : answer m s ≡ Done n =
+    let b : answer m s ≡ Ok n =
     sym (answer-then s (streamed (written k)) 0 m (answer-streamed (written k) 0))
     ∙ ap (answer 0) (sym (list-is ws tx w))
     ∙ a in
@@ -315,28 +315,28 @@ indented-records (x ∷ xs) p =
 -- ---- the answer and the room
 
 module _ (xs : List Piece) (h : Good none xs ≡ true) (s : length (text_of xs) ≤ 2147483647) where
-  list-stream : answer 0 (list_stream (records 0 xs) (text_of xs)) ≡ Done (length (list_bytes xs))
+  list-stream : answer 0 (list_stream (records 0 xs) (text_of xs)) ≡ Ok (length (list_bytes xs))
   list-stream =
       let z : 0 + length (list_bytes xs) ≡ length (list_bytes xs) = omega arith in
-      ap (answer 0) (stream-good xs h s) ∙ answer-streamed (list_bytes xs) 0 ∙ ap Done z
+      ap (answer 0) (stream-good xs h s) ∙ answer-streamed (list_bytes xs) 0 ∙ ap Ok z
 
   list-indents : indented (length (records 0 xs) / block_words) (records 0 xs) ≡ not (Flat xs)
   list-indents =
       let n : length (records 0 xs) / block_words ≡ length xs = omega (arith, length-records xs 0) in
       rw n (indented-records xs 0)
 
-  pub good-list : Flat xs ≡ true → list_answer (records 0 xs) (text_of xs) ≡ Done (length (list_bytes xs))
+  pub good-list : Flat xs ≡ true → list_answer (records 0 xs) (text_of xs) ≡ Ok (length (list_bytes xs))
   unfolding list_answer
   good-list g = rw (list-indents, g, list-stream)
 
   -- "its writer refuses a list that has one", whatever the room
-  pub write-indent : Flat xs ≡ false → (total : ℕ) → write_answer total (records 0 xs) (text_of xs) ≡ Refused (refusal IndentNotZero)
+  pub write-indent : Flat xs ≡ false → (total : ℕ) → write_answer total (records 0 xs) (text_of xs) ≡ Err (refusal IndentNotZero)
   unfolding write_answer list_answer settled
   write-indent g total = rw (list-indents, g, list-stream)
 
 module _ (xs : List Piece) (total : ℕ) (h : Good none xs ≡ true) (g : Flat xs ≡ true) (s : length (text_of xs) ≤ 2147483647)
     (f : length (list_bytes xs) ≤ total) where
-  good-answer : write_answer total (records 0 xs) (text_of xs) ≡ Done (length (list_bytes xs))
+  good-answer : write_answer total (records 0 xs) (text_of xs) ≡ Ok (length (list_bytes xs))
   unfolding write_answer
   good-answer = rw (good-list xs h s g) (settled-fits byte_layout (refusal OutputRoom) total (length (list_bytes xs)) (omega arith))
 
@@ -344,6 +344,6 @@ module _ (xs : List Piece) (total : ℕ) (h : Good none xs ≡ true) (g : Flat x
   unfolding write_room content
   good-room = rw (good-answer, stream-good xs h s, encode-streamed (list_bytes xs))
 
-  pub write-good : (write_answer total (records 0 xs) (text_of xs) ≡ Done (length (list_bytes xs)))
+  pub write-good : (write_answer total (records 0 xs) (text_of xs) ≡ Ok (length (list_bytes xs)))
       × (write_room total (records 0 xs) (text_of xs) ≡ filled total (list_bytes xs))
   write-good = (good-answer, good-room)

@@ -11,9 +11,7 @@ ghost use Rattle.sevens.specs.Sevens.{byte_layout, streamed};
 ghost use Rattle.fields.specs.Fields.{block_numbers};
 ghost use Rattle.blocks.specs.Pages.{piece};
 ghost use Rattle.storing.specs.Bytes.{numbers_bytes, block_bytes};
-ghost use Rattle.rooms.specs.Streams.{by_refusal};
 
-use answers::Outcome;
 use fields::{BLOCK_NUMBERS, numbers_of};
 use sevens::{put_byte, put_number};
 use styles::{BARE_WORDS, Style};
@@ -21,15 +19,12 @@ use styles::{BARE_WORDS, Style};
 // Numbers one after the other from place n of a room on. The next place.
 fn put_numbers(words: &[u32], room: &mut [u8], n: usize) -> usize
     requires { (length words.now ≤ block_numbers) × (n ≤ 4611686018427387904) }
-    ensures { Wrote byte_layout by_refusal n room.old (streamed (numbers_bytes words.now)) (Outcome.Done result)
+    ensures { Wrote byte_layout n room.old (streamed (numbers_bytes words.now)) (Ok result)
         room.new }
 {
     let mut at = n;
-    let mut i: usize = 0;
-    while i < words.len() {
-        let v = words[i];
-        at = put_number(v, room, at);
-        i += 1;
+    for v in words {
+        at = put_number(*v, room, at);
     }
     at
 }
@@ -37,16 +32,13 @@ fn put_numbers(words: &[u32], room: &mut [u8], n: usize) -> usize
 // Bytes from place n of a room on. The next place.
 fn put_bytes(bytes: &[u8], room: &mut [u8], n: usize) -> usize
     requires { n ≤ 4611686018427387904 }
-    ensures { Wrote byte_layout by_refusal n room.old (streamed bytes.now) (Outcome.Done result)
+    ensures { Wrote byte_layout n room.old (streamed bytes.now) (Ok result)
         room.new }
 {
     let mut at = n;
-    let mut i: usize = 0;
-    while i < bytes.len() {
-        let b = bytes[i];
-        put_byte(room, at, b);
+    for b in bytes {
+        put_byte(room, at, *b);
         at += 1;
-        i += 1;
     }
     at
 }
@@ -54,8 +46,8 @@ fn put_bytes(bytes: &[u8], room: &mut [u8], n: usize) -> usize
 // A block from place n of a room on: its numbers, then its text. The next place.
 pub fn put_block(s: Style, text: &[u8], room: &mut [u8], n: usize) -> usize
     requires { (length text.now < 4294967296) × (n ≤ 1152921504606846976) }
-    ensures { Wrote byte_layout by_refusal n room.old (streamed (block_bytes (piece s text.now)))
-        (Outcome.Done result) room.new }
+    ensures { Wrote byte_layout n room.old (streamed (block_bytes (piece s text.now)))
+        (Ok result) room.new }
 {
     let mut numbers = numbers_of(s);
     numbers[BARE_WORDS] = text.len() as u32;

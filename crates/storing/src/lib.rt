@@ -20,59 +20,54 @@ ghost use Rattle.blocks.specs.Pages.{block_words};
 ghost use Rattle.storing.specs.Storing.{indented, unless_indented, WritesList};
 
 use crate::list::put_list;
-use answers::{Outcome, Refusal, Why};
+use answers::{Refusal, Why, count_of};
 use blocks::BLOCK_WORDS;
-use rooms::clear_bytes_from;
+use rooms::clear_from;
 use styles::{Style, is_flush};
 
 // Whether a block has an indent.
 fn has_indent(blocks: &[u32]) -> bool
     ensures { result ≡ indented (length blocks.now / block_words) blocks.now }
 {
-    let mut words = blocks;
-    while BLOCK_WORDS <= words.len() {
+    for words in blocks.chunks_exact(BLOCK_WORDS) {
         let s = Style::at(words);
         if !is_flush(s) {
             return true;
         }
-        words = &words[BLOCK_WORDS..];
     }
     false
 }
 
 // 26, where blocks that may be stored have an indent.
-fn unindented(outcome: Outcome, blocks: &[u32]) -> Outcome
+fn unindented(outcome: Result<usize, Refusal>, blocks: &[u32]) -> Result<usize, Refusal>
     ensures { result ≡ unless_indented (indented (length blocks.now / block_words) blocks.now) outcome }
 {
-    match outcome {
-        Outcome::Refused(refusal) => Outcome::Refused(refusal),
-        Outcome::Done(n) => {
-            if has_indent(blocks) {
-                return Outcome::Refused(Refusal::of(Why::IndentNotZero));
-            }
-            Outcome::Done(n)
-        }
+    let n = outcome?;
+    if has_indent(blocks) {
+        return Err(Refusal::of(Why::IndentNotZero));
     }
+    Ok(n)
 }
 
 // 25, where more was written than the room's total.
-fn settle(outcome: Outcome, total: usize) -> Outcome
+fn settle(outcome: Result<usize, Refusal>, total: usize) -> Result<usize, Refusal>
     ensures { result ≡ settled byte_layout (refusal Why.OutputRoom) total outcome }
 {
-    if outcome.count() <= total {
-        return outcome;
+    let n = outcome?;
+    if n <= total {
+        return Ok(n);
     }
-    Outcome::Refused(Refusal::of(Why::OutputRoom))
+    Err(Refusal::of(Why::OutputRoom))
 }
 
 // Writes blocks and their text as a stored list.
-pub fn write_list(blocks: &[u32], text: &[u8], room: &mut [u8]) -> Outcome
+pub fn write_list(blocks: &[u32], text: &[u8], room: &mut [u8]) -> Result<usize, Refusal>
     ensures { WritesList blocks.now text.now room.old result room.new }
 {
     let outcome = put_list(blocks, text, room);
     let bare = unindented(outcome, blocks);
     let answer = settle(bare, room.len());
-    let count = answer.count();
-    clear_bytes_from(room, count);
+    let count = count_of(answer);
+    clear_from(room, count, 0);
     answer
 }

@@ -10,55 +10,51 @@ ghost use Rattle.rooms.specs.Rooms.{Wrote};
 ghost use Rattle.sevens.specs.Sevens.{byte_layout};
 ghost use Rattle.blocks.specs.Pages.{none, block_words};
 ghost use Rattle.storing.specs.Lists.{pieces_from, bytes_of, list_stream};
-ghost use Rattle.rooms.specs.Streams.{by_refusal};
 
 use crate::block::put_block;
 use crate::record::fits;
-use answers::{Outcome, Refusal, Why};
+use answers::{Refusal, Why};
 use blocks::{BLOCK_WORDS, TEXT_LENGTH};
 use rooms::wide;
 use sevens::put_number;
 use styles::Style;
 
 // 24, for words or a text that cannot be stored.
-fn unfit() -> Outcome
-    ensures { result ≡ Outcome.Refused (refusal Why.StoredField) }
+fn unfit() -> Result<usize, Refusal>
+    ensures { result ≡ Err (refusal Why.StoredField) }
 {
-    Outcome::Refused(Refusal::of(Why::StoredField))
+    Err(Refusal::of(Why::StoredField))
 }
 
 // The blocks of all records. The next place, if their text is the whole text.
-fn put_blocks(blocks: &[u32], text: &[u8], room: &mut [u8], n: usize) -> Outcome
+fn put_blocks(blocks: &[u32], text: &[u8], room: &mut [u8], n: usize) -> Result<usize, Refusal>
     requires { n ≤ 5 }
-    ensures { Wrote byte_layout by_refusal n room.old
+    ensures { Wrote byte_layout n room.old
         (bytes_of (pieces_from (length blocks.now / block_words) none 0 blocks.now text.now))
         result room.new }
 {
-    let mut words = blocks;
-    let mut begun = false;
-    let mut before = Style::blank();
+    let mut before = None;
     let mut p: usize = 0;
     let mut at = n;
-    while BLOCK_WORDS <= words.len() {
-        if !fits(begun, before, p, words, text) {
+    for words in blocks.chunks_exact(BLOCK_WORDS) {
+        if !fits(before, p, words, text) {
             return unfit();
         }
-        before = Style::at(words);
-        begun = true;
+        let style = Style::at(words);
         let end = p + wide(words[TEXT_LENGTH]);
-        at = put_block(before, &text[p..end], room, at);
+        at = put_block(style, &text[p..end], room, at);
+        before = Some(style);
         p = end;
-        words = &words[BLOCK_WORDS..];
     }
     if p < text.len() {
         return unfit();
     }
-    Outcome::Done(at)
+    Ok(at)
 }
 
 // The whole list, from the start of a room on.
-pub fn put_list(blocks: &[u32], text: &[u8], room: &mut [u8]) -> Outcome
-    ensures { Wrote byte_layout by_refusal 0 room.old (list_stream blocks.now text.now) result
+pub fn put_list(blocks: &[u32], text: &[u8], room: &mut [u8]) -> Result<usize, Refusal>
+    ensures { Wrote byte_layout 0 room.old (list_stream blocks.now text.now) result
         room.new }
 {
     let count = blocks.len() / BLOCK_WORDS;

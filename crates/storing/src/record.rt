@@ -14,17 +14,17 @@ use rooms::wide;
 use styles::Style;
 use wellformed::is_utf8;
 
-// Whether words start with the record of a block that may stand where p bytes of the text came before. `begun` says whether
-// there is a block before, of the style `before`.
-pub fn fits(begun: bool, before: Style, p: usize, words: &[u32], text: &[u8]) -> bool
+// Whether words start with the record of a block that may stand where p bytes of the text came before. `before` is the
+// style of the block before, if there is one.
+pub fn fits(before: Option<Style>, p: usize, words: &[u32], text: &[u8]) -> bool
     requires { (block_words ≤ length words.now) × (p ≤ length text.now) }
-    ensures { result ≡ fits_of (last_of begun before) p words.now text.now }
+    ensures { result ≡ fits_of (last_of before) p words.now text.now }
 {
     let s = Style::at(words);
     let place = wide(words[TEXT_PLACE]);
     let count = wide(words[TEXT_LENGTH]);
     let signs = (place <= 2147483647) & (count <= 2147483647);
-    if !(in_range(s) & (signs & ((0 < count) & (follows(begun, before, s) & (place == p))))) {
+    if !(in_range(s) & (signs & ((0 < count) & (follows(before, s) & (place == p))))) {
         return false;
     }
     if text.len() - p < count {

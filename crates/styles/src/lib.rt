@@ -17,7 +17,7 @@ pub const BARE_WORDS: usize = 11;
 
 // Colour and font by key; the size in half points; flags as a sum of bits; the space between lines: kind 0 automatic, 1 the
 // value `line`; the indents left, right and of the first line.
-#[derive(Clone, Copy)]
+#[derive(Clone, Copy, Default, PartialEq, Eq)]
 pub struct Style {
     pub colour: u32,
     pub font: u32,
@@ -40,8 +40,7 @@ impl Style {
     pub fn blank() -> Style
         ensures { result ≡ no_style }
     {
-        let zeros = [0u32; STYLE_WORDS];
-        Style::at(&zeros)
+        Style::default()
     }
 
     // Its words, in the record's order.
@@ -66,7 +65,7 @@ impl Style {
         ]
     }
 
-    // The style that words start with.
+    // The style that words start with. No `From`: it takes longer slices too, and not shorter ones.
     pub fn at(words: &[u32]) -> Style
         requires { style_width ≤ length words.now }
         ensures { result ≡ style_at words.now }
@@ -94,20 +93,7 @@ impl Style {
 pub fn same_style(a: Style, b: Style) -> bool
     ensures { result ≡ same_style a b }
 {
-    (a.colour == b.colour)
-        & ((a.font == b.font)
-            & ((a.size == b.size)
-                & ((a.flags == b.flags)
-                    & ((a.alignment == b.alignment)
-                        & ((a.before == b.before)
-                            & ((a.after == b.after)
-                                & ((a.kind == b.kind)
-                                    & ((a.line == b.line)
-                                        & ((a.multiplier == b.multiplier)
-                                            & ((a.tab == b.tab)
-                                                & ((a.left == b.left)
-                                                    & ((a.right == b.right)
-                                                        & (a.first == b.first)))))))))))))
+    a == b
 }
 
 // Whether no indent is set.

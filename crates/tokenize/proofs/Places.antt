@@ -12,18 +12,16 @@ use lib.ListN.{length, take, drop, length-take, length-drop, take-append-drop}
 use lib.Dec.{eqb, ltb}
 use Rattle.classes.specs.declared.Class.TheVariants.{White, WordEnd, InWord, Space, Numeral}
 use Rattle.classes.specs.Bytes.{is_letter, in_class, lead, body}
-use Rattle.numbers.specs.declared.Number.{Number}
-use Rattle.numbers.specs.declared.Number.TheVariants.{Is, Bad}
 use Rattle.numbers.specs.Numbers.{hex_pair, decimal}
 use Rattle.numbers.proofs.Numbers.{hex-pair-small, decimal-small}
 use Rattle.rooms.specs.Streams.{and_then}
 use Rattle.rooms.proofs.Streams.{Each, Each-then, Each-weaken, Each-either}
-use Rattle.tokens.specs.declared.Property.TheVariants.{None}
 use Rattle.readings.specs.declared.Reading.{Reading}
 use Rattle.readings.specs.declared.Reading.TheVariants.{Plain, Paragraphs, Standard}
 pub use Rattle.controls.proofs.Places.{At, at_after, at_before, Small, Stands, stands_after, stands-before}
 use Rattle.controls.proofs.Places.{at_back, shown-stands, numbered-stands}
 use Rattle.tokenize.specs.Tokenize.{is_mark, is_escape, mark, plain, hex_value, hex_escape, line_break_and, named, bare_length, word_tail, word, other, behind_feed, returned, other_by, escaped, tokens}
+use Rattle.std.specs.Prelude.{Option, Some, None}
 
 mark-stands : (b : ℕ) (s : List ℕ) (p : ℕ) → Each (Stands s p) (mark b)
 unfolding mark
@@ -41,9 +39,9 @@ module _ (p : ℕ) where
   hex-stands b (c ∷ []) = tt
   hex-stands b (c ∷ d ∷ s) = go (hex_pair c d) refl
     where
-      go : (n : Number) → hex_pair c d ≡ n → Each (Stands (92 ∷ b ∷ c ∷ d ∷ s) p) (hex_value n (plain (p + 4) s))
-      go (Is v) e = ((omega arith, omega (arith, hex-pair-small c d v e)), plain-stands (92 ∷ b ∷ c ∷ d ∷ []) s (p + 4) (omega arith))
-      go Bad e = tt
+      go : (n : Option ℕ) → hex_pair c d ≡ n → Each (Stands (92 ∷ b ∷ c ∷ d ∷ s) p) (hex_value n (plain (p + 4) s))
+      go (Some v) e = ((omega arith, omega (arith, hex-pair-small c d v e)), plain-stands (92 ∷ b ∷ c ∷ d ∷ []) s (p + 4) (omega arith))
+      go None e = tt
 
   named-stands : (w y : List ℕ) → Each (Stands (92 ∷ (w ++ y)) p) (named p w)
   unfolding named

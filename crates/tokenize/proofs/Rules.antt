@@ -12,17 +12,15 @@ use lib.Dec.{eqb}
 use Rattle.answers.specs.declared.Why.TheVariants.{HexShort, HexBad}
 use Rattle.classes.specs.declared.Class.TheVariants.{White, WordEnd, InWord, Space, Numeral}
 use Rattle.classes.specs.Bytes.{is_letter, in_class, lead, body}
-use Rattle.numbers.specs.declared.Number.{Number}
-use Rattle.numbers.specs.declared.Number.TheVariants.{Is, Bad}
 use Rattle.numbers.specs.Numbers.{hex_pair, decimal}
 use Rattle.readings.specs.declared.Reading.{Reading}
 use Rattle.readings.specs.declared.Reading.TheVariants.{Plain, Paragraphs, Standard}
 use Rattle.rooms.specs.Streams.{Stream, end, stop, ◌▸◌, and_then}
-use Rattle.tokens.specs.declared.Property.TheVariants.{None, Value}
 use Rattle.tokens.specs.Tokens.{Shown}
 use Rattle.controls.specs.Controls.{shown_word, numbered}
 use Rattle.tokenize.specs.Tokenize.{is_mark, is_escape, mark, plain, hex_value, hex_escape, line_break_and, named, bare_length, word_tail, word, other, behind_feed, returned, other_by, escaped, tokens}
 use Rattle.answers.specs.declared.Why.{Why}
+use Rattle.std.specs.Prelude.{Option, Some, None}
 
 -- the bytes from a place on, as the code has them
 abbrev pub part : ℕ → List ℕ → List ℕ
@@ -116,14 +114,14 @@ module _ (p : ℕ) where
   hex-at (a ∷ []) h = absurd (omega arith)
   hex-at (a ∷ b ∷ s) h = rw (part-drop 2 (a ∷ b ∷ s))
 
-  module _ (s : List ℕ) (h : 2 ≤ length s) (r : Number) (q : r ≡ hex_pair (get_or s 0 0) (get_or s 1 0)) where
-    pub hex-bad : r ≡ Bad → hex_escape p s ≡ stop HexBad
+  module _ (s : List ℕ) (h : 2 ≤ length s) (r : Option ℕ) (q : r ≡ hex_pair (get_or s 0 0) (get_or s 1 0)) where
+    pub hex-bad : r ≡ None → hex_escape p s ≡ stop HexBad
     unfolding hex_value
-    hex-bad b = hex-at s h ∙ ap (λ (v : Number). hex_value v (plain (p + 4) (part 2 s))) (sym q ∙ b)
+    hex-bad b = hex-at s h ∙ ap (λ (v : Option ℕ). hex_value v (plain (p + 4) (part 2 s))) (sym q ∙ b)
 
-    pub hex-is : (v : ℕ) → r ≡ Is v → hex_escape p s ≡ Shown.word 2 (Value v) ▸ plain (p + 4) (part 2 s)
+    pub hex-is : (v : ℕ) → r ≡ Some v → hex_escape p s ≡ Shown.word 2 (Some v) ▸ plain (p + 4) (part 2 s)
     unfolding hex_value
-    hex-is v b = hex-at s h ∙ ap (λ (v : Number). hex_value v (plain (p + 4) (part 2 s))) (sym q ∙ b)
+    hex-is v b = hex-at s h ∙ ap (λ (v : Option ℕ). hex_value v (plain (p + 4) (part 2 s))) (sym q ∙ b)
 
 pub break-at : (p : ℕ) (s : List ℕ) → line_break_and p s ≡ Shown.line_break ▸ plain (p + 2) s
 unfolding line_break_and

@@ -6,22 +6,19 @@ use Prim.Native.Nat.{ℕ, ◌+◌, ◌≤◌}
 use native.Mathlib.Omega.{arith}
 use lib.ListN.{length, take, drop}
 use lib.Dec.{eqb, ltb}
-use Rattle.answers.specs.declared.Written.{Written}
-use Rattle.answers.specs.declared.Written.TheVariants.{Done}
 use Rattle.classes.specs.declared.Class.TheVariants.{White, WordEnd, InWord, Space, Numeral}
 use Rattle.classes.specs.Bytes.{is_letter, in_class, lead, body}
-use Rattle.numbers.specs.declared.Number.{Number}
-use Rattle.numbers.specs.declared.Number.TheVariants.{Is, Bad}
 use Rattle.numbers.specs.Numbers.{hex_pair, decimal}
-use Rattle.rooms.specs.Streams.{Stream, count, by_name}
+use Rattle.rooms.specs.Streams.{Stream, count}
 use Rattle.rooms.specs.Rooms.{Wrote}
-use Rattle.rooms.proofs.Streams.{count-then, ended-count, name-apart}
+use Rattle.rooms.proofs.Streams.{count-then, ended-count}
 use Rattle.tokens.specs.Tokens.{Shown, shown_layout}
 use Rattle.readings.specs.declared.Reading.{Reading}
 use Rattle.readings.specs.declared.Reading.TheVariants.{Plain, Paragraphs, Standard}
 use Rattle.controls.proofs.Words.{count-numbered}
 use Rattle.tokenize.specs.Tokenize.{is_mark, is_escape, mark, plain, hex_value, hex_escape, line_break_and, named, bare_length, word_tail, word, other, behind_feed, returned, other_by, escaped, tokens}
 use Rattle.answers.specs.declared.Why.{Why}
+use Rattle.std.specs.Prelude.{Result, Ok, Option, Some, None}
 
 -- a bound on both is a bound on a choice
 either : (t : Bool) (a b : Stream Why Shown) (k : ℕ) → count a ≤ k → count b ≤ k → count (cond t a b) ≤ k
@@ -36,10 +33,10 @@ count-plain : (p : ℕ) (s : List ℕ) → count (plain p s) ≤ 1
 unfolding plain count
 count-plain p s = either (eqb (lead (in_class White) s) (length s)) _ _ 1 (omega arith) (omega arith)
 
-count-hex_value : (v : Number) (rest : Stream Why Shown) → count rest ≤ 1 → count (hex_value v rest) ≤ 2
+count-hex_value : (v : Option ℕ) (rest : Stream Why Shown) → count rest ≤ 1 → count (hex_value v rest) ≤ 2
 unfolding hex_value count
-count-hex_value (Is v) rest h = omega arith
-count-hex_value Bad rest h = omega arith
+count-hex_value (Some v) rest h = omega arith
+count-hex_value None rest h = omega arith
 
 count-hex_escape : (p : ℕ) (s : List ℕ) → count (hex_escape p s) ≤ 2
 unfolding hex_escape count
@@ -107,11 +104,11 @@ count-tokens rd p (b ∷ s) =
     (either (eqb b 92) _ _ _ (omega (arith, count-escaped rd p s)) (omega (arith, count-plain p (b ∷ s))))
 
 -- the next place in the room, where a function has written and answered
-pub named-next : (p : ℕ) (w : List ℕ) {n m : ℕ} {r : Written} {room room' : List ℕ} → Wrote shown_layout by_name n room (named p w) r room' → r ≡ Done m → m ≤ n + 1
-named-next p w {n} {m} v d = omega (arith, ended-count name-apart (named p w) n m (sym v.says ∙ d), count-named p w)
+pub named-next : (p : ℕ) (w : List ℕ) {n m : ℕ} {r : Result ℕ Why} {room room' : List ℕ} → Wrote shown_layout n room (named p w) r room' → r ≡ Ok m → m ≤ n + 1
+named-next p w {n} {m} v d = omega (arith, ended-count (named p w) n m (sym v.says ∙ d), count-named p w)
 
-pub mark-next : (b : ℕ) {n m : ℕ} {room room' : List ℕ} → Wrote shown_layout by_name n room (mark b) (Done m) room' → m ≤ n + 1
-mark-next b {n} {m} v = omega (arith, ended-count name-apart (mark b) n m (sym v.says), count-mark b)
+pub mark-next : (b : ℕ) {n m : ℕ} {room room' : List ℕ} → Wrote shown_layout n room (mark b) (Ok m) room' → m ≤ n + 1
+mark-next b {n} {m} v = omega (arith, ended-count (mark b) n m (sym v.says), count-mark b)
 
-pub tokens-next : (rd : Reading) (p : ℕ) (s : List ℕ) {n m : ℕ} {r : Written} {room room' : List ℕ} → Wrote shown_layout by_name n room (tokens rd p s) r room' → r ≡ Done m → m ≤ n + length s
-tokens-next rd p s {n} {m} v d = omega (arith, ended-count name-apart (tokens rd p s) n m (sym v.says ∙ d), count-tokens rd p s)
+pub tokens-next : (rd : Reading) (p : ℕ) (s : List ℕ) {n m : ℕ} {r : Result ℕ Why} {room room' : List ℕ} → Wrote shown_layout n room (tokens rd p s) r room' → r ≡ Ok m → m ≤ n + length s
+tokens-next rd p s {n} {m} v d = omega (arith, ended-count (tokens rd p s) n m (sym v.says ∙ d), count-tokens rd p s)

@@ -6,15 +6,13 @@ use Rattle.classes.specs.declared.Class.TheVariants.{White, WordEnd, InWord, Spa
 use Rattle.classes.specs.Bytes.{is_letter, in_class, lead, body}
 use Rattle.readings.specs.declared.Reading.{Reading}
 use Rattle.readings.specs.declared.Reading.TheVariants.{Plain, Paragraphs, Standard}
-use Rattle.numbers.specs.declared.Number.{Number}
-use Rattle.numbers.specs.declared.Number.TheVariants.{Is, Bad}
 use Rattle.numbers.specs.Numbers.{hex_pair, decimal}
 use Rattle.rooms.specs.Streams.{Stream, end, stop, ◌▸◌, and_then}
-use Rattle.tokens.specs.declared.Property.TheVariants.{None, Value}
 use Rattle.tokens.specs.Tokens.{Shown}
 use Rattle.tokens.specs.WordNumbers as words
 use Rattle.controls.specs.Controls.{shown_word, numbered}
 use Rattle.answers.specs.declared.Why.{Why}
+use Rattle.std.specs.Prelude.{Option, Some, None}
 
 -- "`{`, `}` or a raw line feed"
 abbrev pub is_mark : ℕ → Bool
@@ -33,9 +31,9 @@ abbrev pub is_escape : ℕ → Bool
 is_escape b = (eqb b 123 || eqb b 125) || eqb b 92
 
 -- "`\'`: word `u` with the byte's value; the rest as a plain tail"; 3 and 4 of the answer numbers
-unfoldable pub hex_value : Number → Stream Why Shown → Stream Why Shown
-hex_value (Is v) rest = Shown.word words.unicode (Value v) ▸ rest
-hex_value Bad rest = stop HexBad
+unfoldable pub hex_value : Option ℕ → Stream Why Shown → Stream Why Shown
+hex_value (Some v) rest = Shown.word words.unicode (Some v) ▸ rest
+hex_value None rest = stop HexBad
 
 unfoldable pub hex_escape : ℕ → List ℕ → Stream Why Shown
 hex_escape p [] = stop HexShort

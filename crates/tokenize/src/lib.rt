@@ -18,15 +18,14 @@ ghost use Rattle.names.specs.Names.{rows};
 ghost use Rattle.rooms.specs.Rooms.{Wrote};
 ghost use Rattle.tokens.specs.Tokens.{shown_layout, text_record};
 ghost use Rattle.tokenize.specs.Tokenize.{is_mark, is_escape, plain as plain_of, word_tail, bare_length, named as named_of, word as word_of, hex_escape, line_break_and, other as other_of, behind_feed, returned as returned_of, other_by, escaped as escaped_of, mark as mark_of, tokens as tokens_of};
-ghost use Rattle.rooms.specs.Streams.{by_name};
 
-use answers::{Why, Written};
+use answers::Why;
 use classes::{Class, body_of, is_letter, lead_of};
 use controls::{numbered_word, word_record};
 use names::Table;
-use numbers::{Number, hex_pair};
+use numbers::hex_pair;
 use readings::Reading;
-use tokens::{Property, Record, put, words};
+use tokens::{Record, put, words};
 
 // `{`, `}` or a line feed.
 fn is_mark(b: u8) -> bool
@@ -50,33 +49,33 @@ fn text(place: usize, length: usize) -> Record
 }
 
 // A plain tail: one text token, unless it is all white space.
-fn plain(s: &[u8], place: usize, room: &mut [u32], n: usize) -> Written
+fn plain(s: &[u8], place: usize, room: &mut [u32], n: usize) -> Result<usize, Why>
     requires { (place + length s.now ≤ 65536) × (n ≤ place) }
-    ensures { Wrote shown_layout by_name n room.old (plain_of place s.now) result room.new }
+    ensures { Wrote shown_layout n room.old (plain_of place s.now) result room.new }
 {
     let k = lead_of(s, Class::White);
     if k == s.len() {
-        return Written::Done(n);
+        return Ok(n);
     }
     put(room, n, text(place, s.len()));
-    Written::Done(n + 1)
+    Ok(n + 1)
 }
 
 // What follows a word and the white space that ends it: text even if it is all such white space. A tail of other white
 // space, that is with a byte 11 in it, is lost, as in the crate.
-fn word_tail(s: &[u8], place: usize, room: &mut [u32], n: usize) -> Written
+fn word_tail(s: &[u8], place: usize, room: &mut [u32], n: usize) -> Result<usize, Why>
     requires { (place + length s.now ≤ 65536) × (n ≤ place) }
-    ensures { Wrote shown_layout by_name n room.old (word_tail place s.now) result room.new }
+    ensures { Wrote shown_layout n room.old (word_tail place s.now) result room.new }
 {
     if s.len() == 0 {
-        return Written::Done(n);
+        return Ok(n);
     }
     let white = lead_of(s, Class::WordEnd);
     if white < s.len() {
         return plain(s, place, room, n);
     }
     put(room, n, text(place, s.len()));
-    Written::Done(n + 1)
+    Ok(n + 1)
 }
 
 // The length without one semicolon at the end.
@@ -96,82 +95,72 @@ fn bare_length(w: &[u8]) -> usize
 }
 
 // A word behind its backslash at `place`: its name, and the number that ends it.
-fn named(w: &[u8], place: usize, names: &Table, room: &mut [u32], n: usize) -> Written
+fn named(w: &[u8], place: usize, names: &Table, room: &mut [u32], n: usize) -> Result<usize, Why>
     requires { (place + (1 + length w.now) ≤ 65536) × (n ≤ place) × (names.now ≡ rows) }
-    ensures { Wrote shown_layout by_name n room.old (named_of place w.now) result room.new }
+    ensures { Wrote shown_layout n room.old (named_of place w.now) result room.new }
 {
     let k = body_of(w, Class::Numeral);
     if k == w.len() {
-        put(room, n, word_record(w, Property::None, place, names));
-        return Written::Done(n + 1);
+        put(room, n, word_record(w, None, place, names));
+        return Ok(n + 1);
     }
     numbered_word(&w[..k], &w[k..], place, names, room, n)
 }
 
 // A word and the text behind it; s follows the backslash at `place`.
-fn word(s: &[u8], place: usize, names: &Table, room: &mut [u32], n: usize) -> Written
+fn word(s: &[u8], place: usize, names: &Table, room: &mut [u32], n: usize) -> Result<usize, Why>
     requires { (place + (1 + length s.now) ≤ 65536) × (n ≤ place) × (names.now ≡ rows) }
-    ensures { Wrote shown_layout by_name n room.old (word_of place s.now) result room.new }
+    ensures { Wrote shown_layout n room.old (word_of place s.now) result room.new }
 {
     let k = lead_of(s, Class::InWord);
     let e = bare_length(&s[..k]);
-    let first = named(&s[..e], place, names, room, n);
-    match first {
-        Written::Refused(why) => Written::Refused(why),
-        Written::Done(m) => {
-            if k == s.len() {
-                return Written::Done(m);
-            }
-            let next = k + 1;
-            word_tail(&s[next..], place + 1 + next, room, m)
-        }
+    let m = named(&s[..e], place, names, room, n)?;
+    if k == s.len() {
+        return Ok(m);
     }
+    let next = k + 1;
+    word_tail(&s[next..], place + 1 + next, room, m)
 }
 
 // `\'` at `place`, and s behind it: two hexadecimal digits, and a plain tail.
-fn hex_escape(s: &[u8], place: usize, room: &mut [u32], n: usize) -> Written
+fn hex_escape(s: &[u8], place: usize, room: &mut [u32], n: usize) -> Result<usize, Why>
     requires { (place + (2 + length s.now) ≤ 65536) × (n ≤ place) }
-    ensures { Wrote shown_layout by_name n room.old (hex_escape place s.now) result room.new }
+    ensures { Wrote shown_layout n room.old (hex_escape place s.now) result room.new }
 {
     if s.len() < 2 {
-        return Written::Refused(Why::HexShort);
+        return Err(Why::HexShort);
     }
-    let value = hex_pair(s[0], s[1]);
-    match value {
-        Number::Bad => Written::Refused(Why::HexBad),
-        Number::Is(v) => {
-            put(room, n, Record::word(words::UNICODE, Property::Value(v)));
-            plain(&s[2..], place + 4, room, n + 1)
-        }
-    }
+    let v = hex_pair(s[0], s[1]).ok_or(Why::HexBad)?;
+    put(room, n, Record::word(words::UNICODE, Some(v)));
+    plain(&s[2..], place + 4, room, n + 1)
 }
 
 // A line break, and s behind it, which follows the backslash and line feed at `place`.
-fn line_break(s: &[u8], place: usize, room: &mut [u32], n: usize) -> Written
+fn line_break(s: &[u8], place: usize, room: &mut [u32], n: usize) -> Result<usize, Why>
     requires { (place + (2 + length s.now) ≤ 65536) × (n ≤ place) }
-    ensures { Wrote shown_layout by_name n room.old (line_break_and place s.now) result room.new }
+    ensures { Wrote shown_layout n room.old (line_break_and place s.now) result room.new }
 {
     put(room, n, Record::bare(3));
     plain(s, place + 2, room, n + 1)
 }
 
 // A backslash and spaces alone are text; a backslash and any other byte give nothing.
-fn other(s: &[u8], place: usize, room: &mut [u32], n: usize) -> Written
+fn other(s: &[u8], place: usize, room: &mut [u32], n: usize) -> Result<usize, Why>
     requires { (place + (1 + length s.now) ≤ 65536) × (n ≤ place) }
-    ensures { Wrote shown_layout by_name n room.old (other_of place s.now) result room.new }
+    ensures { Wrote shown_layout n room.old (other_of place s.now) result room.new }
 {
     let k = lead_of(s, Class::Space);
     if k < s.len() {
-        return Written::Done(n);
+        return Ok(n);
     }
     put(room, n, text(place, 1 + s.len()));
-    Written::Done(n + 1)
+    Ok(n + 1)
 }
 
 // What stands behind a carriage return that makes a line break; a line feed in front belongs to it.
-fn behind_feed(s: &[u8], place: usize, room: &mut [u32], n: usize) -> Written
+fn behind_feed(s: &[u8], place: usize, room: &mut [u32], n: usize) -> Result<usize, Why>
     requires { (place + length s.now ≤ 65536) × (n ≤ place) }
-    ensures { Wrote shown_layout by_name n room.old (behind_feed place s.now) result room.new }
+    ensures { Wrote shown_layout n room.old (behind_feed place s.now) result room.new }
 {
     if s.len() == 0 {
         return plain(s, place, room, n);
@@ -183,9 +172,9 @@ fn behind_feed(s: &[u8], place: usize, room: &mut [u32], n: usize) -> Written
 }
 
 // A backslash and a carriage return are a line break (02, A2). Else as `other`.
-fn returned(s: &[u8], place: usize, room: &mut [u32], n: usize) -> Written
+fn returned(s: &[u8], place: usize, room: &mut [u32], n: usize) -> Result<usize, Why>
     requires { (place + (1 + length s.now) ≤ 65536) × (n ≤ place) }
-    ensures { Wrote shown_layout by_name n room.old (returned_of place s.now) result room.new }
+    ensures { Wrote shown_layout n room.old (returned_of place s.now) result room.new }
 {
     if s.len() == 0 {
         return other(s, place, room, n);
@@ -198,9 +187,15 @@ fn returned(s: &[u8], place: usize, room: &mut [u32], n: usize) -> Written
 }
 
 // The last rule, by the reading.
-fn other_by(reading: Reading, s: &[u8], place: usize, room: &mut [u32], n: usize) -> Written
+fn other_by(
+    reading: Reading,
+    s: &[u8],
+    place: usize,
+    room: &mut [u32],
+    n: usize,
+) -> Result<usize, Why>
     requires { (place + (1 + length s.now) ≤ 65536) × (n ≤ place) }
-    ensures { Wrote shown_layout by_name n room.old (other_by reading place s.now) result room.new }
+    ensures { Wrote shown_layout n room.old (other_by reading place s.now) result room.new }
 {
     match reading {
         Reading::Plain => other(s, place, room, n),
@@ -217,9 +212,9 @@ fn escaped(
     names: &Table,
     room: &mut [u32],
     n: usize,
-) -> Written
+) -> Result<usize, Why>
     requires { (place + (1 + length s.now) ≤ 65536) × (n ≤ place) × (names.now ≡ rows) }
-    ensures { Wrote shown_layout by_name n room.old (escaped_of reading place s.now) result room.new }
+    ensures { Wrote shown_layout n room.old (escaped_of reading place s.now) result room.new }
 {
     if s.len() == 0 {
         return other(s, place, room, n);
@@ -230,7 +225,7 @@ fn escaped(
     }
     if is_escape(b) {
         put(room, n, text(place + 1, s.len()));
-        return Written::Done(n + 1);
+        return Ok(n + 1);
     }
     if b == b'\'' {
         return hex_escape(&s[1..], place, room, n);
@@ -240,7 +235,7 @@ fn escaped(
     }
     if b == b'*' {
         put(room, n, Record::bare(4));
-        return Written::Done(n + 1);
+        return Ok(n + 1);
     }
     other_by(reading, s, place, room, n)
 }
@@ -248,7 +243,7 @@ fn escaped(
 // An opening or a closing bracket has a token, a line feed none. The next place in the room.
 fn mark(b: u8, room: &mut [u32], n: usize) -> usize
     requires { n < 65536 }
-    ensures { Wrote shown_layout by_name n room.old (mark_of b) (Written.Done result) room.new }
+    ensures { Wrote shown_layout n room.old (mark_of b) (Ok result) room.new }
 {
     if b == b'{' {
         put(room, n, Record::bare(1));
@@ -269,28 +264,20 @@ fn tokenize(
     names: &Table,
     room: &mut [u32],
     n: usize,
-) -> Written
+) -> Result<usize, Why>
     requires { (place + length s.now ≤ 65536) × (n ≤ place) × (names.now ≡ rows) }
-    ensures { Wrote shown_layout by_name n room.old (tokens_of reading place s.now) result room.new }
+    ensures { Wrote shown_layout n room.old (tokens_of reading place s.now) result room.new }
 {
     if s.len() == 0 {
-        return Written::Done(n);
+        return Ok(n);
     }
     let b = s[0];
     if is_mark(b) {
         let m = mark(b, room, n);
         if s.len() == 1 {
-            return Written::Done(m);
+            return Ok(m);
         }
-        let rest = tokenize(reading, &s[1..], place + 1, names, room, m);
-        match rest {
-            Written::Refused(why) => {
-                return Written::Refused(why);
-            }
-            Written::Done(k) => {
-                return Written::Done(k);
-            }
-        }
+        return tokenize(reading, &s[1..], place + 1, names, room, m);
     }
     if b == b'\\' {
         return escaped(reading, &s[1..], place, names, room, n);

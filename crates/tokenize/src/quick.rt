@@ -15,16 +15,15 @@ ghost use Rattle.rooms.specs.Rooms.{Wrote};
 ghost use Rattle.tokens.specs.Tokens.{shown_layout};
 ghost use Rattle.tokenize.specs.Tokenize.{is_mark, named, word_tail, word as word_of, tokens as tokens_of};
 ghost use Rattle.tokenize.specs.Quick.{ends_at};
-ghost use Rattle.rooms.specs.Streams.{by_name};
 
 use crate::{is_mark, mark, plain, tokenize, word, word_tail};
-use answers::{Why, Written};
+use answers::Why;
 use classes::{Class, ends_word, is_letter, lead_of};
 use controls::word_record;
 use names::Table;
-use numbers::{Number, decimal_of};
+use numbers::decimal_of;
 use readings::Reading;
-use tokens::{Property, put};
+use tokens::put;
 
 // How many letters stand in front.
 fn letters_of(s: &[u8]) -> usize
@@ -52,64 +51,65 @@ fn ends_at(s: &[u8], k: usize) -> bool
 }
 
 // The token of a word whose name has e bytes, as the code behind `tokenize::word` finds it, but for the search for e.
-fn numbered(w: &[u8], e: usize, place: usize, names: &Table, room: &mut [u32], n: usize) -> Written
+fn numbered(
+    w: &[u8],
+    e: usize,
+    place: usize,
+    names: &Table,
+    room: &mut [u32],
+    n: usize,
+) -> Result<usize, Why>
     requires bounds { (place + (1 + length w.now) ≤ 65536) × (n ≤ place) × (names.now ≡ rows) }
     requires ends { (e ≡ body (in_class Numeral) w.now) × (e ≤ length w.now) }
-    ensures { Wrote shown_layout by_name n room.old (named place w.now) result room.new }
+    ensures { Wrote shown_layout n room.old (named place w.now) result room.new }
 {
     if e == w.len() {
-        put(room, n, word_record(w, Property::None, place, names));
-        return Written::Done(n + 1);
+        put(room, n, word_record(w, None, place, names));
+        return Ok(n + 1);
     }
-    let number = decimal_of(&w[e..]);
-    match number {
-        Number::Bad => Written::Refused(Why::NumberBad),
-        Number::Is(v) => {
-            put(
-                room,
-                n,
-                word_record(&w[..e], Property::Value(v), place, names),
-            );
-            Written::Done(n + 1)
-        }
-    }
+    let v = decimal_of(&w[e..]).ok_or(Why::NumberBad)?;
+    put(room, n, word_record(&w[..e], Some(v), place, names));
+    Ok(n + 1)
 }
 
 // What stands behind a word that ends at k of s, which follows the backslash at `place`.
-fn behind(s: &[u8], k: usize, place: usize, room: &mut [u32], n: usize) -> Written
+fn behind(s: &[u8], k: usize, place: usize, room: &mut [u32], n: usize) -> Result<usize, Why>
     requires { (place + (1 + length s.now) ≤ 65536) × (n ≤ place + 1) × (k ≤ length s.now) }
-    ensures { Wrote shown_layout by_name n room.old (word_tail (place + 1 + (k + 1)) (drop (k + 1) s.now)) result room.new }
+    ensures { Wrote shown_layout n room.old (word_tail (place + 1 + (k + 1)) (drop (k + 1) s.now)) result room.new }
 {
     if k == s.len() {
-        return Written::Done(n);
+        return Ok(n);
     }
     let next = k + 1;
     word_tail(&s[next..], place + 1 + next, room, n)
 }
 
 // A word and the text behind it; s follows the backslash at `place`.
-fn quick_word(s: &[u8], place: usize, names: &Table, room: &mut [u32], n: usize) -> Written
+fn quick_word(
+    s: &[u8],
+    place: usize,
+    names: &Table,
+    room: &mut [u32],
+    n: usize,
+) -> Result<usize, Why>
     requires { (place + (1 + length s.now) ≤ 65536) × (n ≤ place) × (names.now ≡ rows) }
-    ensures { Wrote shown_layout by_name n room.old (word_of place s.now) result room.new }
+    ensures { Wrote shown_layout n room.old (word_of place s.now) result room.new }
 {
     let e = letters_of(s);
     let k = e + lead_of(&s[e..], Class::Numeral);
     if !ends_at(s, k) {
         let other = word(s, place, names, room, n);
         match other {
-            Written::Refused(why) => {
-                return Written::Refused(why);
+            Err(why) => {
+                return Err(why);
             }
-            Written::Done(m) => {
-                return Written::Done(m);
+            Ok(m) => {
+                return Ok(m);
             }
         }
     }
-    let first = numbered(&s[..k], e, place, names, room, n);
-    match first {
-        Written::Refused(why) => Written::Refused(why),
-        Written::Done(m) => behind(s, k, place, room, m),
-    }
+    let m = numbered(&s[..k], e, place, names, room, n)?;
+    behind(s, k, place, room, m)
 }
 
 // A slice that begins with a backslash.
@@ -120,10 +120,10 @@ fn escaped(
     names: &Table,
     room: &mut [u32],
     n: usize,
-) -> Written
+) -> Result<usize, Why>
     requires bounds { (place + length s.now ≤ 65536) × (n ≤ place) × (names.now ≡ rows) }
     requires starts { (0 < length s.now) × (get_or s.now 0 0 ≡ 92) }
-    ensures { Wrote shown_layout by_name n room.old (tokens_of reading place s.now) result room.new }
+    ensures { Wrote shown_layout n room.old (tokens_of reading place s.now) result room.new }
 {
     if 1 < s.len() {
         if is_letter(s[1]) {
@@ -132,8 +132,8 @@ fn escaped(
     }
     let rest = tokenize(reading, s, place, names, room, n);
     match rest {
-        Written::Refused(why) => Written::Refused(why),
-        Written::Done(m) => Written::Done(m),
+        Err(why) => Err(why),
+        Ok(m) => Ok(m),
     }
 }
 
@@ -145,18 +145,18 @@ fn marked(
     names: &Table,
     room: &mut [u32],
     n: usize,
-) -> Written
+) -> Result<usize, Why>
     requires bounds { (place + length s.now ≤ 65536) × (n ≤ place) × (names.now ≡ rows) }
     requires starts { (0 < length s.now) × (is_mark (get_or s.now 0 0) ≡ true) }
-    ensures { Wrote shown_layout by_name n room.old (tokens_of reading place s.now) result room.new }
+    ensures { Wrote shown_layout n room.old (tokens_of reading place s.now) result room.new }
 {
     if s.len() == 1 {
-        return Written::Done(mark(s[0], room, n));
+        return Ok(mark(s[0], room, n));
     }
     let rest = tokenize(reading, s, place, names, room, n);
     match rest {
-        Written::Refused(why) => Written::Refused(why),
-        Written::Done(m) => Written::Done(m),
+        Err(why) => Err(why),
+        Ok(m) => Ok(m),
     }
 }
 
@@ -168,12 +168,12 @@ pub fn slice_tokens(
     names: &Table,
     room: &mut [u32],
     n: usize,
-) -> Written
+) -> Result<usize, Why>
     requires { (place + length s.now ≤ 65536) × (n ≤ place) × (names.now ≡ rows) }
-    ensures { Wrote shown_layout by_name n room.old (tokens_of reading place s.now) result room.new }
+    ensures { Wrote shown_layout n room.old (tokens_of reading place s.now) result room.new }
 {
     if s.len() == 0 {
-        return Written::Done(n);
+        return Ok(n);
     }
     let b = s[0];
     if b == b'\\' {

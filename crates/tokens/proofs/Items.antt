@@ -14,11 +14,11 @@ use native.Mathlib.Omega.{arith}
 use borrow.Author.Tests.{ne_eqb}
 use lib.ListN.{length, get_or, take, drop, length-drop, length-take}
 use lib.Seq.{drop-drop, take_all, get_or-take}
-use Rattle.tokens.specs.declared.Property.{Property}
 use Rattle.tokens.specs.Tokens.{Shown, Token, shown_words, token_words, shown_by}
 use Rattle.tokens.specs.declared.item.Item.{Item}
 use Rattle.tokens.specs.declared.item.Item.TheVariants.{Text, Opening, Closing, LineBreak, Ignorable, Symbol}
 use Rattle.tokens.specs.Items.{property_of, word_item, item_of, item_at, part, shown_of, shown_all, token_at, tokens_all}
+use Rattle.std.specs.Prelude.{Option}
 
 module _ (ws : List ℕ) where
   pub item-opening : get_or ws 0 0 ≡ 1 → Opening ≡ item_at ws
@@ -37,12 +37,12 @@ module _ (ws : List ℕ) where
   unfolding item_at item_of
   item-ignorable e = rw e
 
-  pub item-word : {i : Item} {num : Property} → get_or ws 0 0 ≡ 5 → num ≡ property_of (get_or ws 2 0) (get_or ws 3 0)
+  pub item-word : {i : Item} {num : Option ℕ} → get_or ws 0 0 ≡ 5 → num ≡ property_of (get_or ws 2 0) (get_or ws 3 0)
       → i ≡ word_item (get_or ws 1 0) num (get_or ws 4 0) (get_or ws 5 0) → i ≡ item_at ws
   unfolding item_at item_of
   item-word e n q = q ∙ rw (e, n)
 
-  pub item-symbol : {b : ℕ} {num : Property} → get_or ws 0 0 ≡ 6 → b ≡ get_or ws 1 0 → num ≡ property_of (get_or ws 2 0) (get_or ws 3 0) → Symbol b num ≡ item_at ws
+  pub item-symbol : {b : ℕ} {num : Option ℕ} → get_or ws 0 0 ≡ 6 → b ≡ get_or ws 1 0 → num ≡ property_of (get_or ws 2 0) (get_or ws 3 0) → Symbol b num ≡ item_at ws
   unfolding item_at item_of
   item-symbol e w n = rw (e, w, n)
 

@@ -4,6 +4,8 @@
 --     text-record, opening-record ..   the record that the code makes is the token's
 --     wrote-token, wrote-token-and  a token's record was written; and then a stream by a further call
 -- Assumes nothing.
+use mir.Val.{bool_byte}
+use Rattle.std.specs.Prelude.{Some, None, is_some}
 use mathlib.Core.Path.{◌≡◌, refl, ap, ◌∙◌}
 use mathlib.Core.List.{List}
 use Prim.Native.Nat.{ℕ, ◌+◌, ◌*◌, ◌<◌}
@@ -11,22 +13,25 @@ use native.Mathlib.Numerals.{towards_suc}
 use lib.ListN.{length, set}
 use lib.Seq.{sets}
 use Rattle.rooms.specs.Rooms.{capacity, put}
-use Rattle.rooms.specs.Streams.{Stream, end, ◌▸◌, by_name}
+use Rattle.rooms.specs.Streams.{Stream, end, ◌▸◌}
 use Rattle.rooms.specs.Rooms.{Wrote}
 use Rattle.rooms.proofs.Rooms.{put_in, wrote_one, wrote-more}
-use Rattle.answers.specs.declared.Written.{Written}
-use Rattle.answers.specs.declared.Written.TheVariants.{Done}
-use Rattle.tokens.specs.declared.Property.{Property}
 use Rattle.tokens.specs.declared.Record.{Record}
-use Rattle.tokens.specs.Tokens.{Shown, Token, token_words, record_words, bare_record, text_record, word_record, symbol_record, record_of, shown_layout, token_layout}
+use Rattle.tokens.specs.Tokens.{has_of, value_of, Shown, Token, token_words, record_words, bare_record, text_record, word_record, symbol_record, record_of, shown_layout, token_layout}
 use Rattle.answers.specs.declared.Why.{Why}
+use Rattle.std.specs.Prelude.{Result, Ok, Option}
+
+-- a number's presence, as the code makes a word of it
+pub has-byte : (num : Option ℕ) → bool_byte (is_some num) ≡ has_of num
+has-byte None = refl
+has-byte (Some v) = refl
 
 module _ (room : List ℕ) (n : ℕ) (t : Record) where
-  six : (a : ℕ) → set (set (set (set (set (set room a t.kind) (a + 1) t.word) (a + 2) t.has) (a + 3) t.number) (a + 4) t.place) (a + 5) t.length ≡ sets room a (record_words t)
+  six : (a : ℕ) → set (set (set (set (set (set room a t.kind) (a + 1) t.word) (a + 2) (has_of t.number)) (a + 3) (value_of t.number)) (a + 4) t.place) (a + 5) t.length ≡ sets room a (record_words t)
   six a = simp towards_suc
 
   pub put_six : n < capacity token_words (length room)
-      → set (set (set (set (set (set room (n * token_words) t.kind) (n * token_words + 1) t.word) (n * token_words + 2) t.has) (n * token_words + 3) t.number) (n * token_words + 4) t.place) (n * token_words + 5) t.length
+      → set (set (set (set (set (set room (n * token_words) t.kind) (n * token_words + 1) t.word) (n * token_words + 2) (has_of t.number)) (n * token_words + 3) (value_of t.number)) (n * token_words + 4) t.place) (n * token_words + 5) t.length
       ≡ put token_words room n (record_words t)
   put_six h = six (n * token_words) ∙ put_in token_words room n (record_words t) h
 
@@ -39,11 +44,11 @@ module _ {r : Record} where
   unfolding record_of
   text-record p bs n l e = e ∙ rw l
 
-  pub word-record : (w : ℕ) (num : Property) → r ≡ word_record w num → r ≡ record_of (Shown.word w num)
+  pub word-record : (w : ℕ) (num : Option ℕ) → r ≡ word_record w num → r ≡ record_of (Shown.word w num)
   unfolding record_of
   word-record w num e = e
 
-  pub symbol-record : (b : ℕ) (num : Property) → r ≡ symbol_record b num → r ≡ record_of (Shown.symbol b num)
+  pub symbol-record : (b : ℕ) (num : Option ℕ) → r ≡ symbol_record b num → r ≡ record_of (Shown.symbol b num)
   unfolding record_of
   symbol-record b num e = e
 
@@ -64,9 +69,9 @@ module _ {r : Record} where
   ignorable-record e = e
 
   module _ {x : Stream Why Shown} {n : ℕ} {room room' : List ℕ} {t : Shown} where
-    pub wrote-token : x ≡ t ▸ end → r ≡ record_of t → room' ≡ put token_words room n (record_words r) → Wrote shown_layout by_name n room x (Done (n + 1)) room'
+    pub wrote-token : x ≡ t ▸ end → r ≡ record_of t → room' ≡ put token_words room n (record_words r) → Wrote shown_layout n room x (Ok (n + 1)) room'
     wrote-token e q h = wrote_one shown_layout e (h ∙ ap (λ (z : Record). put token_words room n (record_words z)) q)
 
-    pub wrote-token-and : {y : Stream Why Shown} {q : Written} {room'' : List ℕ} → x ≡ t ▸ y → r ≡ record_of t → room' ≡ put token_words room n (record_words r)
-        → Wrote shown_layout by_name (n + 1) room' y q room'' → Wrote shown_layout by_name n room x q room''
+    pub wrote-token-and : {y : Stream Why Shown} {q : Result ℕ Why} {room'' : List ℕ} → x ≡ t ▸ y → r ≡ record_of t → room' ≡ put token_words room n (record_words r)
+        → Wrote shown_layout (n + 1) room' y q room'' → Wrote shown_layout n room x q room''
     wrote-token-and e q h w = wrote-more shown_layout e (h ∙ ap (λ (z : Record). put token_words room n (record_words z)) q) w

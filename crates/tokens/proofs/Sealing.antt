@@ -14,12 +14,11 @@ use lib.ListN.{length, set}
 use lib.Seq.{sets, set_comm, length-sets}
 use lib.Dec.{ltb}
 use Rattle.rooms.specs.Rooms.{capacity, put, put_all, Wrote}
-use Rattle.rooms.specs.Streams.{Stream, end, stop, ◌▸◌, by_name, count, each}
-use Rattle.rooms.proofs.Streams.{ended-count, name-apart}
+use Rattle.rooms.specs.Streams.{Stream, end, stop, ◌▸◌, count, each}
+use Rattle.rooms.proofs.Streams.{ended-count}
 use Rattle.answers.specs.declared.Why.{Why}
-use Rattle.answers.specs.declared.Written.{Written}
-use Rattle.answers.specs.declared.Written.TheVariants.{Done}
 use Rattle.tokens.specs.Tokens.{Shown, token, shown_words, token_words, record_words, record_of, slice_words, shown_layout, token_layout, sealed, sealed_all}
+use Rattle.std.specs.Prelude.{Result, Ok}
 
 -- ---- runs of stores
 
@@ -111,10 +110,10 @@ module _ (p l : ℕ) where
       ap (λ (m : List ℕ). sealed_all p l m (n + 1) (count s)) (sealed-put_all s (put token_words room n (record_words (record_of x))) n (n + 1) (omega arith) ∙ ap (λ (m : List ℕ). put_all shown_layout m (n + 1) s) (sealed-own room (record_words (record_of x)) n refl))
       ∙ sealed-all g s (put token_words room n (record_words (record_of x) ++ slice_words p l)) (n + 1)
 
-  pub sealed-wrote : {F : Type 0} (g : Why → F) {s : Stream Why Shown} {r : Written} {room room' room'' : List ℕ} {n m : ℕ} → Wrote shown_layout by_name n room s r room' → r ≡ Done m
+  pub sealed-wrote : {F : Type 0} (g : Why → F) {s : Stream Why Shown} {r : Result ℕ Why} {room room' room'' : List ℕ} {n m : ℕ} → Wrote shown_layout n room s r room' → r ≡ Ok m
       → room'' ≡ sealed_all p l room' n (m - n) → room'' ≡ put_all token_layout room n (each g (token p l) s)
   sealed-wrote g {s} {r} {room} {room'} {room''} {n} {m} w d q =
-      let c : m ≡ n + count s = ended-count name-apart s n m (sym w.says ∙ d) in
+      let c : m ≡ n + count s = ended-count s n m (sym w.says ∙ d) in
       let k : m - n ≡ count s = omega arith in
       q ∙ ap (λ (z : List ℕ). sealed_all p l z n (m - n)) (w.holds m d) ∙ ap (sealed_all p l (put_all shown_layout room n s) n) k ∙ sealed-all g s room n
 

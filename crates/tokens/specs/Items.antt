@@ -1,22 +1,21 @@
 -- 01, Cutting, and 02, A4: a token's eight words, read back: the token, given the source that its places point into.
 -- Assumes nothing: these are definitions.
 use Rattle.std.specs.Prelude.{ℕ, zero, suc, ◌+◌, List, [], ◌∷◌, cond, get_or, take, drop, eqb}
-use Rattle.tokens.specs.declared.Property.{Property}
-use Rattle.tokens.specs.declared.Property.TheVariants.{None, Value}
 use Rattle.tokens.specs.Tokens.{Shown, Token, token, shown_words, token_words}
 use Rattle.tokens.specs.declared.item.Item.{Item}
 use Rattle.tokens.specs.declared.item.Item.TheVariants.{Text, Opening, Closing, LineBreak, Ignorable, Word, Unknown, Symbol}
 use Rattle.tokens.specs.WordNumbers as words
+use Rattle.std.specs.Prelude.{Option, Some, None}
 
 -- "1 if a number is present, that number"
-abbrev pub property_of : ℕ → ℕ → Property
-property_of has number = cond (eqb has 1) (Value number) None
+abbrev pub property_of : ℕ → ℕ → Option ℕ
+property_of has number = cond (eqb has 1) (Some number) None
 
-abbrev pub number_at : List ℕ → Property
+abbrev pub number_at : List ℕ → Option ℕ
 number_at ws = property_of (get_or ws 2 0) (get_or ws 3 0)
 
 -- a word by its number: "49 is unknown"
-abbrev pub word_item : ℕ → Property → ℕ → ℕ → Item
+abbrev pub word_item : ℕ → Option ℕ → ℕ → ℕ → Item
 word_item w num p n = cond (eqb w words.unknown) (Unknown p n num) (Word w num)
 
 -- "kind (0 text, 1 open, 2 close, 3 line break, 4 ignorable, 5 word)", and 6, a symbol

@@ -1,9 +1,7 @@
 -- 01, Cutting, and 02, A1 and A4: what a token is, and its eight words. Assumes nothing: these are definitions.
-use Rattle.std.specs.Prelude.{ℕ, zero, suc, ◌+◌, ◌*◌, List, [], ◌∷◌, ◌++◌, cond, length, ltb}
+use Rattle.std.specs.Prelude.{ℕ, zero, suc, ◌+◌, ◌*◌, List, [], ◌∷◌, ◌++◌, cond, length, ltb, Option, Some, None, is_some, unwrap_or}
 use Rattle.std.proofs.lemmas.List.Edits.{sets}
 use Rattle.rooms.specs.Rooms.{Layout, capacity}
-use Rattle.tokens.specs.declared.Property.{Property}
-use Rattle.tokens.specs.declared.Property.TheVariants.{None, Value}
 use Rattle.tokens.specs.declared.Record.{Record}
 use Rattle.tokens.specs.WordNumbers as words
 
@@ -16,9 +14,9 @@ pub data Shown : Type 0 where
   closing : Shown
   line_break : Shown
   ignorable : Shown
-  word : ℕ → Property → Shown
-  unknown : ℕ → List ℕ → Property → Shown
-  symbol : ℕ → Property → Shown
+  word : ℕ → Option ℕ → Shown
+  unknown : ℕ → List ℕ → Option ℕ → Shown
+  symbol : ℕ → Option ℕ → Shown
 
 -- a token: "the place of their slice in two further words, place and length", and what it shows
 pub data Token : Type 0 where
@@ -39,32 +37,30 @@ shown_by [] = []
 shown_by (t ∷ ts) = shown_in t ∷ shown_by ts
 
 -- "1 if a number is present, that number modulo 2^32"
-abbrev pub has_of : Property → ℕ
-has_of None = 0
-has_of (Value v) = 1
+abbrev pub has_of : Option ℕ → ℕ
+has_of num = cond (is_some num) 1 0
 
-abbrev pub value_of : Property → ℕ
-value_of None = 0
-value_of (Value v) = v
+abbrev pub value_of : Option ℕ → ℕ
+value_of num = unwrap_or num 0
 
 -- "Unused fields are 0."
 abbrev pub bare_record : ℕ → Record
-bare_record k = record { kind = k; word = 0; has = 0; number = 0; place = 0; length = 0 }
+bare_record k = record { kind = k; word = 0; number = None; place = 0; length = 0 }
 
 -- "source place and length for text"
 abbrev pub text_record : ℕ → ℕ → Record
-text_record p n = record { kind = 0; word = 0; has = 0; number = 0; place = p; length = n }
+text_record p n = record { kind = 0; word = 0; number = None; place = p; length = n }
 
-abbrev pub word_record : ℕ → Property → Record
-word_record w num = record { kind = 5; word = w; has = has_of num; number = value_of num; place = 0; length = 0 }
+abbrev pub word_record : ℕ → Option ℕ → Record
+word_record w num = record { kind = 5; word = w; number = num; place = 0; length = 0 }
 
 -- "and for an unknown word", whose number is 49
-abbrev pub unknown_record : ℕ → ℕ → Property → Record
-unknown_record p n num = record { kind = 5; word = words.unknown; has = has_of num; number = value_of num; place = p; length = n }
+abbrev pub unknown_record : ℕ → ℕ → Option ℕ → Record
+unknown_record p n num = record { kind = 5; word = words.unknown; number = num; place = p; length = n }
 
 -- 02, A1: kind 6, "the byte in the word field"
-abbrev pub symbol_record : ℕ → Property → Record
-symbol_record b num = record { kind = 6; word = b; has = has_of num; number = value_of num; place = 0; length = 0 }
+abbrev pub symbol_record : ℕ → Option ℕ → Record
+symbol_record b num = record { kind = 6; word = b; number = num; place = 0; length = 0 }
 
 -- the record of what a token shows
 unfoldable pub record_of : Shown → Record
@@ -85,7 +81,7 @@ abbrev pub token_words : ℕ
 token_words = shown_words + 2
 
 abbrev pub record_words : Record → List ℕ
-record_words t = t.kind ∷ t.word ∷ t.has ∷ t.number ∷ t.place ∷ t.length ∷ []
+record_words t = t.kind ∷ t.word ∷ has_of t.number ∷ value_of t.number ∷ t.place ∷ t.length ∷ []
 
 abbrev pub slice_words : ℕ → ℕ → List ℕ
 slice_words p n = p ∷ n ∷ []

@@ -9,7 +9,7 @@ ghost use Rattle.std.specs.Prelude.{◌≡◌, ◌≤◌, ◌<◌, length};
 ghost use Rattle.tokens.specs.Tokens.{value_of, token_words};
 ghost use Rattle.tokens.specs.Items.{property_of, number_at, word_item, item_at, slice_at, part as part_of};
 
-use crate::{Property, SLICE, words};
+use crate::{SLICE, words};
 use rooms::wide;
 
 #[derive(Clone, Copy)]
@@ -19,21 +19,21 @@ pub enum Item {
     Closing,
     LineBreak,
     Ignorable,
-    Word(u32, Property),
-    Unknown(u32, u32, Property),
-    Symbol(u32, Property),
+    Word(u32, Option<u32>),
+    Unknown(u32, u32, Option<u32>),
+    Symbol(u32, Option<u32>),
 }
 
-fn property(has: u32, number: u32) -> Property
+fn property(has: u32, number: u32) -> Option<u32>
     ensures { (result ≡ property_of has number) × (value_of result < 4294967296) }
 {
     if has == 1 {
-        return Property::Value(number);
+        return Some(number);
     }
-    Property::None
+    None
 }
 
-fn word_item(w: u32, number: Property, place: u32, length: u32) -> Item
+fn word_item(w: u32, number: Option<u32>, place: u32, length: u32) -> Item
     ensures { result ≡ word_item w number place length }
 {
     if w == words::UNKNOWN {
@@ -43,7 +43,7 @@ fn word_item(w: u32, number: Property, place: u32, length: u32) -> Item
 }
 
 // The number of the first token of a slice of words.
-pub fn number_at(t: &[u32]) -> Property
+pub fn number_at(t: &[u32]) -> Option<u32>
     requires { token_words ≤ length t.now }
     ensures { (result ≡ number_at t.now) × (value_of result < 4294967296) }
 {

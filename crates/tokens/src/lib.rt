@@ -1,7 +1,6 @@
 // Tokens: what a slice of a letter shows, and its record of eight words in the token room (01, Cutting, and 02, A4; `tokens.rs` in
 // the crate).
 //
-//   Property   the number that may end a word
 //   Record     six words: kind, word number, 1 if a number is present, that number, source place, length
 //   put        writes a record at its place in a room
 //   seal       writes the two words behind it: place and length of the slice that it was cut from
@@ -14,7 +13,7 @@ pub mod words;
 
 ghost use Rattle.std.specs.Prelude.{◌≡◌, ◌-◌, ◌≤◌};
 ghost use Rattle.rooms.specs.Rooms.{put as put_words};
-ghost use Rattle.tokens.specs.Tokens.{token_words, record_words, has_of, value_of, bare_record, text_record, word_record, unknown_record, symbol_record, sealed, sealed_all};
+ghost use Rattle.tokens.specs.Tokens.{token_words, record_words, bare_record, text_record, word_record, unknown_record, symbol_record, sealed, sealed_all};
 
 // How many words a token has, and where those of its slice stand.
 pub const TOKEN_WORDS: usize = 8;
@@ -24,41 +23,12 @@ pub const SLICE: usize = 6;
 pub const SLICE_LENGTH: usize = 7;
 
 #[derive(Clone, Copy)]
-pub enum Property {
-    None,
-    Value(u32),
-}
-
-#[derive(Clone, Copy)]
 pub struct Record {
     pub kind: u32,
     pub word: u32,
-    pub has: u32,
-    pub number: u32,
+    pub number: Option<u32>,
     pub place: u32,
     pub length: u32,
-}
-
-impl Property {
-    // 1 if a number is present.
-    pub fn has(self) -> u32
-        ensures { result ≡ has_of self }
-    {
-        match self {
-            Property::None => 0,
-            Property::Value(_) => 1,
-        }
-    }
-
-    // That number; 0 if none is.
-    pub fn value(self) -> u32
-        ensures { result ≡ value_of self }
-    {
-        match self {
-            Property::None => 0,
-            Property::Value(v) => v,
-        }
-    }
 }
 
 impl Record {
@@ -69,8 +39,7 @@ impl Record {
         Record {
             kind: kind,
             word: 0,
-            has: 0,
-            number: 0,
+            number: None,
             place: 0,
             length: 0,
         }
@@ -82,56 +51,46 @@ impl Record {
         Record {
             kind: 0,
             word: 0,
-            has: 0,
-            number: 0,
+            number: None,
             place: place,
             length: length,
         }
     }
 
     // A word that has a name, by its number.
-    pub fn word(word: u32, property: Property) -> Record
+    pub fn word(word: u32, property: Option<u32>) -> Record
         ensures { result ≡ word_record word property }
     {
-        let has = property.has();
-        let number = property.value();
         Record {
             kind: 5,
             word: word,
-            has: has,
-            number: number,
+            number: property,
             place: 0,
             length: 0,
         }
     }
 
     // Any other word: where it stands, from its backslash, without its number.
-    pub fn unknown(place: u32, length: u32, property: Property) -> Record
+    pub fn unknown(place: u32, length: u32, property: Option<u32>) -> Record
         ensures { result ≡ unknown_record place length property }
     {
-        let has = property.has();
-        let number = property.value();
         Record {
             kind: 5,
             word: words::UNKNOWN,
-            has: has,
-            number: number,
+            number: property,
             place: place,
             length: length,
         }
     }
 
     // A symbol, by the byte behind its backslash; `\'` with the byte that its digits say.
-    pub fn symbol(byte: u32, property: Property) -> Record
+    pub fn symbol(byte: u32, property: Option<u32>) -> Record
         ensures { result ≡ symbol_record byte property }
     {
-        let has = property.has();
-        let number = property.value();
         Record {
             kind: 6,
             word: byte,
-            has: has,
-            number: number,
+            number: property,
             place: 0,
             length: 0,
         }
@@ -146,8 +105,8 @@ pub fn put(room: &mut [u32], n: usize, t: Record)
         let at = n * TOKEN_WORDS;
         room[at] = t.kind;
         room[at + 1] = t.word;
-        room[at + 2] = t.has;
-        room[at + 3] = t.number;
+        room[at + 2] = u32::from(t.number.is_some());
+        room[at + 3] = t.number.unwrap_or(0);
         room[at + 4] = t.place;
         room[at + 5] = t.length;
     }

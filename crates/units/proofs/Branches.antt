@@ -12,11 +12,10 @@ use native.Mathlib.Omega.{arith}
 use lib.Dec.{leb, ltb}
 use borrow.Author.Tests.{ltb-true, lt-ltb, le-ltb, le-leb, lt-leb}
 use Rattle.units.proofs.Tests.{and_right}
-use Rattle.tokens.specs.declared.Property.{Property}
-use Rattle.tokens.specs.declared.Property.TheVariants.{None, Value}
 use Rattle.units.specs.declared.Run.{Run}
 use Rattle.units.specs.declared.Gave.{Gave}
 use Rattle.units.specs.Units.{is_high, is_low, alone, pair, nothing, cut_short, taken, taken_any, met, met_any, unit_of, step, standard_step, skip_count}
+use Rattle.std.specs.Prelude.{Option, Some, None}
 
 pub alone-surrogate : (u : ℕ) → leb 55296 u && leb u 57343 ≡ true → 65533 ≡ alone u
 alone-surrogate u p = rw p
@@ -26,18 +25,18 @@ alone-value u p = rw p
 
 module _ (run : Run) (u : ℕ) (l : Bool) (q : l ≡ is_low u) where
   pub taken-pair : ltb 0 run.high && l ≡ true → (v : ℕ) → v ≡ pair run.high u
-      → record { run = record { begun = true; skipped = 0; high = 0 }; lost = false; some = true; value = v } ≡ taken run u
+      → record { run = record { begun = true; skipped = 0; high = 0 }; lost = false; value = Some v } ≡ taken run u
   unfolding taken
   taken-pair p v e = rw (← q, p, e)
 
   module _ (p : ltb 0 run.high && l ≡ false) (h : Bool) (r : h ≡ is_high u) where
     pub taken-high : h ≡ true
-        → record { run = record { begun = true; skipped = 0; high = u }; lost = ltb 0 run.high; some = false; value = 0 } ≡ taken run u
+        → record { run = record { begun = true; skipped = 0; high = u }; lost = ltb 0 run.high; value = None } ≡ taken run u
     unfolding taken
     taken-high t = rw (← q, p, ← r, t)
 
     pub taken-value : h ≡ false → (v : ℕ) → v ≡ alone u
-        → record { run = record { begun = true; skipped = 0; high = 0 }; lost = ltb 0 run.high; some = true; value = v } ≡ taken run u
+        → record { run = record { begun = true; skipped = 0; high = 0 }; lost = ltb 0 run.high; value = Some v } ≡ taken run u
     unfolding taken
     taken-value t v e = rw (← q, p, ← r, t, e)
 
@@ -69,12 +68,12 @@ module _ (skip : ℕ) (run : Run) (u : ℕ) where
       let q = and_right (leb u 255) (ltb skip 2147483648 && ltb run.skipped skip) (and_right run.begun _ p) in
       omega (arith, ltb-true run.skipped skip (and_right (ltb skip 2147483648) (ltb run.skipped skip) q))
 
-module _ (skip : ℕ) (run : Run) (n : Property) (g : Gave) where
+module _ (skip : ℕ) (run : Run) (n : Option ℕ) (g : Gave) where
   pub step-absent : n ≡ None → g ≡ nothing run → g ≡ step skip run n
   unfolding step met_any unit_of
   step-absent p e = rw p e
 
-  module _ (v : ℕ) (p : n ≡ Value v) where
+  module _ (v : ℕ) (p : n ≡ Some v) where
     pub step_small : v < 65536 → g ≡ met skip run v → g ≡ step skip run n
     unfolding step met_any unit_of
     step_small h e = rw (p, lt-ltb v 65536 h) e
@@ -87,12 +86,12 @@ module _ (skip : ℕ) (run : Run) (n : Property) (g : Gave) where
     unfolding step met_any unit_of
     step-outside h k e = rw (p, le-ltb v 65536 h, lt-leb 4294901760 v k) e
 
-module _ (run : Run) (n : Property) (g : Gave) where
+module _ (run : Run) (n : Option ℕ) (g : Gave) where
   pub standard-absent : n ≡ None → g ≡ cut_short run → g ≡ standard_step run n
   unfolding standard_step taken_any unit_of
   standard-absent p e = rw p e
 
-  module _ (v : ℕ) (p : n ≡ Value v) where
+  module _ (v : ℕ) (p : n ≡ Some v) where
     pub standard-small : v < 65536 → g ≡ taken run v → g ≡ standard_step run n
     unfolding standard_step taken_any unit_of
     standard-small h e = rw (p, lt-ltb v 65536 h) e

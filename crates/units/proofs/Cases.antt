@@ -4,20 +4,19 @@
 use mathlib.Core.Path.{◌≡◌, refl}
 use mathlib.Core.List.{List, [], ◌∷◌}
 use Prim.Native.Nat.{ℕ}
-use Rattle.tokens.specs.declared.Property.{Property}
-use Rattle.tokens.specs.declared.Property.TheVariants.{None, Value}
 use Rattle.utf8.specs.Utf8.{utf8}
 use Rattle.units.specs.Units.{unit_of, units, later, kept, decode, utf8_all, run_text}
 use Rattle.units.specs.Units.{before, taken, met, met_any, step, values, flushed}
 use Rattle.units.proofs.Units.{walk}
+use Rattle.std.specs.Prelude.{Option, Some, None}
 
 -- numbers that are present
-abbrev given : List ℕ → List Property
+abbrev given : List ℕ → List (Option ℕ)
 given [] = []
-given (v ∷ vs) = Value v ∷ given vs
+given (v ∷ vs) = Some v ∷ given vs
 
 -- the text of numbers, by the definition; and token by token
-abbrev Text : ℕ → List Property → List ℕ → Type 0
+abbrev Text : ℕ → List (Option ℕ) → List ℕ → Type 0
 Text skip ns bs = (run_text skip ns ≡ bs) × (utf8_all (walk skip before ns) ≡ bs)
 
 -- `{\u8212 \'97}`: the fallback behind a character is skipped
@@ -61,12 +60,12 @@ unfolding unit_of units later kept decode utf8_all utf8 run_text taken met met_a
 no-restart = (refl, refl)
 
 -- nor does a token without a number
-no_number : Text 1 (Value 8212 ∷ (None ∷ (Value 151 ∷ []))) (226 ∷ (128 ∷ (148 ∷ [])))
+no_number : Text 1 (Some 8212 ∷ (None ∷ (Some 151 ∷ []))) (226 ∷ (128 ∷ (148 ∷ [])))
 unfolding unit_of units later kept decode utf8_all utf8 run_text taken met met_any step values flushed walk
 no_number = (refl, refl)
 
 -- such numbers alone give nothing
-no-unit : Text 1 (None ∷ (Value 70000 ∷ [])) []
+no-unit : Text 1 (None ∷ (Some 70000 ∷ [])) []
 unfolding unit_of units later kept decode utf8_all utf8 run_text taken met met_any step values flushed walk
 no-unit = (refl, refl)
 

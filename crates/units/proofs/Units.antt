@@ -17,8 +17,6 @@ use native.Mathlib.Omega.{arith}
 use lib.Dec.{leb, ltb}
 use lib.ListN.{length, length-append}
 use borrow.Author.Tests.{ltb-true, le-leb, lt-leb}
-use Rattle.tokens.specs.declared.Property.{Property}
-use Rattle.tokens.specs.declared.Property.TheVariants.{None, Value}
 use Rattle.tokens.specs.Tokens.{value_of}
 use Rattle.utf8.specs.Utf8.{is_scalar, utf8, written}
 use Rattle.utf8.proofs.Utf8.{length-utf8, written-scalar}
@@ -27,14 +25,15 @@ use Rattle.units.specs.declared.Gave.{Gave}
 use Rattle.units.specs.Units.{unit_of, units, skip_count, later, kept, is_high, is_low, alone, pair, decode, utf8_all, run_text}
 use Rattle.units.specs.Units.{before, nothing, taken, met, met_any, step, values, flushed}
 use Rattle.units.proofs.Tests.{and_left, and_right, high-waits, high-surrogate}
+use Rattle.std.specs.Prelude.{Option, Some, None, option_to_list}
 
 -- ---- by cases
 
 -- a number gives no unit or one
-by-unit : (n : Property) (P : List ℕ → Type 0) → P [] → ((u : ℕ) → P (u ∷ [])) → P (unit_of n)
+by-unit : (n : Option ℕ) (P : List ℕ → Type 0) → P [] → ((u : ℕ) → P (u ∷ [])) → P (unit_of n)
 unfolding unit_of
 by-unit None P none one = none
-by-unit (Value v) P none one = go (ltb v 65536) (leb 4294901760 v)
+by-unit (Some v) P none one = go (ltb v 65536) (leb 4294901760 v)
   where
     go : (s t : Bool) → P (cond s (v ∷ []) (cond t ((v - 4294901760) ∷ []) []))
     go true t = one v
@@ -63,19 +62,19 @@ by-met skip run u P over stay = go (run.begun && skips skip run u) refl
 -- a kept unit ends a pair, waits, or stands alone
 by-taken : (run : Run) (u : ℕ) (P : Gave → Type 0)
     → (ltb 0 run.high ≡ true → is_low u ≡ true
-    → P (record { run = record { begun = true; skipped = 0; high = 0 }; lost = false; some = true; value = pair run.high u }))
+    → P (record { run = record { begun = true; skipped = 0; high = 0 }; lost = false; value = Some (pair run.high u) }))
     → (ltb 0 run.high && is_low u ≡ false → is_high u ≡ true
-    → P (record { run = record { begun = true; skipped = 0; high = u }; lost = ltb 0 run.high; some = false; value = 0 }))
+    → P (record { run = record { begun = true; skipped = 0; high = u }; lost = ltb 0 run.high; value = None }))
     → (ltb 0 run.high && is_low u ≡ false → is_high u ≡ false
-    → P (record { run = record { begun = true; skipped = 0; high = 0 }; lost = ltb 0 run.high; some = true; value = alone u }))
+    → P (record { run = record { begun = true; skipped = 0; high = 0 }; lost = ltb 0 run.high; value = Some (alone u) }))
     → P (taken run u)
 unfolding taken
 by-taken run u P both waits stands = go (ltb 0 run.high && is_low u) (is_high u) refl refl
   where
     go : (s t : Bool) → ltb 0 run.high && is_low u ≡ s → is_high u ≡ t
-        → P (cond s (record { run = record { begun = true; skipped = 0; high = 0 }; lost = false; some = true; value = pair run.high u })
-        (cond t (record { run = record { begun = true; skipped = 0; high = u }; lost = ltb 0 run.high; some = false; value = 0 })
-        (record { run = record { begun = true; skipped = 0; high = 0 }; lost = ltb 0 run.high; some = true; value = alone u })))
+        → P (cond s (record { run = record { begun = true; skipped = 0; high = 0 }; lost = false; value = Some (pair run.high u) })
+        (cond t (record { run = record { begun = true; skipped = 0; high = u }; lost = ltb 0 run.high; value = None })
+        (record { run = record { begun = true; skipped = 0; high = 0 }; lost = ltb 0 run.high; value = Some (alone u) })))
     go true t p q = both (and_left (ltb 0 run.high) (is_low u) p) (and_right (ltb 0 run.high) (is_low u) p)
     go false true p q = waits p q
     go false false p q = stands p q
@@ -91,7 +90,7 @@ unfoldable pub staying : ℕ → Run → List ℕ → List ℕ
 staying skip run us = cond run.begun (later skip run.skipped us) (kept skip us)
 
 -- the scalar values of a run that has come so far, from here on
-unfoldable pub rest : ℕ → Run → List Property → List ℕ
+unfoldable pub rest : ℕ → Run → List (Option ℕ) → List ℕ
 rest skip run ns = decode (pending run ++ staying skip run (units ns))
 
 -- what waits is a high surrogate, and nothing waits before the first unit
@@ -109,7 +108,7 @@ fit-taken run u =
     (λ p q. record { waiting = λ r. q; unbegun = λ r. absurd (true≢false r) })
     (λ p q. record { waiting = λ r. absurd (omega (arith, ltb-true 0 0 r)); unbegun = λ r. absurd (true≢false r) })
 
-pub fit-step : {run : Run} (skip : ℕ) (n : Property) → Fit run → Fit (step skip run n).run
+pub fit-step : {run : Run} (skip : ℕ) (n : Option ℕ) → Fit run → Fit (step skip run n).run
 unfolding step met_any
 fit-step {run} skip n f =
     by-unit n (λ (us : List ℕ). Fit (met_any skip run us).run) f
@@ -119,7 +118,7 @@ fit-step {run} skip n f =
 
 -- ---- the laws of `rest`
 
-pub rest-start : (skip : ℕ) (ns : List Property) → rest skip before ns ≡ decode (kept skip (units ns))
+pub rest-start : (skip : ℕ) (ns : List (Option ℕ)) → rest skip before ns ≡ decode (kept skip (units ns))
 unfolding rest pending staying
 rest-start skip ns = refl
 
@@ -181,7 +180,7 @@ rest-met {run} skip u us f =
     (rest_over skip run u us)
     (λ p. rw (staying-keeps skip run u us p, staying-taken skip run u us) (rest-taken u (later skip 0 us) f))
 
-pub rest-step : {run : Run} (skip : ℕ) (n : Property) (ns : List Property) → Fit run
+pub rest-step : {run : Run} (skip : ℕ) (n : Option ℕ) (ns : List (Option ℕ)) → Fit run
     → rest skip run (n ∷ ns) ≡ values (step skip run n) ++ rest skip (step skip run n).run ns
 unfolding rest units step met_any values
 rest-step {run} skip n ns f =
@@ -203,11 +202,11 @@ rest_end {run} skip f = go run.begun (ltb 0 run.high) refl
     go false false p = refl
 
 -- the values of a run that is walked by `step`, from here on
-unfoldable pub walk : ℕ → Run → List Property → List ℕ
+unfoldable pub walk : ℕ → Run → List (Option ℕ) → List ℕ
 walk skip run [] = flushed run
 walk skip run (n ∷ ns) = values (step skip run n) ++ walk skip (step skip run n).run ns
 
-pub walk-rest : {run : Run} (skip : ℕ) (ns : List Property) → Fit run → walk skip run ns ≡ rest skip run ns
+pub walk-rest : {run : Run} (skip : ℕ) (ns : List (Option ℕ)) → Fit run → walk skip run ns ≡ rest skip run ns
 unfolding walk
 walk-rest {run} skip [] f = sym (rest_end skip f)
 walk-rest {run} skip (n ∷ ns) f = rw (walk-rest {run = (step skip run n).run} skip ns (fit-step skip n f)) (sym (rest-step skip n ns f))
@@ -219,11 +218,11 @@ unfolding utf8_all
 utf8_all-append [] b = refl
 utf8_all-append (c ∷ a) b = rw (utf8_all-append a b, append_assoc)
 
-pub text-start : (skip : ℕ) (ns : List Property) → utf8_all (rest skip before ns) ≡ run_text skip ns
+pub text-start : (skip : ℕ) (ns : List (Option ℕ)) → utf8_all (rest skip before ns) ≡ run_text skip ns
 unfolding run_text
 text-start skip ns = ap utf8_all (rest-start skip ns)
 
-pub text-step : {run : Run} (skip : ℕ) (n : Property) (ns : List Property) → Fit run
+pub text-step : {run : Run} (skip : ℕ) (n : Option ℕ) (ns : List (Option ℕ)) → Fit run
     → utf8_all (rest skip run (n ∷ ns)) ≡ utf8_all (values (step skip run n)) ++ utf8_all (rest skip (step skip run n).run ns)
 text-step skip n ns f = ap utf8_all (rest-step skip n ns f) ∙ utf8_all-append _ _
 
@@ -231,7 +230,7 @@ pub text-end : {run : Run} (skip : ℕ) → Fit run → utf8_all (rest skip run 
 text-end skip f = ap utf8_all (rest_end skip f)
 
 -- who walks a run from its start has its text
-pub text-walk : (skip : ℕ) (ns : List Property) → utf8_all (walk skip before ns) ≡ run_text skip ns
+pub text-walk : (skip : ℕ) (ns : List (Option ℕ)) → utf8_all (walk skip before ns) ≡ run_text skip ns
 text-walk skip ns = ap utf8_all (walk-rest skip ns fit-before) ∙ text-start skip ns
 
 -- ---- units below 65,536 give scalar values
@@ -242,7 +241,7 @@ Units16 [] = Unit {0}
 Units16 (u ∷ us) = (u < 65536) × Units16 us
 
 -- each number fits its word
-abbrev pub Numbers32 : List Property → Type 0
+abbrev pub Numbers32 : List (Option ℕ) → Type 0
 Numbers32 [] = Unit {0}
 Numbers32 (n ∷ ns) = (value_of n < 4294967296) × Numbers32 ns
 
@@ -251,10 +250,10 @@ abbrev pub Scalars : List ℕ → Type 0
 Scalars [] = Unit {0}
 Scalars (c ∷ cs) = (is_scalar c ≡ true) × Scalars cs
 
-pub unit_of-small : (n : Property) → value_of n < 4294967296 → Units16 (unit_of n)
+pub unit_of-small : (n : Option ℕ) → value_of n < 4294967296 → Units16 (unit_of n)
 unfolding unit_of
 unit_of-small None h = tt
-unit_of-small (Value v) h = go (ltb v 65536) (leb 4294901760 v) refl
+unit_of-small (Some v) h = go (ltb v 65536) (leb 4294901760 v) refl
   where
     go : (s t : Bool) → ltb v 65536 ≡ s → Units16 (cond s (v ∷ []) (cond t ((v - 4294901760) ∷ []) []))
     go true t p = (ltb-true v 65536 p, tt)
@@ -265,7 +264,7 @@ units16-append : (a b : List ℕ) → Units16 a → Units16 b → Units16 (a ++ 
 units16-append [] b h k = k
 units16-append (u ∷ a) b h k = (h.0, units16-append a b h.1 k)
 
-pub units_small : (ns : List Property) → Numbers32 ns → Units16 (units ns)
+pub units_small : (ns : List (Option ℕ)) → Numbers32 ns → Units16 (units ns)
 unfolding units
 units_small [] h = tt
 units_small (n ∷ ns) h = units16-append (unit_of n) (units ns) (unit_of-small n h.0) (units_small ns h.1)
@@ -304,48 +303,46 @@ decode-scalars (u ∷ v ∷ us) h = go (is_high u && is_low v) (decode-scalars u
     go true a b = (pair-scalar u v, a)
     go false a b = (alone-scalar u h.0, b)
 
-pub run-scalars : (skip : ℕ) (ns : List Property) → Numbers32 ns → Scalars (decode (kept skip (units ns)))
+pub run-scalars : (skip : ℕ) (ns : List (Option ℕ)) → Numbers32 ns → Scalars (decode (kept skip (units ns)))
 run-scalars skip ns h = decode-scalars (kept skip (units ns)) (kept_small skip (units ns) (units_small ns h))
 
+-- a value as a caller writes it, if there is one
+abbrev pub written_if : Option ℕ → List ℕ
+written_if (Some c) = written c
+written_if None = []
+
 -- a token's value, if it gave one
-module _ (skip : ℕ) (run : Run) (n : Property) (h : value_of n < 4294967296) where
-  pub value-scalar : (step skip run n).some ≡ true → is_scalar (step skip run n).value ≡ true
+module _ (skip : ℕ) (run : Run) (n : Option ℕ) (h : value_of n < 4294967296) where
+  pub value-scalar : Scalars (option_to_list (step skip run n).value)
   unfolding step met_any
   value-scalar =
-      by-unit n (λ (us : List ℕ). Units16 us → (met_any skip run us).some ≡ true → is_scalar (met_any skip run us).value ≡ true)
-      (λ w p. absurd (false≢true p))
-      (λ u w. by-met skip run u (λ (g : Gave). g.some ≡ true → is_scalar g.value ≡ true)
-      (λ p q r. absurd (false≢true r))
-      (λ p. by-taken run u (λ (g : Gave). g.some ≡ true → is_scalar g.value ≡ true)
-      (λ q r s. pair-scalar run.high u) (λ q r s. absurd (false≢true s)) (λ q r s. alone-scalar u w.0)))
+      by-unit n (λ (us : List ℕ). Units16 us → Scalars (option_to_list (met_any skip run us).value))
+      (λ w. tt)
+      (λ u w. by-met skip run u (λ (g : Gave). Scalars (option_to_list g.value))
+      (λ p q. tt)
+      (λ p. by-taken run u (λ (g : Gave). Scalars (option_to_list g.value))
+      (λ q r. (pair-scalar run.high u, tt)) (λ q r. tt) (λ q r. (alone-scalar u w.0, tt))))
       (unit_of-small n h)
 
   pub values-scalars : Scalars (values (step skip run n))
   unfolding values
-  values-scalars = go (step skip run n).lost (step skip run n).some value-scalar
+  values-scalars = go (step skip run n).lost value-scalar
     where
-      go : (s t : Bool) → (t ≡ true → is_scalar (step skip run n).value ≡ true)
-          → Scalars (cond s (65533 ∷ []) [] ++ cond t ((step skip run n).value ∷ []) [])
-      go true true p = (refl, (p refl, tt))
-      go true false p = (refl, tt)
-      go false true p = (p refl, tt)
-      go false false p = tt
+      go : (s : Bool) → Scalars (option_to_list (step skip run n).value) → Scalars (cond s (65533 ∷ []) [] ++ option_to_list (step skip run n).value)
+      go true p = (refl, p)
+      go false p = p
 
   module _ (g : Gave) (q : g ≡ step skip run n) where
-    pub value_written : g.some ≡ true → written g.value ≡ utf8 g.value
-    value_written = rw q (λ p. written-scalar (step skip run n).value (value-scalar p))
-
     -- what a caller writes by `encode`
-    pub text-values : utf8_all (values g) ≡ cond g.lost (written 65533) [] ++ cond g.some (written g.value) []
+    pub text-values : utf8_all (values g) ≡ cond g.lost (written 65533) [] ++ written_if g.value
     unfolding values utf8_all
-    text-values = go g.lost g.some value_written
+    text-values = go g.lost g.value (rw q value-scalar)
       where
-        go : (s t : Bool) → (t ≡ true → written g.value ≡ utf8 g.value)
-            → utf8_all (cond s (65533 ∷ []) [] ++ cond t (g.value ∷ []) []) ≡ cond s (written 65533) [] ++ cond t (written g.value) []
-        go true true p = rw (p refl, written-scalar 65533 refl, append-nil)
-        go true false p = rw (written-scalar 65533 refl)
-        go false true p = rw (p refl, append-nil)
-        go false false p = refl
+        go : (s : Bool) (v : Option ℕ) → Scalars (option_to_list v) → utf8_all (cond s (65533 ∷ []) [] ++ option_to_list v) ≡ cond s (written 65533) [] ++ written_if v
+        go true (Some c) p = rw (written-scalar c p.0, written-scalar 65533 refl, append-nil)
+        go true None p = rw (written-scalar 65533 refl)
+        go false (Some c) p = rw (written-scalar c p.0, append-nil)
+        go false None p = refl
 
 pub text-flushed : (run : Run) → utf8_all (flushed run) ≡ cond (ltb 0 run.high) (written 65533) []
 unfolding flushed utf8_all
@@ -369,6 +366,6 @@ unfolding utf8_all
 utf8_all-some [] h = h
 utf8_all-some (c ∷ cs) h = rw length-append (omega (arith, length-utf8 c))
 
-pub run_text-some : (skip : ℕ) (ns : List Property) (u : ℕ) (us : List ℕ) → units ns ≡ u ∷ us → 1 ≤ length (run_text skip ns)
+pub run_text-some : (skip : ℕ) (ns : List (Option ℕ)) (u : ℕ) (us : List ℕ) → units ns ≡ u ∷ us → 1 ≤ length (run_text skip ns)
 unfolding run_text kept
 run_text-some skip ns u us e = rw e (utf8_all-some (decode (u ∷ later skip 0 us)) (decode-some u (later skip 0 us)))

@@ -1,20 +1,19 @@
 -- 01, Body, and 02, A1: the text of a run of adjacent `u` tokens, by RFC 2781 (UTF-16) and RFC 3629 (UTF-8). Assumes nothing: these are
 -- definitions.
-use Rattle.std.specs.Prelude.{ℕ, ◌+◌, ◌-◌, ◌*◌, ◌%◌, List, [], ◌∷◌, ◌++◌, Bool, true, false, cond, ◌&&◌, leb, ltb}
-use Rattle.tokens.specs.declared.Property.{Property}
-use Rattle.tokens.specs.declared.Property.TheVariants.{None, Value}
+use Rattle.std.specs.Prelude.{ℕ, ◌+◌, ◌-◌, ◌*◌, ◌%◌, List, [], ◌∷◌, ◌++◌, Bool, true, false, cond, ◌&&◌, leb, ltb, option_to_list, Some, None, Option}
 use Rattle.utf8.specs.Utf8.{utf8}
 use Rattle.units.specs.declared.Run.{Run}
 use Rattle.units.specs.declared.Gave.{Gave}
+use Rattle.std.specs.Prelude.{Option, Some, None}
 
 -- "a negative gets 65,536 added; outside 0 to 65,535, or no number, gives none." A negative number n stands as n + 2^32, so
 -- with 65,536 added it is 4,294,901,760 less than it stands
-unfoldable pub unit_of : Property → List ℕ
+unfoldable pub unit_of : Option ℕ → List ℕ
 unit_of None = []
-unit_of (Value v) = cond (ltb v 65536) (v ∷ []) (cond (leb 4294901760 v) ((v - 4294901760) ∷ []) [])
+unit_of (Some v) = cond (ltb v 65536) (v ∷ []) (cond (leb 4294901760 v) ((v - 4294901760) ∷ []) [])
 
 -- "A run of adjacent `u` tokens gives units"
-unfoldable pub units : List Property → List ℕ
+unfoldable pub units : List (Option ℕ) → List ℕ
 units [] = []
 units (n ∷ ns) = unit_of n ++ units ns
 
@@ -59,7 +58,7 @@ utf8_all [] = []
 utf8_all (c ∷ cs) = utf8 c ++ utf8_all cs
 
 -- the text of a run's numbers under a skip count
-unfoldable pub run_text : ℕ → List Property → List ℕ
+unfoldable pub run_text : ℕ → List (Option ℕ) → List ℕ
 run_text skip ns = utf8_all (decode (kept skip (units ns)))
 
 -- A run, token by token. What has come so far: whether a unit has, how many were skipped since the last kept one, and a high
@@ -69,15 +68,15 @@ before = record { begun = false; skipped = 0; high = 0 }
 
 -- what a token gives: U+FFFD for a waiting surrogate that gets no low one, a value, both or neither
 abbrev pub nothing : Run → Gave
-nothing run = record { run = run; lost = false; some = false; value = 0 }
+nothing run = record { run = run; lost = false; value = None }
 
 -- a kept unit
 unfoldable pub taken : Run → ℕ → Gave
 taken run u =
     let lost = ltb 0 run.high in
-    cond (lost && is_low u) (record { run = record { begun = true; skipped = 0; high = 0 }; lost = false; some = true; value = pair run.high u })
-    (cond (is_high u) (record { run = record { begun = true; skipped = 0; high = u }; lost = lost; some = false; value = 0 })
-    (record { run = record { begun = true; skipped = 0; high = 0 }; lost = lost; some = true; value = alone u }))
+    cond (lost && is_low u) (record { run = record { begun = true; skipped = 0; high = 0 }; lost = false; value = Some (pair run.high u) })
+    (cond (is_high u) (record { run = record { begun = true; skipped = 0; high = u }; lost = lost; value = None })
+    (record { run = record { begun = true; skipped = 0; high = 0 }; lost = lost; value = Some (alone u) }))
 
 -- a unit, skipped or kept
 unfoldable pub met : ℕ → Run → ℕ → Gave
@@ -91,12 +90,12 @@ met_any skip run [] = nothing run
 met_any skip run (u ∷ us) = met skip run u
 
 -- a token
-unfoldable pub step : ℕ → Run → Property → Gave
+unfoldable pub step : ℕ → Run → Option ℕ → Gave
 step skip run n = met_any skip run (unit_of n)
 
 -- what ends a run: a surrogate that waits is lost
 abbrev pub cut_short : Run → Gave
-cut_short run = record { run = before; lost = ltb 0 run.high; some = false; value = 0 }
+cut_short run = record { run = before; lost = ltb 0 run.high; value = None }
 
 -- 02, A1: "01's rule on units of at most 255 does not hold here": each unit is kept; "anything that is read parts them, .. and so does a `\u`
 -- without a unit"
@@ -104,12 +103,12 @@ unfoldable pub taken_any : Run → List ℕ → Gave
 taken_any run [] = cut_short run
 taken_any run (u ∷ us) = taken run u
 
-unfoldable pub standard_step : Run → Property → Gave
+unfoldable pub standard_step : Run → Option ℕ → Gave
 standard_step run n = taken_any run (unit_of n)
 
 -- the scalar values that a token gave
 unfoldable pub values : Gave → List ℕ
-values g = cond g.lost (65533 ∷ []) [] ++ cond g.some (g.value ∷ []) []
+values g = cond g.lost (65533 ∷ []) [] ++ option_to_list g.value
 
 -- the scalar values at the end of a run
 unfoldable pub flushed : Run → List ℕ

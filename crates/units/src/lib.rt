@@ -11,8 +11,6 @@
 ghost use Rattle.std.specs.Prelude.{◌≡◌, ltb};
 ghost use Rattle.units.specs.Units.{is_high, is_low, alone as alone_of, pair as pair_of, before as before_of, nothing as nothing_of, cut_short, taken as taken_of, met as met_of, step as step_of, standard_step};
 
-use tokens::Property;
-
 // Whether a unit has come, how many were skipped since the last kept one, a high surrogate that waits (0 if none does).
 #[derive(Clone, Copy)]
 pub struct Run {
@@ -21,13 +19,25 @@ pub struct Run {
     pub high: u32,
 }
 
-// What a token gives: U+FFFD for a waiting surrogate if `lost`, then `value` if `some`.
+impl Run {
+    // No unit has come.
+    pub fn before() -> Run
+        ensures { result ≡ before_of }
+    {
+        Run {
+            begun: false,
+            skipped: 0,
+            high: 0,
+        }
+    }
+}
+
+// What a token gives: U+FFFD for a waiting surrogate if `lost`, and then a value or none.
 #[derive(Clone, Copy)]
 pub struct Gave {
     pub run: Run,
     pub lost: bool,
-    pub some: bool,
-    pub value: u32,
+    pub value: Option<u32>,
 }
 
 fn is_high(u: u32) -> bool
@@ -67,8 +77,7 @@ fn nothing(run: Run) -> Gave
     Gave {
         run: run,
         lost: false,
-        some: false,
-        value: 0,
+        value: None,
     }
 }
 
@@ -88,8 +97,7 @@ fn taken(run: Run, u: u32) -> Gave
         return Gave {
             run: next,
             lost: false,
-            some: true,
-            value: value,
+            value: Some(value),
         };
     }
     if is_high(u) {
@@ -101,8 +109,7 @@ fn taken(run: Run, u: u32) -> Gave
         return Gave {
             run: next,
             lost: lost,
-            some: false,
-            value: 0,
+            value: None,
         };
     }
     let value = alone(u);
@@ -114,8 +121,7 @@ fn taken(run: Run, u: u32) -> Gave
     Gave {
         run: next,
         lost: lost,
-        some: true,
-        value: value,
+        value: Some(value),
     }
 }
 
@@ -138,12 +144,12 @@ fn met(skip: u32, run: Run, u: u32) -> Gave
 }
 
 // A token's number: a negative gets 65,536 added; outside 0 to 65,535, or no number, gives no unit.
-pub fn step(skip: u32, run: Run, number: Property) -> Gave
+pub fn step(skip: u32, run: Run, number: Option<u32>) -> Gave
     ensures { result ≡ step_of skip run number }
 {
     match number {
-        Property::None => nothing(run),
-        Property::Value(v) => {
+        None => nothing(run),
+        Some(v) => {
             if v < 65536 {
                 return met(skip, run, v);
             }
@@ -159,26 +165,20 @@ pub fn step(skip: u32, run: Run, number: Property) -> Gave
 fn cut_short(run: Run) -> Gave
     ensures { result ≡ cut_short run }
 {
-    let ended = Run {
-        begun: false,
-        skipped: 0,
-        high: 0,
-    };
     Gave {
-        run: ended,
+        run: Run::before(),
         lost: 0 < run.high,
-        some: false,
-        value: 0,
+        value: None,
     }
 }
 
 // A token's number by the specification.
-pub fn standard_step(run: Run, number: Property) -> Gave
+pub fn standard_step(run: Run, number: Option<u32>) -> Gave
     ensures { result ≡ standard_step run number }
 {
     match number {
-        Property::None => cut_short(run),
-        Property::Value(v) => {
+        None => cut_short(run),
+        Some(v) => {
             if v < 65536 {
                 return taken(run, v);
             }

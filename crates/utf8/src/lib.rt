@@ -1,4 +1,5 @@
 // A Unicode scalar value as UTF-8 (RFC 3629, section 3), by shifts and masks. Every public function is total.
+// Not by `char::encode_utf8`: its clauses say nothing of the array that it wrote, which is what is kept here.
 #![tactic(auto)]
 
 ghost use Rattle.std.specs.Prelude.{◌≡◌, [], ◌∷◌, ◌+◌, ◌/◌, ◌≤◌, ◌<◌};
@@ -18,25 +19,19 @@ fn is_scalar(c: u32) -> bool
     (c <= 0x10FFFF) & !((0xD800 <= c) & (c <= 0xDFFF))
 }
 
-fn low_byte(x: u32) -> u8
-    requires { x < 256 }
-    ensures { result ≡ x }
-{
-    x as u8
-}
-
 // A byte behind the first: it holds the six low bits.
 fn tail_of(x: u32) -> u8
     ensures { result ≡ tail x }
 {
-    low_byte((x & 63) | 128)
+    ((x & 63) | 128) as u8
 }
 
+// A function for each length: one with the length as a parameter would be a loop, with a table of marks beside it.
 fn two(c: u32) -> Encoded
     requires { c < 2048 }
     ensures { result ≡ padded ((192 + c / 64) ∷ (tail c ∷ [])) }
 {
-    let a = low_byte((c >> 6) | 192);
+    let a = ((c >> 6) | 192) as u8;
     let b = tail_of(c);
     Encoded {
         length: 2,
@@ -48,7 +43,7 @@ fn three(c: u32) -> Encoded
     requires { c < 65536 }
     ensures { result ≡ padded ((224 + c / 4096) ∷ (tail (c / 64) ∷ (tail c ∷ []))) }
 {
-    let a = low_byte((c >> 12) | 224);
+    let a = ((c >> 12) | 224) as u8;
     let b = tail_of(c >> 6);
     let d = tail_of(c);
     Encoded {
@@ -61,7 +56,7 @@ fn four(c: u32) -> Encoded
     requires { c ≤ 1114111 }
     ensures { result ≡ padded ((240 + c / 262144) ∷ (tail (c / 4096) ∷ (tail (c / 64) ∷ (tail c ∷ [])))) }
 {
-    let a = low_byte((c >> 18) | 240);
+    let a = ((c >> 18) | 240) as u8;
     let b = tail_of(c >> 12);
     let d = tail_of(c >> 6);
     let e = tail_of(c);
@@ -77,7 +72,7 @@ fn sequence_of(c: u32) -> Encoded
     ensures { result ≡ padded (utf8 c) }
 {
     if c < 0x80 {
-        let a = low_byte(c);
+        let a = c as u8;
         return Encoded {
             length: 1,
             bytes: [a, 0, 0, 0],

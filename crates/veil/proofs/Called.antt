@@ -10,9 +10,7 @@ use native.Mathlib.Omega.{arith}
 use lib.ListN.{length, replicate}
 use Rattle.answers.specs.declared.Why.{Why}
 use Rattle.answers.specs.declared.Refusal.{Refusal}
-use Rattle.answers.specs.declared.Outcome.{Outcome}
-use Rattle.answers.specs.declared.Outcome.TheVariants.{Done, Refused}
-use Rattle.answers.specs.Answers.{Found, found, refused}
+use Rattle.answers.specs.Answers.{Found, found, refused, answer_number}
 use Rattle.rooms.specs.Rooms.{filled}
 use Rattle.rooms.specs.Streams.{items}
 use Rattle.cutter.specs.Cutting.{token_stream, cut_answer}
@@ -20,11 +18,9 @@ use Rattle.fonts.specs.Rows.{Font, font_record, table_words}
 use Rattle.readings.specs.declared.Reading.{Reading}
 use Rattle.blocks.specs.Pages.{Piece, blocks, text_of, records}
 use Rattle.parser.specs.declared.Counts.{Counts}
-use Rattle.parser.specs.declared.Answer.{Answer}
-use Rattle.parser.specs.declared.Answer.TheVariants.{Read}
 use Rattle.parser.specs.Parsing.{Sizes, Letter}
 use Rattle.reader.specs.Reading.{cut, letter_of, answered, read_answer, holding, font_room, colour_room, block_room}
-use Rattle.parser.specs.Parsing.{answer_number, answer_counts}
+use Rattle.parser.specs.Parsing.{answer_counts}
 use Rattle.reader.specs.Reading.{text_room}
 use Rattle.reader.specs.Reading.{Reads}
 use Rattle.veil.specs.Veil.{veil, Alike}
@@ -33,6 +29,7 @@ use Rattle.veil.specs.Said.{unplaced}
 use Rattle.veil.proofs.Steps.{own_names, say_of}
 use Rattle.veil.proofs.Groups.{alike-veil}
 use Rattle.veil.proofs.HiddenStays.{said-own, hidden-stays-hidden}
+use Rattle.std.specs.Prelude.{Result, Ok, Err}
 
 -- ---- a font table in its room
 
@@ -90,7 +87,7 @@ says-refuses e = let z : ◌≡◌ {A = ℕ} 0 1 = cc in omega arith
 
 -- What they leave alike: the answer's number; the counts but that of tokens; the rooms of colours, blocks and text; the fonts'
 -- keys and names; and the font rooms but for the places. On a refusal counts and rooms are zero
-pub record SameLeft (a b : List ℕ) (r q : Answer) (fs cs bs tx gs ds es ux : List ℕ) : Type 0 where
+pub record SameLeft (a b : List ℕ) (r q : Result Counts Refusal) (fs cs bs tx gs ds es ux : List ℕ) : Type 0 where
   pub number : answer_number r ≡ answer_number q
   pub font-count : (answer_counts r).fonts ≡ (answer_counts q).fonts
   pub colour-count : (answer_counts r).colours ≡ (answer_counts q).colours
@@ -174,20 +171,20 @@ module _ (rd : Reading) (a b : List ℕ) (z y : Sizes) (same : SameRooms z y) wh
 -- ---- the theorem
 
 -- a call that succeeds has cut its letter
-pub read-cut : (rd : Reading) (src : List ℕ) (z : Sizes) {c : Counts} → read_answer rd src z ≡ Read c
-    → (n : ℕ) × (cut_answer rd src z.tokens ≡ Done n)
+pub read-cut : (rd : Reading) (src : List ℕ) (z : Sizes) {c : Counts} → read_answer rd src z ≡ Ok c
+    → (n : ℕ) × (cut_answer rd src z.tokens ≡ Ok n)
 unfolding read_answer letter_of
 read-cut rd src z {c} e = go (cut_answer rd src z.tokens) refl e
   where
-    go : (o : Outcome) → cut_answer rd src z.tokens ≡ o → answered rd src (cut rd z (items (token_stream rd src)) o) ≡ Read c
-        → (n : ℕ) × (cut_answer rd src z.tokens ≡ Done n)
-    go (Done n) q f = (n, q)
-    go (Refused r) q f = absurd (let w : ◌≡◌ {A = ℕ} 0 1 = cc in omega arith)
+    go : (o : Result ℕ Refusal) → cut_answer rd src z.tokens ≡ o → answered rd src (cut rd z (items (token_stream rd src)) o) ≡ Ok c
+        → (n : ℕ) × (cut_answer rd src z.tokens ≡ Ok n)
+    go (Ok n) q f = (n, q)
+    go (Err r) q f = absurd (let w : ◌≡◌ {A = ℕ} 0 1 = cc in omega arith)
 
 -- Two calls of `read`: `Reads` is its contract, for a source and rooms of such sizes, with the answer and the five rooms that
 -- the call leaves. Premises as in `hidden-stays-hidden`
-module _ (rd : Reading) (a b : List ℕ) (z y : Sizes) (same : SameRooms z y) {n m : ℕ} (u : cut_answer rd a z.tokens ≡ Done n) (v : cut_answer rd b y.tokens ≡ Done m) where
-  pub same-calls : veil rd a ≡ veil rd b → {r q : Answer} {tk fs cs bs tx uk gs ds es ux : List ℕ}
+module _ (rd : Reading) (a b : List ℕ) (z y : Sizes) (same : SameRooms z y) {n m : ℕ} (u : cut_answer rd a z.tokens ≡ Ok n) (v : cut_answer rd b y.tokens ≡ Ok m) where
+  pub same-calls : veil rd a ≡ veil rd b → {r q : Result Counts Refusal} {tk fs cs bs tx uk gs ds es ux : List ℕ}
       → Reads rd a z r tk fs cs bs tx → Reads rd b y q uk gs ds es ux → SameLeft a b r q fs cs bs tx gs ds es ux
   unfolding read_answer font_room colour_room block_room text_room said
   same-calls e p q =
@@ -196,6 +193,6 @@ module _ (rd : Reading) (a b : List ℕ) (z y : Sizes) (same : SameRooms z y) {n
       rw (p.answer, p.fonts, p.colours, p.blocks, p.text, q.answer, q.fonts, q.colours, q.blocks, q.text)
       (same-letters rd a b z y same (letter_of rd a z) (letter_of rd b y) f o)
 
-  pub alike-calls : Alike rd a b → {r q : Answer} {tk fs cs bs tx uk gs ds es ux : List ℕ}
+  pub alike-calls : Alike rd a b → {r q : Result Counts Refusal} {tk fs cs bs tx uk gs ds es ux : List ℕ}
       → Reads rd a z r tk fs cs bs tx → Reads rd b y q uk gs ds es ux → SameLeft a b r q fs cs bs tx gs ds es ux
   alike-calls k p q = same-calls (alike-veil rd k) p q

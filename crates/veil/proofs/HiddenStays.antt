@@ -8,12 +8,10 @@ use mathlib.Core.List.{List}
 use mathlib.Core.Bool.{true}
 use Prim.Native.Nat.{ℕ}
 use Rattle.answers.specs.declared.Why.TheVariants.{TokenRoom}
-use Rattle.answers.specs.declared.Outcome.{Outcome}
-use Rattle.answers.specs.declared.Outcome.TheVariants.{Done, Refused}
 use Rattle.answers.specs.Answers.{refusal}
 use Rattle.rooms.specs.Streams.{items, answer}
 use Rattle.rooms.specs.Rooms.{settled}
-use Rattle.rooms.proofs.Streams.{done_refused}
+use Rattle.rooms.proofs.Streams.{ok_err}
 use Rattle.tokens.specs.Tokens.{Token, token_layout}
 use Rattle.cutter.specs.Cutting.{token_stream, cut_answer}
 use Rattle.walk.specs.Walk.{Step, walk}
@@ -29,45 +27,47 @@ use Rattle.veil.proofs.Veils.{walk_same}
 use Rattle.veil.proofs.Steps.{first, begun-steps, say_of, say-bare}
 use Rattle.veil.proofs.Names.{letter-names}
 use Rattle.veil.proofs.Groups.{alike-veil}
+use Rattle.std.specs.Prelude.{Result, Ok, Err}
+use Rattle.answers.specs.declared.Refusal.{Refusal}
 
 -- a source that is cut without refusal
-cut-whole : (rd : Reading) (src : List ℕ) (total : ℕ) {n : ℕ} → cut_answer rd src total ≡ Done n → whole (token_stream rd src) ≡ true
+cut-whole : (rd : Reading) (src : List ℕ) (total : ℕ) {n : ℕ} → cut_answer rd src total ≡ Ok n → whole (token_stream rd src) ≡ true
 unfolding cut_answer settled
 cut-whole rd src total {n} e = go (answer 0 (token_stream rd src)) refl e
   where
-    go : (o : Outcome) → answer 0 (token_stream rd src) ≡ o → settled token_layout (refusal TokenRoom) total o ≡ Done n
+    go : (o : Result ℕ Refusal) → answer 0 (token_stream rd src) ≡ o → settled token_layout (refusal TokenRoom) total o ≡ Ok n
         → whole (token_stream rd src) ≡ true
-    go (Done m) a q = answer-whole (token_stream rd src) 0 m a
-    go (Refused r) a q = absurd (done_refused (sym q))
+    go (Ok m) a q = answer-whole (token_stream rd src) 0 m a
+    go (Err r) a q = absurd (ok_err (sym q))
 
 -- the steps of the walk, without places
 steps : Reading → List ℕ → List Step
 steps rd src = bare_steps (walk (items (token_stream rd src)))
 
 -- a font's name, read from the source, is the name that the font table gives
-pub said-own : (rd : Reading) (src : List ℕ) (z : Sizes) {n : ℕ} → cut_answer rd src z.tokens ≡ Done n
+pub said-own : (rd : Reading) (src : List ℕ) (z : Sizes) {n : ℕ} → cut_answer rd src z.tokens ≡ Ok n
     → said rd src z ≡ say_of (letter_of rd src z)
 unfolding said letter_of
 said-own rd src z e =
     let ts : List Token = items (token_stream rd src) in
-    ap (λ (o : Outcome). said_by src (cut rd z (items (token_stream rd src)) o)) e
+    ap (λ (o : Result ℕ Refusal). said_by src (cut rd z (items (token_stream rd src)) o)) e
     ∙ ap (said_by src) (begun-steps rd z ts)
     ∙ letter-names src rd z.fonts z.colours z.blocks z.text
     ∙ ap say_of (sym (begun-steps rd z ts))
-    ∙ ap (λ (o : Outcome). say_of (cut rd z (items (token_stream rd src)) o)) (sym e)
+    ∙ ap (λ (o : Result ℕ Refusal). say_of (cut rd z (items (token_stream rd src)) o)) (sym e)
 
 -- it says what its steps say
-said-steps : (rd : Reading) (src : List ℕ) (z : Sizes) {n : ℕ} → cut_answer rd src z.tokens ≡ Done n
+said-steps : (rd : Reading) (src : List ℕ) (z : Sizes) {n : ℕ} → cut_answer rd src z.tokens ≡ Ok n
     → said rd src z ≡ say_of (first rd z.fonts z.colours z.blocks z.text (steps rd src))
 unfolding letter_of steps
 said-steps rd src z e =
     let ts : List Token = items (token_stream rd src) in
     said-own rd src z e
-    ∙ ap (λ (o : Outcome). say_of (cut rd z (items (token_stream rd src)) o)) e
+    ∙ ap (λ (o : Result ℕ Refusal). say_of (cut rd z (items (token_stream rd src)) o)) e
     ∙ ap say_of (begun-steps rd z ts)
     ∙ sym (say-bare rd z.fonts z.colours z.blocks z.text (walk ts))
 
-same-steps : (rd : Reading) (a b : List ℕ) (s t : ℕ) {n m : ℕ} → cut_answer rd a s ≡ Done n → cut_answer rd b t ≡ Done m → veil rd a ≡ veil rd b
+same-steps : (rd : Reading) (a b : List ℕ) (s t : ℕ) {n m : ℕ} → cut_answer rd a s ≡ Ok n → cut_answer rd b t ≡ Ok m → veil rd a ≡ veil rd b
     → steps rd a ≡ steps rd b
 unfolding steps
 same-steps rd a b s t u v e = walk_same rd a b (cut-whole rd a s u) (cut-whole rd b t v) e
@@ -83,7 +83,7 @@ same-sizes rd z y ss s = rw (s.fonts, s.colours, s.blocks, s.text)
 -- for the token rooms. Premises: each source is cut without refusal in its token room (so that room is enough), and they have
 -- one veil. Then both are refused alike, or both give the same fonts, colours, blocks and text
 pub hidden-stays-hidden : (rd : Reading) (a b : List ℕ) (z y : Sizes) → SameRooms z y → {n m : ℕ}
-    → cut_answer rd a z.tokens ≡ Done n → cut_answer rd b y.tokens ≡ Done m → veil rd a ≡ veil rd b
+    → cut_answer rd a z.tokens ≡ Ok n → cut_answer rd b y.tokens ≡ Ok m → veil rd a ≡ veil rd b
     → said rd a z ≡ said rd b y
 hidden-stays-hidden rd a b z y s u v e =
     said-steps rd a z u
@@ -94,7 +94,7 @@ hidden-stays-hidden rd a b z y s u v e =
 -- The same of letters that differ inside ignored groups, each closed by its own bracket: of those in between, where one group
 -- after another is changed, nothing is asked
 pub alike-said : (rd : Reading) (a b : List ℕ) (z y : Sizes) → SameRooms z y → {n m : ℕ}
-    → cut_answer rd a z.tokens ≡ Done n → cut_answer rd b y.tokens ≡ Done m → Alike rd a b
+    → cut_answer rd a z.tokens ≡ Ok n → cut_answer rd b y.tokens ≡ Ok m → Alike rd a b
     → said rd a z ≡ said rd b y
 alike-said rd a b z y s u v k = hidden-stays-hidden rd a b z y s u v (alike-veil rd k)
 

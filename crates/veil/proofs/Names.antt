@@ -11,16 +11,12 @@ use lib.ListN.{length, take, drop}
 use lib.Seq.{length-take-le, take-take}
 use lib.Dec.{eqb, ltb}
 use Rattle.answers.specs.declared.Why.TheVariants.{FontRoom}
-use Rattle.answers.specs.declared.Outcome.{Outcome}
-use Rattle.answers.specs.declared.Outcome.TheVariants.{Done, Refused}
 use Rattle.answers.specs.Answers.{Found, found, refused, Fate, becomes, fails, found_at}
 use Rattle.classes.specs.declared.Class.TheVariants.{Semicolon}
 use Rattle.classes.specs.Bytes.{in_class, grown, body as body_length}
 use Rattle.rooms.specs.Streams.{Stream, end, stop, ◌▸◌, items, answer}
 use Rattle.rooms.specs.Rooms.{table_limit}
 use Rattle.rooms.proofs.Streams.{Each}
-use Rattle.tokens.specs.declared.Property.{Property}
-use Rattle.tokens.specs.declared.Property.TheVariants.{None, Value}
 use Rattle.tokens.specs.Tokens.{Shown, Token, token, slice_of, shown_in, shown_by}
 use Rattle.controls.proofs.Places.{Stands}
 use Rattle.cutter.specs.Cutting.{token_stream}
@@ -42,6 +38,7 @@ use Rattle.parser.specs.Parsing.{Letter, letter_from}
 use Rattle.veil.specs.Said.{name_in, names_in, said_by}
 use Rattle.veil.proofs.Steps.{laid, finished, stepped, first, own_name, own_names, say_of}
 use Rattle.answers.specs.declared.Refusal.{Refusal}
+use Rattle.std.specs.Prelude.{Result, Ok, Err, Option, Some, None}
 
 module _ (src : List ℕ) where
   -- ---- tokens: the bytes of a text stand at its place
@@ -160,13 +157,13 @@ module _ (src : List ℕ) where
       go true = (inserted-at s.font s.table h.1 h.0, h.1)
       go false = tt
 
-  rekeyed-at : (num : Property) (x : Fate Fonts) → FateAt x → FateAt (rekeyed num x)
+  rekeyed-at : (num : Option ℕ) (x : Fate Fonts) → FateAt x → FateAt (rekeyed num x)
   rekeyed-at None (becomes s) h = tt
-  rekeyed-at (Value v) (becomes s) h = h
+  rekeyed-at (Some v) (becomes s) h = h
   rekeyed-at None (fails why) h = tt
-  rekeyed-at (Value v) (fails why) h = tt
+  rekeyed-at (Some v) (fails why) h = tt
 
-  font-word-at : (limit w : ℕ) (num : Property) (s : Fonts) → FontsAt (found s) → FateAt (font_word limit w num s)
+  font-word-at : (limit w : ℕ) (num : Option ℕ) (s : Fonts) → FontsAt (found s) → FateAt (font_word limit w num s)
   unfolding font_word
   font-word-at limit w num s h = go (eqb w 9)
     where
@@ -267,9 +264,9 @@ module _ (src : List ℕ) where
   LetterAt (found l) = NamesAt l.tables.fonts
   LetterAt (refused r) = Unit {0}
 
-  ended_at : (h : Tables) (s : Stream Refusal Piece) (o : Outcome) → NamesAt h.fonts → LetterAt (letter_from h s o)
-  ended_at h s (Done n) k = k
-  ended_at h s (Refused r) k = tt
+  ended_at : (h : Tables) (s : Stream Refusal Piece) (o : Result ℕ Refusal) → NamesAt h.fonts → LetterAt (letter_from h s o)
+  ended_at h s (Ok n) k = k
+  ended_at h s (Err r) k = tt
 
   module _ (rd : Reading) (f c b t : ℕ) where
     finished-at : (ss : List Step) (x : Found Tables) → TablesAt x → LetterAt (finished rd b t ss x)

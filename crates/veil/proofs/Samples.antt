@@ -4,7 +4,6 @@ use mathlib.Core.Path.{◌≡◌, refl}
 use mathlib.Core.List.{List, [], ◌∷◌}
 use Prim.Native.Nat.{ℕ}
 use Prim.Native.String.{String}
-use Rattle.answers.specs.declared.Outcome.TheVariants.{Done}
 use Rattle.classes.specs.Bytes.{lead, body, any}
 use Rattle.classes.specs.Texts.{bytes_of}
 use Rattle.names.specs.Names.{same_bytes, place_in, word_number}
@@ -26,6 +25,7 @@ use Rattle.veil.specs.Veil.{part, parts, pieces, join, shown, mask, veil, behind
 use Rattle.veil.specs.Veil.{other}
 use Rattle.veil.specs.Said.{said, SameRooms}
 use Rattle.veil.proofs.HiddenStays.{hidden-stays-hidden}
+use Rattle.std.specs.Prelude.{Ok}
 
 -- a letter, and how many tokens it has
 record Sample : Type 0 where
@@ -89,7 +89,7 @@ base_count Standard = 8
 -- cut in a room of 600 words, and of one veil with the first letter
 abbrev Cut : Reading → List Sample → Type 0
 Cut rd [] = Unit {0}
-Cut rd (s ∷ ss) = ((cut_answer rd (bytes_of s.letter) 600 ≡ Done s.count) × (veil rd (bytes_of s.letter) ≡ veil rd base)) × Cut rd ss
+Cut rd (s ∷ ss) = ((cut_answer rd (bytes_of s.letter) 600 ≡ Ok s.count) × (veil rd (bytes_of s.letter) ≡ veil rd base)) × Cut rd ss
 
 samples-cut : (rd : Reading) → Cut rd (samples_by rd)
 unfolding samples standard_samples sample base veil pieces join mask parts part shown aim_from cut_answer token_stream trimmed all_slices last located settled ended items each and_then split slices with_feeds lead body any tokens escaped other_bytes other_by word word_tail bare_length named numbered shown_word line_break_and hex_escape hex_value plain mark word_number place_in same_bytes hex_digit hex_pair digits_from digits decimal split_standard standard_slices standard_tokens standard_escaped standard_word standard_named standard_hex standard_value standard_break break_length number_length leads tail every closed_behind closing
@@ -100,7 +100,7 @@ samples-cut Paragraphs =
 samples-cut Standard =
     ((refl, refl), ((refl, refl), ((refl, refl), ((refl, refl), ((refl, refl), ((refl, refl), ((refl, refl), ((refl, refl), ((refl, refl), ((refl, refl), ((refl, refl), ((refl, refl), ((refl, refl), tt)))))))))))))
 
-base-cut : (rd : Reading) → cut_answer rd base 600 ≡ Done (base_count rd)
+base-cut : (rd : Reading) → cut_answer rd base 600 ≡ Ok (base_count rd)
 unfolding base cut_answer token_stream trimmed all_slices last located settled ended items each and_then split slices with_feeds lead body any tokens escaped other_bytes other_by word word_tail bare_length named numbered shown_word line_break_and hex_escape hex_value plain mark word_number place_in same_bytes hex_digit hex_pair digits_from digits decimal split_standard standard_slices standard_tokens standard_escaped standard_word standard_named standard_hex standard_value standard_break break_length number_length leads tail every closed_behind closing
 base-cut Plain = refl
 base-cut Paragraphs = refl

@@ -15,20 +15,15 @@ use Rattle.readings.specs.declared.Reading.{Reading}
 use Rattle.readings.specs.declared.Reading.TheVariants.{Plain, Paragraphs, Standard}
 use Rattle.answers.specs.declared.Refusal.{Refusal}
 use Rattle.answers.specs.declared.Why.TheVariants.{SourceTooLong, NotAscii, LastSlice, HexShort, HexBad, NumberBad}
-use Rattle.answers.specs.declared.Outcome.TheVariants.{Done}
 use Rattle.answers.specs.Answers.{refusal, refusal_at}
 use Rattle.classes.specs.declared.Class.TheVariants.{White, WordEnd, InWord, Space, Numeral}
 use Rattle.classes.specs.Bytes.{is_letter, is_special, is_high, in_class, lead, body, any}
 use Rattle.classes.proofs.Runs.{and_left, and_right, or_left, or_right}
-use Rattle.numbers.specs.declared.Number.{Number}
-use Rattle.numbers.specs.declared.Number.TheVariants.{Is, Bad}
 use Rattle.numbers.specs.Numbers.{hex_pair, decimal}
 use Rattle.names.specs.Names.{word_number}
 use Rattle.rooms.specs.Streams.{Stream, end, stop, ◌▸◌, and_then, each, items, answer, ended}
-use Rattle.rooms.proofs.Streams.{done_refused}
+use Rattle.rooms.proofs.Streams.{ok_err}
 use Rattle.slices.specs.Slices.{slices, is_return, starts_with_feed, take_feed, with_feeds, Behind, is_start, starts_standard, standard_slices, slices_by}
-use Rattle.tokens.specs.declared.Property.{Property}
-use Rattle.tokens.specs.declared.Property.TheVariants.{None, Value}
 use Rattle.tokens.specs.Tokens.{Shown, Token, token, slice_of, shown_in, shown_by}
 use Rattle.controls.specs.Controls.{shown_word, numbered}
 use Rattle.tokenize.specs.Tokenize.{behind_feed, returned, other_by, is_mark, is_escape, mark, plain, hex_value, hex_escape, line_break_and}
@@ -41,6 +36,7 @@ use Rattle.veil.specs.Veil.{flat, mute, part, parts, pieces, shown}
 use Rattle.veil.proofs.Bare.{bare, bare_all, bare-append, side, Flat, none, some}
 use Rattle.veil.proofs.Cuttings.{Cutting, crate, standard, mark-plain, mark-behind, Inner, Inners, all-inner}
 use Rattle.answers.specs.declared.Why.{Why}
+use Rattle.std.specs.Prelude.{Ok, Option, Some, None}
 
 -- ---- pieces that are no brackets
 
@@ -73,7 +69,7 @@ module _ (p q : ℕ) where
   calm-tail [] = ends
   calm-tail (b ∷ s) = calm-cond (ltb (lead (in_class WordEnd) (b ∷ s)) (length (b ∷ s))) (calm-plain (b ∷ s)) (calm-text (b ∷ s))
 
-  calm-word : (name : List ℕ) (num : Property) → Calm (shown_word p name num ▸ end) (shown_word q name num ▸ end)
+  calm-word : (name : List ℕ) (num : Option ℕ) → Calm (shown_word p name num ▸ end) (shown_word q name num ▸ end)
   unfolding shown_word
   calm-word name num = go (ltb (word_number name) 49)
     where
@@ -82,10 +78,10 @@ module _ (p q : ℕ) where
       go true = more refl refl ends
       go false = more refl refl ends
 
-  calm-numbered : (name : List ℕ) (n : Number) → Calm (numbered p name n) (numbered q name n)
+  calm-numbered : (name : List ℕ) (n : Option ℕ) → Calm (numbered p name n) (numbered q name n)
   unfolding numbered
-  calm-numbered name (Is v) = calm-word name (Value v)
-  calm-numbered name Bad = stops NumberBad
+  calm-numbered name (Some v) = calm-word name (Some v)
+  calm-numbered name None = stops NumberBad
 
   calm-named : (w : List ℕ) → Calm (named p w) (named q w)
   unfolding named
@@ -99,10 +95,10 @@ calm-worded p q s =
     let k = lead (in_class InWord) s in
     calm-then (calm-named p q (take (bare_length (take k s)) s)) (calm-tail (p + 1 + (k + 1)) (q + 1 + (k + 1)) (drop (k + 1) s))
 
-calm-value : (p q : ℕ) (s : List ℕ) (n : Number) → Calm (hex_value n (plain (p + 4) s)) (hex_value n (plain (q + 4) s))
+calm-value : (p q : ℕ) (s : List ℕ) (n : Option ℕ) → Calm (hex_value n (plain (p + 4) s)) (hex_value n (plain (q + 4) s))
 unfolding hex_value
-calm-value p q s (Is v) = more refl refl (calm-plain (p + 4) (q + 4) s)
-calm-value p q s Bad = stops HexBad
+calm-value p q s (Some v) = more refl refl (calm-plain (p + 4) (q + 4) s)
+calm-value p q s None = stops HexBad
 
 calm-hex : (p q : ℕ) (s : List ℕ) → Calm (hex_escape p s) (hex_escape q s)
 unfolding hex_escape
@@ -194,10 +190,10 @@ whole end = true
 whole (stop r) = false
 whole (x ▸ s) = whole s
 
-pub answer-whole : {A : Type 0} (s : Stream Refusal A) (n m : ℕ) → answer n s ≡ Done m → whole s ≡ true
+pub answer-whole : {A : Type 0} (s : Stream Refusal A) (n m : ℕ) → answer n s ≡ Ok m → whole s ≡ true
 unfolding ended whole
 answer-whole end n m e = refl
-answer-whole (stop r) n m e = absurd (done_refused (sym e))
+answer-whole (stop r) n m e = absurd (ok_err (sym e))
 answer-whole (x ▸ s) n m e = answer-whole s (n + 1) m e
 
 module _ {E A : Type 0} where

@@ -9,16 +9,12 @@ use Prim.Native.Nat.{ℕ, ◌+◌, ◌-◌}
 use lib.ListN.{length, take}
 use lib.Dec.{eqb, ltb}
 use Rattle.answers.specs.declared.Why.TheVariants.{NoTokens, FirstToken, TableLineBreak, FontRoom, BlockRoom, TextRoom}
-use Rattle.answers.specs.declared.Outcome.{Outcome}
-use Rattle.answers.specs.declared.Outcome.TheVariants.{Done, Refused}
 use Rattle.answers.specs.Answers.{refusal, refusal_at, Found, found, refused, Fate, becomes, fails, found_at}
 use Rattle.answers.proofs.Refusals.{at_zero}
 use Rattle.classes.specs.declared.Class.TheVariants.{Semicolon}
 use Rattle.classes.specs.Bytes.{in_class, body as body_length}
 use Rattle.rooms.specs.Streams.{Stream, end, stop, ◌▸◌, each, items, ended, answer}
 use Rattle.rooms.specs.Rooms.{table_limit, capacity}
-use Rattle.tokens.specs.declared.Property.{Property}
-use Rattle.tokens.specs.declared.Property.TheVariants.{None, Value}
 use Rattle.tokens.specs.Tokens.{Shown, Token, token, slice_of, shown_in, shown_by}
 use Rattle.fonts.specs.Rows.{Font, Fonts, no_fonts, has_key, inserted, stored, font_words}
 use Rattle.fonts.specs.Fonts.{named, rekeyed, font_word, font_token, next_font}
@@ -41,6 +37,7 @@ use Rattle.parser.specs.Parsing.{begun, Sizes, Letter, letter_from, placed, bodi
 use Rattle.veil.specs.Said.{Named, Said, refuses, says}
 use Rattle.veil.proofs.Bare.{bare, bare_all, seen, bare_token, bare_tokens, bare_step, bare_steps}
 use Rattle.answers.specs.declared.Refusal.{Refusal}
+use Rattle.std.specs.Prelude.{Result, Ok, Err, Option, Some, None}
 
 -- ---- a letter by its steps, in rooms for so many fonts and colours, and of b words and t bytes
 
@@ -148,9 +145,9 @@ roomy-bare (x ▸ s) b t l =
     go false false more more' e = ap (λ (r : Stream Refusal Piece). x ▸ r) e
 
 -- an answer without its place
-abbrev bare_outcome : Outcome → Outcome
-bare_outcome (Done n) = Done n
-bare_outcome (Refused r) = Refused (bare_refusal r)
+abbrev bare_outcome : Result ℕ Refusal → Result ℕ Refusal
+bare_outcome (Ok n) = Ok n
+bare_outcome (Err r) = Err (bare_refusal r)
 
 answer-bare : (s : Stream Refusal Piece) (n : ℕ) → answer n (unstopped s) ≡ bare_outcome (answer n s)
 unfolding each ended
@@ -216,13 +213,13 @@ stored-bare limit s =
     go true = refl
     go false = refl
 
-rekeyed-bare : (num : Property) (x : Fate Fonts) → rekeyed num (bare_fate x) ≡ bare_fate (rekeyed num x)
+rekeyed-bare : (num : Option ℕ) (x : Fate Fonts) → rekeyed num (bare_fate x) ≡ bare_fate (rekeyed num x)
 rekeyed-bare None (becomes s) = refl
-rekeyed-bare (Value v) (becomes s) = refl
+rekeyed-bare (Some v) (becomes s) = refl
 rekeyed-bare None (fails why) = refl
-rekeyed-bare (Value v) (fails why) = refl
+rekeyed-bare (Some v) (fails why) = refl
 
-font-word-bare : (limit w : ℕ) (num : Property) (s : Fonts)
+font-word-bare : (limit w : ℕ) (num : Option ℕ) (s : Fonts)
     → font_word limit w num (bare_state s) ≡ bare_fate (font_word limit w num s)
 unfolding font_word
 font-word-bare limit w num s = go (eqb w 9)
@@ -412,9 +409,9 @@ unfolding own_names bare_fonts
 names-bare [] = refl
 names-bare (f ∷ fs) = ap (λ (l : List Named). own_name f ∷ l) (names-bare fs)
 
-ended-bare : (h : Tables) (s : Stream Refusal Piece) (o : Outcome) → say_of (letter_from (bare_tables h) (unstopped s) (bare_outcome o)) ≡ say_of (letter_from h s o)
-ended-bare h s (Done n) = rw (names-bare h.fonts, items-bare s)
-ended-bare h s (Refused r) = refl
+ended-bare : (h : Tables) (s : Stream Refusal Piece) (o : Result ℕ Refusal) → say_of (letter_from (bare_tables h) (unstopped s) (bare_outcome o)) ≡ say_of (letter_from h s o)
+ended-bare h s (Ok n) = rw (names-bare h.fonts, items-bare s)
+ended-bare h s (Err r) = refl
 
 module _ (rd : Reading) (f c b t : ℕ) where
   laid-bare : (ss : List Step) → laid rd b t (bare_steps ss) ≡ unstopped (laid rd b t ss)
@@ -424,7 +421,7 @@ module _ (rd : Reading) (f c b t : ℕ) where
       → say_of (finished rd b t (bare_steps ss) (bare_header x)) ≡ say_of (finished rd b t ss x)
   finished-bare ss (found h) =
       ap (λ (s : Stream Refusal Piece). say_of (letter_from (bare_tables h) s (answer 0 s))) (laid-bare ss)
-      ∙ ap (λ (o : Outcome). say_of (letter_from (bare_tables h) (unstopped (laid rd b t ss)) o)) (answer-bare (laid rd b t ss) 0)
+      ∙ ap (λ (o : Result ℕ Refusal). say_of (letter_from (bare_tables h) (unstopped (laid rd b t ss)) o)) (answer-bare (laid rd b t ss) 0)
       ∙ ended-bare h (laid rd b t ss) (answer 0 (laid rd b t ss))
   finished-bare ss (refused r) = refl
 

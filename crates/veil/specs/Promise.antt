@@ -3,19 +3,19 @@
 -- is asked of two letters, and what is promised. `veil` and `Alike` are defined in Veil, `said` in Said; proofs/HiddenStays proves both
 -- promises, proofs/Needs computes the letters named here, in plain reading where none is said. Assumes nothing: these are definitions.
 use Rattle.std.specs.Prelude.{◌≡◌, List, ℕ}
-use Rattle.answers.specs.declared.Outcome.TheVariants.{Done}
 use Rattle.cutter.specs.Cutting.{cut_answer}
 use Rattle.readings.specs.declared.Reading.{Reading}
 use Rattle.parser.specs.Parsing.{Sizes}
 use Rattle.veil.specs.Veil.{veil, Alike}
 use Rattle.veil.specs.Said.{said, SameRooms}
+use Rattle.std.specs.Prelude.{Ok}
 
 -- Two letters a and b, read into rooms of the sizes z and y. The cutter sees what is hidden too, so its answer is asked for:
 pub record Cut (rd : Reading) (a b : List ℕ) (z y : Sizes) : Type 0 where
   -- "both are cut without refusal and the token room is enough for both". `{a{\*x}b}` is read, `{a{\*{\'zz}}b}` is refused by 4; in
   -- a room of 7 tokens the first is read, `{a{\*{}}b}` refused by 7
-  pub first : (n : ℕ) × (cut_answer rd a z.tokens ≡ Done n)
-  pub second : (n : ℕ) × (cut_answer rd b y.tokens ≡ Done n)
+  pub first : (n : ℕ) × (cut_answer rd a z.tokens ≡ Ok n)
+  pub second : (n : ℕ) × (cut_answer rd b y.tokens ≡ Ok n)
   -- "any sizes of the other rooms", the same for both: in a text room of one byte `{a{\*x}b}` is refused by 20
   pub rooms : SameRooms z y
 

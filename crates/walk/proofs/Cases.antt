@@ -3,10 +3,10 @@
 use mathlib.Core.Path.{◌≡◌, refl}
 use mathlib.Core.List.{List, [], ◌∷◌}
 use mathlib.Core.Bool.{true}
-use Rattle.tokens.specs.declared.Property.TheVariants.{None}
 use Rattle.tokens.specs.Tokens.{Shown, Token, token, shown_by}
 use Rattle.tokens.specs.WordNumbers as words
 use Rattle.walk.specs.Walk.{font_table, aim_from, extent, table_word, walk_from, walk}
+use Rattle.std.specs.Prelude.{None}
 
 -- the tokens behind the bracket
 abbrev behind : List Token

@@ -11,7 +11,6 @@ use native.Mathlib.Omega.{arith}
 use borrow.Author.Tests.{eq-eqb, ne_eqb, not-true, not-false}
 use lib.ListN.{length}
 use lib.Dec.{eqb}
-use Rattle.tokens.specs.declared.Property.{Property}
 use Rattle.tokens.specs.Tokens.{Shown, token_words}
 use Rattle.tokens.specs.declared.item.Item.{Item}
 use Rattle.tokens.specs.declared.item.Item.TheVariants.{LineBreak, Word}
@@ -20,6 +19,7 @@ use Rattle.tokens.proofs.Items.{rest, words-less, shown-none, shown-some, tokens
 use Rattle.walk.specs.declared.Aim.{Aim}
 use Rattle.walk.specs.declared.Aim.TheVariants.{Nothing}
 use Rattle.walk.specs.Walk.{word_aim, aim_at, is_break, aim_from, aim, level, extent, table_word}
+use Rattle.std.specs.Prelude.{Option}
 
 -- what is left, from here, gives the whole result
 pub record Looking (s : List ℕ) (count : ℕ) (t : List ℕ) (n : ℕ) (late : Bool) : Type 0 where
@@ -50,7 +50,7 @@ other-decides late (Shown.unknown p bs num) later other e = refl
 other-decides late (Shown.symbol b num) later other e = refl
 
 -- a word, where it is the first
-pub aim-word : (src : List ℕ) {i : Item} {w : ℕ} {num : Property} (late : Bool) {r : Aim} → i ≡ Word w num → r ≡ word_aim w num late
+pub aim-word : (src : List ℕ) {i : Item} {w : ℕ} {num : Option ℕ} (late : Bool) {r : Aim} → i ≡ Word w num → r ≡ word_aim w num late
     → r ≡ aim_at late (shown_of src i) Nothing
 aim-word src late e f = f ∙ rw e
 

@@ -1,18 +1,17 @@
 -- 01, Header walk, and 02, A4: what the tokens of a letter are to the reader: a kept token, a hidden group, a font table, a colour table.
 -- Assumes nothing: these are definitions.
 use Rattle.std.specs.Prelude.{ℕ, zero, suc, ◌-◌, List, [], ◌∷◌, ◌++◌, Bool, true, false, cond, take, eqb}
-use Rattle.tokens.specs.declared.Property.{Property}
-use Rattle.tokens.specs.declared.Property.TheVariants.{None, Value}
 use Rattle.tokens.specs.Tokens.{Shown, Token, slice_of, shown_in, shown_by}
 use Rattle.walk.specs.declared.Aim.{Aim}
 use Rattle.walk.specs.declared.Aim.TheVariants.{Nothing, Hide, Fonts, Colours}
 use Rattle.tokens.specs.WordNumbers as words
+use Rattle.std.specs.Prelude.{Option, Some, None}
 
 -- "`\*`, or `stylesheet` without a number: pass over .. `fonttbl` or `colortbl` without a number: the same, and read it. Else
 -- go one token on."; late: line breaks stand before the word
-abbrev pub word_aim : ℕ → Property → Bool → Aim
+abbrev pub word_aim : ℕ → Option ℕ → Bool → Aim
 word_aim w None late = cond (eqb w words.style_sheet) Hide (cond (eqb w words.font_table) (Fonts late) (cond (eqb w words.colour_table) (Colours late) Nothing))
-word_aim w (Value v) late = Nothing
+word_aim w (Some v) late = Nothing
 
 -- what a token behind a bracket makes of the group; a line break leaves it to those behind
 abbrev pub aim_at : Bool → Shown → Aim → Aim

@@ -16,7 +16,7 @@ ghost use Rattle.walk.specs.Walk.{word_aim, aim_at, is_break, aim as aim_of, lev
 ghost use Rattle.tokens.specs.Tokens.{token_words};
 
 use tokens::item::{Item, item_at, slice_at};
-use tokens::{Property, TOKEN_WORDS, words};
+use tokens::{TOKEN_WORDS, words};
 
 #[derive(Clone, Copy)]
 pub enum Aim {
@@ -26,12 +26,12 @@ pub enum Aim {
     Colours(bool),
 }
 
-fn word_aim(w: u32, number: Property, late: bool) -> Aim
+fn word_aim(w: u32, number: Option<u32>, late: bool) -> Aim
     ensures { result ≡ word_aim w number late }
 {
     match number {
-        Property::Value(_) => Aim::Nothing,
-        Property::None => {
+        Some(_) => Aim::Nothing,
+        None => {
             if w == words::STYLE_SHEET {
                 return Aim::Hide;
             }

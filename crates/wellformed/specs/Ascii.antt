@@ -1,17 +1,13 @@
 -- How the code passes over ASCII. Assumes nothing: these are definitions.
-use Rattle.std.specs.Prelude.{ℕ, zero, ◌+◌, ◌*◌, ◌≤◌, ◌≡◌, List, [], ◌∷◌, cond, length, drop}
+use Rattle.std.specs.Prelude.{ℕ, ◌≤◌, ◌≡◌, List, length, drop}
 use Rattle.classes.specs.Bytes.{is_high}
+use Rattle.classes.specs.Eights.{marked}
+pub use Rattle.classes.specs.Eights.{packed}
 use Rattle.wellformed.specs.WellFormed.{is_utf8}
 
--- bytes as one number, the first one lowest
-unfoldable pub packed : List ℕ → ℕ
-packed [] = zero
-packed (b ∷ s) = packed s * 256 + b
-
 -- the high bit of each, in its place
-unfoldable pub highs : List ℕ → ℕ
-highs [] = zero
-highs (b ∷ s) = highs s * 256 + cond (is_high b) 128 zero
+abbrev pub highs : List ℕ → ℕ
+highs s = packed (marked is_high s)
 
 -- what is passed over is UTF-8 by itself: from `from` on the bytes are UTF-8 if they are from `at` on
 pub record Passed (s : List ℕ) (from at : ℕ) : Type 0 where

@@ -4,42 +4,20 @@
 //   ascii_eights   behind eight bytes at once; where one of them is above 127, up to it
 //
 // Both say only that what they pass over is UTF-8 by itself.
-ghost use Rattle.std.specs.Prelude.{◌≡◌, ◌/◌, ◌≤◌, length};
-ghost use Rattle.std.specs.Int.Count.{count_trailing_zeros};
-ghost use Rattle.wellformed.specs.Ascii.{packed, highs, Passed};
+ghost use Rattle.std.specs.Prelude.{◌≡◌, ◌≤◌, length};
+ghost use Rattle.wellformed.specs.Ascii.{highs, Passed};
 
+use classes::eights::first_mark;
 use classes::has_high;
 
 // How many bytes a block has that is looked at as a whole.
 const BLOCK: usize = 64;
 
-// Bytes as one number, the first one lowest. The compiler makes one load of it.
-fn word_of(s: &[u8]) -> u64
-    requires { length s.now ≤ 8 }
-    ensures { result ≡ packed s.now }
+// The high bit of each of eight bytes, in its place. The compiler makes one load of them.
+fn highs_of(eight: &[u8; 8]) -> u64
+    ensures { result ≡ highs eight.now }
 {
-    let mut w: u64 = 0;
-    let mut i = s.len();
-    while 0 < i {
-        i -= 1;
-        w = w * 256 + (s[i] as u64);
-    }
-    w
-}
-
-// The high bit of each of eight bytes, in its place.
-fn highs_of(s: &[u8]) -> u64
-    requires { length s.now ≡ 8 }
-    ensures { result ≡ highs s.now }
-{
-    word_of(s) & 0x8080808080808080
-}
-
-// The byte of the lowest bit: eight zeros for each byte before it.
-fn first_byte(bits: u64) -> usize
-    ensures { result ≡ count_trailing_zeros 64 bits / 8 }
-{
-    (u64::trailing_zeros(bits) / 8) as usize
+    u64::from_le_bytes(*eight) & 0x8080808080808080
 }
 
 // The place, at or after `from`, behind the whole blocks of ASCII that stand there.
@@ -48,12 +26,11 @@ pub fn ascii_blocks(s: &[u8], from: usize) -> usize
     ensures { Passed s.now from result }
 {
     let mut at = from;
-    while BLOCK <= s.len() - at {
-        let next = at + BLOCK;
-        if has_high(&s[at..next]) {
+    while let Some(block) = s[at..].first_chunk::<BLOCK>() {
+        if has_high(block) {
             return at;
         }
-        at = next;
+        at += BLOCK;
     }
     at
 }
@@ -63,15 +40,8 @@ fn ascii_bytes(s: &[u8], from: usize) -> usize
     requires { from ≤ length s.now }
     ensures { Passed s.now from result }
 {
-    let mut i = from;
-    while i < s.len() {
-        let b = s[i];
-        if 127 < b {
-            return i;
-        }
-        i += 1;
-    }
-    i
+    let passed = s[from..].iter().take_while(|b| b.is_ascii()).count();
+    from + passed
 }
 
 // The same, eight bytes at once.
@@ -80,13 +50,12 @@ pub fn ascii_eights(s: &[u8], from: usize) -> usize
     ensures { Passed s.now from result }
 {
     let mut at = from;
-    while 8 <= s.len() - at {
-        let next = at + 8;
-        let bits = highs_of(&s[at..next]);
+    while let Some(eight) = s[at..].first_chunk() {
+        let bits = highs_of(eight);
         if bits != 0 {
-            return at + first_byte(bits);
+            return at + first_mark(bits);
         }
-        at = next;
+        at += 8;
     }
     ascii_bytes(s, at)
 }

@@ -9,8 +9,8 @@
 
 mod ascii;
 
-ghost use Rattle.std.specs.Prelude.{◌≡◌, true, ◌≤◌, ◌<◌, length, drop};
-ghost use Rattle.wellformed.specs.WellFormed.{within, tail, is_first, behind, is_utf8};
+ghost use Rattle.std.specs.Prelude.{◌≡◌, true, ◌≤◌, ◌<◌, length, drop, MatchOption};
+ghost use Rattle.wellformed.specs.WellFormed.{◌to◌, within, tail, is_first, behind, is_utf8};
 ghost use Rattle.wellformed.specs.Owed.{owed, ranges, pays, char_length};
 
 use crate::ascii::{ascii_blocks, ascii_eights};
@@ -21,6 +21,15 @@ struct Owed {
     count: usize,
     low: u8,
     high: u8,
+}
+
+impl Owed {
+    // Whether a byte lies in the range of the next.
+    fn takes(self, b: u8) -> bool
+        ensures { result ≡ within (self.low to self.high) b }
+    {
+        (self.low <= b) & (b <= self.high)
+    }
 }
 
 // Whether a byte starts a character.
@@ -34,11 +43,7 @@ fn is_first(b: u8) -> bool
 fn owe(count: usize, low: u8, high: u8) -> Owed
     ensures { ranges result ≡ owed count low high }
 {
-    Owed {
-        count: count,
-        low: low,
-        high: high,
-    }
+    Owed { count, low, high }
 }
 
 // What a character owes behind its first byte: the ranges of first bytes in their order, each told by its end.
@@ -46,31 +51,17 @@ fn owed_behind(b: u8) -> Owed
     requires { is_first b ≡ true }
     ensures { ranges result ≡ behind b }
 {
-    if b <= 0x7F {
-        return owe(0, 0x80, 0xBF);
+    match b {
+        0..=0x7F => owe(0, 0x80, 0xBF),
+        0x80..=0xDF => owe(1, 0x80, 0xBF),
+        0xE0 => owe(2, 0xA0, 0xBF),
+        0xE1..=0xEC => owe(2, 0x80, 0xBF),
+        0xED => owe(2, 0x80, 0x9F),
+        0xEE..=0xEF => owe(2, 0x80, 0xBF),
+        0xF0 => owe(3, 0x90, 0xBF),
+        0xF1..=0xF3 => owe(3, 0x80, 0xBF),
+        _ => owe(3, 0x80, 0x8F),
     }
-    if b <= 0xDF {
-        return owe(1, 0x80, 0xBF);
-    }
-    if b <= 0xE0 {
-        return owe(2, 0xA0, 0xBF);
-    }
-    if b <= 0xEC {
-        return owe(2, 0x80, 0xBF);
-    }
-    if b <= 0xED {
-        return owe(2, 0x80, 0x9F);
-    }
-    if b <= 0xEF {
-        return owe(2, 0x80, 0xBF);
-    }
-    if b <= 0xF0 {
-        return owe(3, 0x90, 0xBF);
-    }
-    if b <= 0xF3 {
-        return owe(3, 0x80, 0xBF);
-    }
-    owe(3, 0x80, 0x8F)
 }
 
 // UTF8-tail.
@@ -85,40 +76,29 @@ fn is_paid(o: Owed, s: &[u8]) -> bool
     requires { o.count ≤ 3 }
     ensures { result ≡ pays (ranges o) s.now }
 {
-    if s.len() < o.count {
-        return false;
+    match (o.count, s) {
+        (0, _) => true,
+        (1, [a, ..]) => o.takes(*a),
+        (2, [a, b, ..]) => o.takes(*a) & is_tail(*b),
+        (3, [a, b, c, ..]) => o.takes(*a) & (is_tail(*b) & is_tail(*c)),
+        _ => false,
     }
-    if o.count == 0 {
-        return true;
-    }
-    let first = s[0];
-    let good = (o.low <= first) & (first <= o.high);
-    if o.count == 1 {
-        return good;
-    }
-    let second = s[1];
-    if o.count == 2 {
-        return good & is_tail(second);
-    }
-    let third = s[2];
-    good & (is_tail(second) & is_tail(third))
 }
 
-// How many bytes the character has that stands at a place of a slice; 0 if none does.
-fn char_length(s: &[u8], at: usize) -> usize
+// How many bytes the character has that stands at a place of a slice, if one does.
+fn char_length(s: &[u8], at: usize) -> Option<usize>
     requires { at < length s.now }
-    ensures { result ≡ char_length (drop at s.now) }
+    ensures { MatchOption result (char_length (drop at s.now) ≡ 0) (λ k. (k ≡ char_length (drop at s.now)) × (0 < k)) }
 {
     let b = s[at];
     if !is_first(b) {
-        return 0;
+        return None;
     }
     let o = owed_behind(b);
-    let next = at + 1;
-    if is_paid(o, &s[next..]) {
-        return o.count + 1;
+    if is_paid(o, &s[at + 1..]) {
+        return Some(o.count + 1);
     }
-    0
+    None
 }
 
 // Whether a slice is UTF-8 as a whole: ASCII is passed over many bytes at once, any other character as a whole.
@@ -126,14 +106,14 @@ pub fn is_utf8(s: &[u8]) -> bool
     ensures { result ≡ is_utf8 s.now }
 {
     let mut i: usize = 0;
+    // A `while`: what stands at a place tells how far it goes on.
     while i < s.len() {
         let blocks = ascii_blocks(s, i);
         i = ascii_eights(s, blocks);
         if i < s.len() {
-            let k = char_length(s, i);
-            if k == 0 {
+            let Some(k) = char_length(s, i) else {
                 return false;
-            }
+            };
             i += k;
         }
     }

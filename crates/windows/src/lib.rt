@@ -19,15 +19,13 @@ fn own_characters() -> [u32; 32]
 pub fn character(b: u32) -> u32
     ensures { result ≡ windows1252 b }
 {
-    if b < 128 {
-        return b;
+    match b {
+        0..=127 => b,
+        128..=159 => {
+            let own = own_characters();
+            own[(b - 128) as usize]
+        }
+        160..=255 => b,
+        _ => 0xFFFD,
     }
-    if 255 < b {
-        return 0xFFFD;
-    }
-    if 159 < b {
-        return b;
-    }
-    let own = own_characters();
-    own[(b - 128) as usize]
 }

@@ -8,7 +8,7 @@ use Rattle.body.proofs.Turns.{loop-start, loop-end, turn-refused, turn_on}
 use Rattle.body.proofs.lay_body.Goals as goal
 
 pub loop-n-init : goal.loop-n-init
-loop-n-init c = loop-start _ _ _ _ _ _ (c.row.ensures ∙ ap row_of c.fresh.ensures) c.requires
+loop-n-init c = rw (c.before-run.ensures, c.blank-page.ensures) (loop-start _ _ _ _ _ _ (c.row.ensures ∙ ap row_of c.fresh.ensures) c.requires)
 
 pub passed-h-requires : goal.passed-h-requires
 passed-h-requires c = (c.loop-n-test.true, c.loop-n.invariant.words)
@@ -22,7 +22,7 @@ pub turn-moved-requires : goal.turn-moved-requires
 turn-moved-requires c =
     let l = c.loop-n.invariant in
     let z = c.loop-n-test.true in
-    (l.deep, l.all, l.paged, omega (arith, z, l.words), l.three, passed-open c.args.source.now _ _ (c.passed-h.ensures.0 c.args.source.now))
+    (l.deep, l.all, l.paged, omega (arith, z, l.words), passed-open c.args.source.now _ _ (c.passed-h.ensures.0 c.args.source.now))
 
 pub overflow_add-at : goal.overflow_add-at
 overflow_add-at c = let u = c.passed-h.ensures.1 in let z = c.loop-n-test.true in let w = c.loop-n.invariant.words in let v = c.loop-n.invariant.few in omega (arith, u, z, w, v)
@@ -48,23 +48,23 @@ overflow_sub-n c = let u = c.passed-h.ensures.1 in let z = c.loop-n-test.true in
 pub slice_at-requires : goal.slice_at-requires
 slice_at-requires c = omega (arith, c.loop-n-test.true, c.loop-n.invariant.words)
 
-pub shape_of-blocks-in-Refuses : goal.shape_of-blocks-in-Refuses
-shape_of-blocks-in-Refuses c = c.turn-moved.auto.blocks ∙ c.loop-n.invariant.long-b
+pub shape_of-blocks-in-Err : goal.shape_of-blocks-in-Err
+shape_of-blocks-in-Err c = c.turn-moved.auto.blocks ∙ c.loop-n.invariant.long-b
 
-pub shape_of-text-in-Refuses : goal.shape_of-text-in-Refuses
-shape_of-text-in-Refuses c = c.turn-moved.auto.text ∙ c.loop-n.invariant.long-t
+pub shape_of-text-in-Err : goal.shape_of-text-in-Err
+shape_of-text-in-Err c = c.turn-moved.auto.text ∙ c.loop-n.invariant.long-t
 
-pub returns-in-Refuses : goal.returns-in-Refuses
-returns-in-Refuses c = record { laid = turn-refused c.loop-n.invariant c.loop-n-test.true c.passed-h.ensures c.turn-moved.ensures.turns c.in-Refuses.is c.slice_at.ensures c.at.ensures; still = omega arith }
+pub returns-in-Err : goal.returns-in-Err
+returns-in-Err c = record { laid = turn-refused c.loop-n.invariant c.loop-n-test.true c.passed-h.ensures c.turn-moved.ensures c.in-Err.is c.slice_at.ensures c.at.ensures; still = omega arith }
 
 pub loop-n-smaller : goal.loop-n-smaller
 loop-n-smaller c = let u = c.passed-h.ensures.1 in let z = c.loop-n-test.true in let w = c.loop-n.invariant.words in let v = c.loop-n.invariant.few in omega (arith, u, z, w, v)
 
 pub loop-n-preserved : goal.loop-n-preserved
-loop-n-preserved c = let t = c.turn-moved in turn_on c.loop-n.invariant c.loop-n-test.true c.passed-h.ensures t.ensures.turns c.in-Holds.is refl t.ensures.run_len t.auto.blocks t.auto.text (c.owed_behind-behind.ensures _ (passed-open c.args.source.now _ _ (c.passed-h.ensures.0 c.args.source.now)))
+loop-n-preserved c = let t = c.turn-moved in turn_on c.loop-n.invariant c.loop-n-test.true c.passed-h.ensures t.ensures c.in-Ok.is t.auto.blocks t.auto.text (c.owed_behind-behind.ensures _ (passed-open c.args.source.now _ _ (c.passed-h.ensures.0 c.args.source.now)))
 
 pub finish-requires : goal.finish-requires
-finish-requires c = let l = c.loop-n.invariant in (l.deep, l.all, l.three, l.paged)
+finish-requires c = let l = c.loop-n.invariant in (l.deep, l.all, l.paged)
 
 pub shape_of-blocks : goal.shape_of-blocks
 shape_of-blocks c = c.finish.auto.blocks ∙ c.loop-n.invariant.long-b

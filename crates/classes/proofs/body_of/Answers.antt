@@ -1,16 +1,19 @@
--- `body_of` meets its contract. The invariant: the count up to e is the whole count. The measure is e.
-use borrow.Author.Rules.{rules}
-use Rattle.classes.proofs.Runs.{body-start, body_more, body-stop, body_end}
+-- `body_of` meets its contract: the chain counts the bytes that `body` leaves off.
+use Rattle.std.proofs.Common.{length, ◌-◌, ◌∙◌, ap, rules, tests}
+use Rattle.std.specs.Prelude.{reverse}
+use Rattle.std.proofs.lemmas.Iterator.Adapters.{YieldsList-from_rev_slice}
+use Rattle.std.proofs.lemmas.Iterator.Consumers.{count_from_yields_List}
+use Rattle.std.proofs.lemmas.Iterator.Search.{YieldsList-from_take_while}
+use Rattle.std.proofs.lemmas.List.Folds.{length-prefix_len}
+use Rattle.classes.specs.Bytes.{in_class}
+use Rattle.classes.proofs.Runs.{body-suffix}
 use Rattle.classes.proofs.body_of.Goals as goal
 
-pub loop-e-init : goal.loop-e-init
-loop-e-init c = search (body-start, rules)
-
-pub returns-then-not-is_in : goal.returns-then-not-is_in
-returns-then-not-is_in c = search (body-stop, rules)
-
-pub loop-e-preserved : goal.loop-e-preserved
-loop-e-preserved c = search (body_more, rules)
-
-pub returns : goal.returns
-returns c = search (body_end, rules)
+pub returns-clause-count : goal.returns-clause-count
+returns-clause-count c =
+    let f = in_class c.args.class in
+    let s = c.args.s.now in
+    let trimmed = count_from_yields_List c.take_while.result _ c.count-trimmed.ensures.ran
+    (YieldsList-from_take_while _ f (YieldsList-from_rev_slice s cc) c.take_while.ensures.closure c.take_while.ensures.done (λ x b q k. search (rules, tests)))
+    ∙ length-prefix_len f (reverse s) in
+    ap (λ n. length s - n) trimmed ∙ body-suffix f s

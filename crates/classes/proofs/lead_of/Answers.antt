@@ -1,16 +1,17 @@
--- `lead_of` meets its contract. The invariant: what is counted from i on, and i, is the whole count. The measure is what is left.
-use borrow.Author.Rules.{rules}
-use Rattle.classes.proofs.Runs.{lead-start, lead-more, lead-stop, lead-end}
+-- `lead_of` meets its contract: the chain counts what `lead` counts.
+use Rattle.std.proofs.Common.{◌∙◌, rules, tests}
+use Rattle.std.proofs.lemmas.Iterator.{YieldsList-from_slice}
+use Rattle.std.proofs.lemmas.Iterator.Consumers.{count_from_yields_List}
+use Rattle.std.proofs.lemmas.Iterator.Search.{YieldsList-from_take_while}
+use Rattle.std.proofs.lemmas.List.Folds.{length-prefix_len}
+use Rattle.classes.specs.Bytes.{in_class}
+use Rattle.classes.proofs.Runs.{lead-prefix}
 use Rattle.classes.proofs.lead_of.Goals as goal
 
-pub loop-i-init : goal.loop-i-init
-loop-i-init c = search (lead-start, rules)
-
-pub returns-then-not-is_in : goal.returns-then-not-is_in
-returns-then-not-is_in c = search (lead-stop, rules)
-
-pub loop-i-preserved : goal.loop-i-preserved
-loop-i-preserved c = search (lead-more, rules)
-
-pub returns : goal.returns
-returns c = search (lead-end, rules)
+pub returns-clause-count : goal.returns-clause-count
+returns-clause-count c =
+    let f = in_class c.args.class in
+    let s = c.args.s.now in
+    count_from_yields_List c.take_while.result _ c.count.ensures.ran
+    (YieldsList-from_take_while _ f (YieldsList-from_slice s cc) c.take_while.ensures.closure c.take_while.ensures.done (λ x b q k. search (rules, tests)))
+    ∙ length-prefix_len f s ∙ lead-prefix f s

@@ -2,7 +2,7 @@
 use Rattle.colours.proofs.step.Goals as goal
 
 pub returns-in-Word : goal.returns-in-Word
-returns-in-Word c = rw (c.in-Word.is, ← c.value-v.ensures) c.word_effect.ensures
+returns-in-Word c = rw (c.in-Word.is, ← c.unwrap_or-v.ensures) c.word_effect.ensures
 
 pub returns-in-Text : goal.returns-in-Text
 returns-in-Text c = rw c.in-Text.is

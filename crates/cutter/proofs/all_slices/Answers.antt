@@ -1,5 +1,9 @@
 -- `all_slices` meets its contract. The invariant: whoever cuts what is left has cut all; the bytes left are the measure.
-use mathlib.Core.Path.{refl}
+use mathlib.Core.Path.{◌≡◌, refl}
+use borrow.Author.Rules.{rules}
+use Rattle.std.proofs.lemmas.Result.{err_from_is_err_and}
+use Rattle.answers.specs.Answers.{refusal_at}
+use Rattle.answers.proofs.Results.{mapped-ok, mapped-err}
 use native.Mathlib.Omega.{arith}
 use lib.ListN.{length-take}
 use Rattle.rooms.proofs.Rooms.{wrote_none}
@@ -16,23 +20,24 @@ loop-t-init c = loop-start _ _ _ _ c.if-s-eq0.false c.requires.0
 pub slice_bounds-cut_slice-end : goal.slice_bounds-cut_slice-end
 slice_bounds-cut_slice-end c = simp length-take (omega arith)
 
-pub cut_slice-one-requires : goal.cut_slice-one-requires
-cut_slice-one-requires c = (simp length-take (omega (arith, c.loop-t.invariant.fits, c.if-t-e.false)), c.loop-t.invariant.below, c.requires.1)
+pub cut_slice-requires : goal.cut_slice-requires
+cut_slice-requires c = (simp length-take (omega (arith, c.loop-t.invariant.fits, c.if-t-e.false)), c.loop-t.invariant.below, c.requires.1)
 
-pub overflow_cast-p : goal.overflow_cast-p
-overflow_cast-p c = omega (arith, c.loop-t.invariant.fits)
+pub overflow_cast-at : goal.overflow_cast-at
+overflow_cast-at c = omega (arith, c.loop-t.invariant.fits)
 
-pub returns-in-Refused : goal.returns-in-Refused
-returns-in-Refused c = loop-stop _ c.loop-t.invariant (c.slice_end_by-e.ensures.length, (c.slice_end_by-e.ensures.within, c.slice_end_by-e.ensures.some)) c.if-t-e.false c.cut_slice-one.ensures c.in-Refused.is refl c.at.ensures
-
-pub overflow_cast-p-in-Done : goal.overflow_cast-p-in-Done
-overflow_cast-p-in-Done c = omega (arith, c.loop-t.invariant.fits)
+pub returns-in_err-m : goal.returns-in_err-m
+returns-in_err-m c =
+    let p = err_from_is_err_and c.from_residual.result c.from_residual.ensures.1 in
+    let w = mapped-err _ _ c.map_err.ensures.cases c.in_err-m.was in
+    let q : c.in_err-m.field-0.0 ≡ refusal_at w.0 c.loop-t.p = search rules in
+    rw (p.1, p.2) (loop-stop _ c.loop-t.invariant (c.slice_end_by-e.ensures.length, (c.slice_end_by-e.ensures.within, c.slice_end_by-e.ensures.some)) c.if-t-e.false c.cut_slice.ensures w.1 refl q)
 
 pub overflow_cast-e : goal.overflow_cast-e
 overflow_cast-e c = omega (arith, c.loop-t.invariant.fits, c.if-t-e.false)
 
 pub seal-requires : goal.seal-requires
-seal-requires c = next-above _ c.loop-t.invariant (c.slice_end_by-e.ensures.length, (c.slice_end_by-e.ensures.within, c.slice_end_by-e.ensures.some)) c.if-t-e.false c.cut_slice-one.ensures c.in-Done.is
+seal-requires c = next-above _ c.loop-t.invariant (c.slice_end_by-e.ensures.length, (c.slice_end_by-e.ensures.within, c.slice_end_by-e.ensures.some)) c.if-t-e.false c.cut_slice.ensures (mapped-ok _ _ c.map_err.ensures.cases c.in_ok-m.was)
 
 pub slice_bounds-t-count : goal.slice_bounds-t-count
 slice_bounds-t-count c = omega (arith, c.if-t-e.false)
@@ -44,7 +49,7 @@ pub loop-t-smaller : goal.loop-t-smaller
 loop-t-smaller c = loop-falls _ c.loop-t.invariant (c.slice_end_by-e.ensures.length, (c.slice_end_by-e.ensures.within, c.slice_end_by-e.ensures.some)) c.if-t-e.false
 
 pub loop-t-preserved : goal.loop-t-preserved
-loop-t-preserved c = loop-next _ c.loop-t.invariant (c.slice_end_by-e.ensures.length, (c.slice_end_by-e.ensures.within, c.slice_end_by-e.ensures.some)) c.if-t-e.false c.cut_slice-one.ensures c.in-Done.is refl refl c.seal.ensures
+loop-t-preserved c = loop-next _ c.loop-t.invariant (c.slice_end_by-e.ensures.length, (c.slice_end_by-e.ensures.within, c.slice_end_by-e.ensures.some)) c.if-t-e.false c.cut_slice.ensures (mapped-ok _ _ c.map_err.ensures.cases c.in_ok-m.was) refl refl c.seal.ensures
 
 pub last_by-requires : goal.last_by-requires
 last_by-requires c =

@@ -35,7 +35,7 @@ returns-in-Pard c = let s = c in turns-act _ _ s.args.act (took-sets _ _ s.requi
 
 pub returns-in-Says : goal.returns-in-Says
 unfolding meaning
-returns-in-Says c = let s = c in let k = c.character in turns-says _ _ s.requires.1 (ne-pos c.if-depth-eq0.false) s.requires.0 k.result s.args.page.now _ s.args.blocks.now s.args.text.now _ _ k.ensures.held c.stays.ensures _ k.ensures.laid (ap meaning c.in-Says.is)
+returns-in-Says c = let s = c in let k = c.character in turns-says _ _ s.requires.1 (ne-pos c.if-depth-eq0.false) s.requires.0 k.result s.args.page.now _ s.args.blocks.now s.args.text.now _ _ k.ensures.ready c.and.ensures _ k.ensures.laid (ap meaning c.in-Says.is)
 
 pub returns-in-Refuses : goal.returns-in-Refuses
 unfolding meaning

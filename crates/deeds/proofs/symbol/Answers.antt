@@ -7,7 +7,7 @@ use Rattle.deeds.proofs.symbol.Goals as goal
 
 pub returns-in-39 : goal.returns-in-39
 unfolding symbol_effect meaning
-returns-in-39 c = (rw (c.in-39.is, c.character.ensures, c.value.ensures), omega arith)
+returns-in-39 c = (rw (c.in-39.is, c.character.ensures, c.unwrap_or.ensures), omega arith)
 
 pub returns-in-126 : goal.returns-in-126
 unfolding symbol_effect meaning

@@ -5,8 +5,8 @@ use Rattle.extraction.proofs.read.Goals as goal
 pub returns-then-letter-gt-LETTER_MOST : goal.returns-then-letter-gt-LETTER_MOST
 returns-then-letter-gt-LETTER_MOST c =
     let start = c in
-    let lent = c.clear_bytes_from-arg-1.given in
-    read-longer _ _ c.if-letter-gt-LETTER_MOST.true c.of.ensures _ _ _ start.args.text.now lent.0.1 c.clear_bytes_from.ensures
+    let lent = c.clear_from-arg-1.given in
+    read-longer _ _ c.if-letter-gt-LETTER_MOST.true c.of.ensures _ _ _ start.args.text.now lent.0.1 c.clear_from.ensures
 
 pub returns : goal.returns
 returns c =

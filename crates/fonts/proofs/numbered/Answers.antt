@@ -2,5 +2,5 @@
 use Rattle.std.proofs.Common.{refl}
 use Rattle.fonts.proofs.numbered.Goals as goal
 
-pub returns-in-Value : goal.returns-in-Value
-returns-in-Value c = rw (c.in-Value.is, c.key_of-key.ensures) refl
+pub returns-in-Some : goal.returns-in-Some
+returns-in-Some c = rw (c.in-Some.is, c.key_of-key.ensures) refl

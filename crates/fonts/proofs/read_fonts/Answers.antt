@@ -17,13 +17,13 @@ pub store-o-requires : goal.store-o-requires
 store-o-requires c = loop-ready c.loop-n.invariant
 
 pub loop-n-preserved : goal.loop-n-preserved
-loop-n-preserved c = loop-store c.loop-n.invariant c.loop-n-test.true c.item_at-i.ensures c.step-e.ensures c.store-o.result _ c.store-o.ensures c.store-o.auto.room _ c.in-Store.is _ c.in-Done.is
+loop-n-preserved c = loop-store c.loop-n.invariant c.loop-n-test.true c.item_at-i.ensures c.step-e.ensures c.store-o.result _ c.store-o.ensures c.store-o.auto.room _ c.in-Store.is _ c.in-Ok.is
 
 pub refuse-requires : goal.refuse-requires
 refuse-requires c = omega (arith, c.loop-n.invariant.words)
 
-pub returns-in-Refused : goal.returns-in-Refused
-returns-in-Refused c = loop-full c.loop-n.invariant c.loop-n-test.true c.item_at-i.ensures c.step-e.ensures c.store-o.result _ c.store-o.ensures c.store-o.auto.room _ c.refuse.ensures _ c.in-Store.is c.in-Refused.is
+pub returns-in-Err : goal.returns-in-Err
+returns-in-Err c = loop-full c.loop-n.invariant c.loop-n-test.true c.item_at-i.ensures c.step-e.ensures c.store-o.result _ c.store-o.ensures c.store-o.auto.room _ c.refuse.ensures _ c.in-Store.is c.in-Err.is
 
 pub store-last-requires : goal.store-last-requires
 store-last-requires c = loop-ready c.loop-n.invariant

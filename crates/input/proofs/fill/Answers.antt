@@ -5,6 +5,6 @@ use Rattle.input.proofs.fill.Goals as goal
 
 pub loop-at-preserved : goal.loop-at-preserved
 loop-at-preserved g c = (
-  omega (arith, c.in-Ok.ensures.bound.0),
-  read_more _ _ _ _ _ _ _ c.in-Ok.n _ c.loop-at.invariant.0 c.in-Ok.ensures.bound.0 refl c.loop-at.invariant.1 c.in-Ok.ensures.bytes.0,
+  omega (arith, c.in_ok-n.ensures.bound.0),
+  read_more _ _ _ _ _ _ _ c.in_ok-n.n _ c.loop-at.invariant.0 c.in_ok-n.ensures.bound.0 refl c.loop-at.invariant.1 c.in_ok-n.ensures.bytes.0,
 )

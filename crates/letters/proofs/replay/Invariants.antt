@@ -5,7 +5,7 @@ use lib.ListN.{length}
 use Rattle.letters.proofs.replay.Given as goal
 
 abbrev pub invariant-loop-rest : goal.invariant-loop-rest
-invariant-loop-rest g l = (l.letters + length l.rest ≤ length l.file) × (l.agree ≤ l.letters)
+invariant-loop-rest g l = (l.tally.letters + length l.rest ≤ length l.file) × (l.tally.agree ≤ l.tally.letters)
 
 abbrev pub decreases-loop-rest : goal.decreases-loop-rest
 decreases-loop-rest g l = length l.rest

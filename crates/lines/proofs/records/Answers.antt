@@ -1,29 +1,25 @@
 -- `records` meets its contract. The invariant: whoever puts the lines of the records that are left has put all of them.
-use mathlib.Core.Path.{refl}
+use mathlib.Core.Path.{sym, ◌∙◌}
 use native.Mathlib.Omega.{arith}
-use borrow.Author.Rules.{rules}
-use lib.ListN.{length-take, length-drop}
-use Rattle.lines.proofs.Pages.{left-start, left-more, left_end}
-use Rattle.lines.proofs.Lines.{lines_start, lines_more, lines-short, lines_end}
+use Rattle.lines.proofs.Pages.{put_as, put-none, left-more, left_end}
+use Rattle.lines.proofs.Lines.{lines_next, lines-last, lines_of_none}
 use Rattle.lines.proofs.records.Goals as goal
 
-pub loop-k-init : goal.loop-k-init
-loop-k-init c = (search rules, search rules, refl, left-start (lines_start _ _ _), search rules)
+pub returns-then-width-eq0 : goal.returns-then-width-eq0
+returns-then-width-eq0 c = put_as (sym (lines_of_none _ c.args.count c.args.room.now c.if-width-eq0.true)) (put-none c.requires)
 
-pub returns-then-rest-width : goal.returns-then-rest-width
-returns-then-rest-width c = left_end c.loop-k.invariant.3 (lines-short _ _ _ c.if-rest-width.true) c.loop-k.invariant.1
-
-pub slice_bounds-record_line-end : goal.slice_bounds-record_line-end
-slice_bounds-record_line-end c = simp length-take (omega arith)
-
-pub loop-k-preserved : goal.loop-k-preserved
-loop-k-preserved c = (
-  search rules,
-  omega (arith, c.record_line-end.ensures, c.record_line-end.auto.page),
-  omega (arith, c.record_line-end.auto.page, c.loop-k.invariant.2),
-  left-more c.loop-k.invariant.3 (lines_more _ _ _ _ c.loop-k-test.true c.if-rest-width.false) c.record_line-end.auto.page c.record_line-end.ensures,
-  simp (length-take, length-drop) (omega arith),
-)
+pub loop-record-preserved : goal.loop-record-preserved
+loop-record-preserved c =
+    let i = c.loop-record.invariant in
+    let step = c.in-Some.ensures.steps in
+    record {
+      width = step.0.0 ∙ i.width;
+      within = omega (arith, c.record_line-end.ensures, c.record_line-end.auto.page);
+      same = omega (arith, c.record_line-end.auto.page, i.same);
+      left = left-more i.left (lines_next _ _ _ _ _ _ step.1 step.0.1.0 (step.0.1.1 ∙ i.width)) c.record_line-end.auto.page c.record_line-end.ensures;
+    }
 
 pub returns : goal.returns
-returns c = left_end c.loop-k.invariant.3 (lines_end _ _ _ _ c.loop-k-test.false) c.loop-k.invariant.1
+returns c =
+    let i = c.loop-record.invariant in
+    left_end i.left (lines-last _ _ _ (λ h. let short = (c.in-None.ensures.steps h).1.0 in omega (arith, i.width))) i.within

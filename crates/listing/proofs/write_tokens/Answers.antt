@@ -1,14 +1,13 @@
 -- `write_tokens` ends. The invariant: what is written and the lines that are left are the lines of all tokens.
-use native.Mathlib.Omega.{arith}
-use lib.ListN.{length-take, length-drop}
-use Rattle.listing.proofs.Parts.{written_start, written-more}
+use mathlib.Core.Path.{◌∙◌}
+use Rattle.listing.proofs.Parts.{written-more}
 use Rattle.listing.proofs.write_tokens.Goals as goal
 
-pub loop-rest-init : goal.loop-rest-init
-loop-rest-init g c = written_start _ _
-
-pub loop-rest-smaller : goal.loop-rest-smaller
-loop-rest-smaller g c = simp (length-take, length-drop) (omega arith)
-
-pub loop-rest-preserved : goal.loop-rest-preserved
-loop-rest-preserved g c = written-more c.loop-rest.invariant c.behind_part-left.ensures
+pub loop-part-preserved : goal.loop-part-preserved
+loop-part-preserved g c =
+    let step = c.in-Some.ensures.steps in
+    let size = c.loop-part.invariant.size in
+    record {
+      size = step.0 ∙ size;
+      lines = written-more c.loop-part.invariant.lines _ _ step.1.0 (rw size at step.1.1) c.saturating_sub-left.ensures;
+    }

@@ -1,10 +1,12 @@
 -- `write_tokens` ends. The invariant: what is written and the lines that are left are the lines of all tokens.
-use lib.ListN.{length}
-use Rattle.listing.proofs.Parts.{Written}
+use mathlib.Core.Path.{◌≡◌}
+use Rattle.std.specs.Slice.Iter.{chunks_rest, chunks_size}
+use Rattle.listing.proofs.Parts.{Written, part_words}
 use Rattle.listing.proofs.write_tokens.Given as goal
 
-abbrev pub invariant-loop-rest : goal.invariant-loop-rest
-invariant-loop-rest g l = Written l.count l.room l.left l.rest
-
-abbrev pub decreases-loop-rest : goal.decreases-loop-rest
-decreases-loop-rest g l = length l.rest
+abbrev pub invariant-loop-part : goal.invariant-loop-part
+invariant-loop-part g l =
+    record {
+      size : chunks_size l.part-iterator ≡ part_words;
+      lines : Written l.count l.room l.left (chunks_rest l.part-iterator);
+    }

@@ -1,23 +1,25 @@
--- `is_row` meets its contract. The invariant: the word and the name agree if they do from i on. The name ends within the run. The
--- measure is what is left.
-use borrow.Author.Rules.{rules}
-use Rattle.names.proofs.Rows.{same_start, row-rises, row_fits, row_other, row_more, row-stop, row-end}
+-- `is_row` meets its contract: what stands between a name's bounds is the name.
+use Rattle.std.proofs.Common.{◌-◌, take, drop, eqb, rules, tests, arith, ◌∙◌, ne_eqb}
+use Rattle.std.proofs.lemmas.Iterator.{YieldsList-from_slice, YieldsList-from_zip}
+use Rattle.std.proofs.lemmas.Iterator.Search.{all_from_yields_List}
+use Rattle.names.proofs.Rows.{row-rises, row_fits, row-same, row-other}
 use Rattle.names.proofs.is_row.Goals as goal
 
-pub overflow_sub-n : goal.overflow_sub-n
-overflow_sub-n c = search (row-rises)
+pub slice_bounds-name-count : goal.slice_bounds-name-count
+slice_bounds-name-count c = search (row-rises)
 
-pub returns-then-w-n : goal.returns-then-w-n
-returns-then-w-n c = search (row_other)
+pub slice_bounds-name-start : goal.slice_bounds-name-start
+slice_bounds-name-start c =
+    omega (arith, row-rises _ _ _ _ c.requires.0 c.requires.1 c.from-begin.ensures c.from-end.ensures, row_fits _ _ _ _ c.requires.0 c.requires.1 c.from-begin.ensures c.from-end.ensures)
 
-pub loop-i-init : goal.loop-i-init
-loop-i-init c = search (same_start, row_fits, rules)
+pub returns-then-w-name : goal.returns-then-w-name
+returns-then-w-name c =
+    let w = c.args.w.now in
+    let n = take (c.from-end.result - c.from-begin.result) (drop c.from-begin.result c.args.names.now) in
+    all_from_yields_List (λ p. eqb p.0 p.1) c.all.new.self _ c.all.result c.all.ensures.ran (YieldsList-from_zip (YieldsList-from_slice w cc) (YieldsList-from_slice n cc)) (λ x b q k. search (rules, tests))
+    ∙ row-same _ _ _ _ c.requires.0 c.requires.1 c.from-begin.ensures c.from-end.ensures w c.if-w-name.true
 
-pub returns-then-w-i : goal.returns-then-w-i
-returns-then-w-i c = search (row-stop)
-
-pub loop-i-preserved : goal.loop-i-preserved
-loop-i-preserved c = search (row_more, rules)
-
-pub returns : goal.returns
-returns c = search (row-end)
+pub returns-else-w-name : goal.returns-else-w-name
+returns-else-w-name c =
+    rw (ne_eqb _ _ c.if-w-name.false)
+    (row-other _ _ _ _ c.requires.0 c.requires.1 c.from-begin.ensures c.from-end.ensures c.args.w.now c.if-w-name.false)

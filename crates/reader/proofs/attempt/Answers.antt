@@ -4,18 +4,32 @@ use mathlib.Core.Path.{◌≡◌}
 use native.Mathlib.Omega.{arith}
 use Rattle.parser.specs.Parsing.{sizes}
 use Rattle.reader.proofs.Whole.{cut-refused, cut-parsed}
+use Rattle.std.proofs.lemmas.Result.{err_from_is_err_and}
 use Rattle.reader.proofs.attempt.Goals as goal
 
 pub parse-requires : goal.parse-requires
 parse-requires c =
-    let d = c.in-Done.is in
-    let w = c.cut-outcome.ensures in
+    let d = c.in_ok-n.was in
+    let w = c.cut.ensures in
     let f = rw d at w.fits in
-    let k = c.cut-outcome.auto.reading in
+    let k = c.cut.auto.reading in
     (omega arith, rw d at w.few)
 
-pub returns-in-Refused : goal.returns-in-Refused
-returns-in-Refused c = let a = c.args in record { token_room = c.cut-outcome.ensures.content; few = (λ k q. absurd (let v : ◌≡◌ {A = ℕ} 0 1 = cc in omega arith)); letter = cut-refused a.reading a.source.now (sizes a.tokens.now a.fonts.now a.colours.now a.blocks.now a.text.now) c.cut-outcome.ensures.answer c.in-Refused.is _ _ _ _ _ }
+pub returns-in_err-n-clause-letter : goal.returns-in_err-n-clause-letter
+returns-in_err-n-clause-letter c =
+    let a = c.args in
+    let p = err_from_is_err_and c.from_residual.result c.from_residual.ensures.1 in
+    rw (p.1, p.2) (cut-refused a.reading a.source.now (sizes a.tokens.now a.fonts.now a.colours.now a.blocks.now a.text.now) c.cut.ensures.answer c.in_err-n.was _ _ _ _ _)
 
-pub returns-in-Done : goal.returns-in-Done
-returns-in-Done c = let a = c.args in record { token_room = c.cut-outcome.ensures.content; few = (λ k q. let d = c.in-Done.is in let n = c.cut-outcome.ensures.counts _ d in let f = rw d at c.cut-outcome.ensures.few in omega arith); letter = cut-parsed a.reading a.source.now (sizes a.tokens.now a.fonts.now a.colours.now a.blocks.now a.text.now) c.cut-outcome.ensures.answer c.in-Done.is _ (c.cut-outcome.ensures.counts _ c.in-Done.is) (c.cut-outcome.ensures.reads _ c.in-Done.is) c.cut-outcome.auto.room _ _ _ _ _ c.parse.ensures }
+pub returns-clause-letter : goal.returns-clause-letter
+returns-clause-letter c =
+    let a = c.args in
+    cut-parsed a.reading a.source.now (sizes a.tokens.now a.fonts.now a.colours.now a.blocks.now a.text.now) c.cut.ensures.answer c.in_ok-n.was _
+    (c.cut.ensures.counts _ c.in_ok-n.was) (c.cut.ensures.reads _ c.in_ok-n.was) c.cut.auto.room _ _ _ _ _ c.parse.ensures
+
+pub returns-clause-few : goal.returns-clause-few
+returns-clause-few c k q =
+    let d = c.in_ok-n.was in
+    let n = c.cut.ensures.counts _ d in
+    let f = rw d at c.cut.ensures.few in
+    omega arith

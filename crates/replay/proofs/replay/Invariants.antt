@@ -4,8 +4,8 @@ use Prim.Native.Nat.{◌+◌, ◌≤◌}
 use lib.ListN.{length}
 use Rattle.replay.proofs.replay.Given as goal
 
-abbrev pub invariant-loop-rest : goal.invariant-loop-rest
-invariant-loop-rest g l = (l.answers + length l.rest ≤ length l.list) × (l.differ ≤ l.answers)
+abbrev pub invariant-loop-answer : goal.invariant-loop-answer
+invariant-loop-answer g l = (l.answers + length l.rest ≤ length l.list) × (l.differ ≤ l.answers)
 
-abbrev pub decreases-loop-rest : goal.decreases-loop-rest
-decreases-loop-rest g l = length l.rest
+abbrev pub decreases-loop-answer : goal.decreases-loop-answer
+decreases-loop-answer g l = length l.rest

@@ -2,8 +2,8 @@
 use Rattle.runs.proofs.Saying.{value-some, value_none}
 use Rattle.runs.proofs.lay_value.Goals as goal
 
-pub returns-then-some : goal.returns-then-some
-returns-then-some c = record { laid = value-some _ _ _ _ _ c.if-some.true c.character.ensures.laid; held = c.character.ensures.held }
+pub returns-in-Some-clause-laid : goal.returns-in-Some-clause-laid
+returns-in-Some-clause-laid c = value-some _ _ _ _ _ c.in-Some.is c.character.ensures.laid
 
-pub returns : goal.returns
-returns c = record { laid = value_none _ _ _ _ _ c.if-some.false; held = c.requires.2 }
+pub returns-in-None-clause-laid : goal.returns-in-None-clause-laid
+returns-in-None-clause-laid c = value_none _ _ _ _ c.in-None.is

@@ -8,15 +8,15 @@ use Rattle.settings.proofs.act_of.Goals as goal
 
 pub returns-in-11 : goal.returns-in-11
 unfolding painter_word paragraph_word character_word ending_word indent_word effect meaning
-returns-in-11 c = (by_word c.args.reading c.args.number 11 c.in-11.is (c.fit.ensures.0 ∙ rw c.value-v.ensures), c.fit.ensures.1)
+returns-in-11 c = (by_word c.args.reading c.args.number 11 c.in-11.is (c.fit.ensures.0 ∙ rw c.unwrap_or-v.ensures), c.fit.ensures.1)
 
 pub returns-in-9 : goal.returns-in-9
 unfolding painter_word paragraph_word character_word ending_word indent_word effect meaning
-returns-in-9 c = (by_word c.args.reading c.args.number 9 c.in-9.is (c.fit-in-9.ensures.0 ∙ rw c.value-v.ensures), c.fit-in-9.ensures.1)
+returns-in-9 c = (by_word c.args.reading c.args.number 9 c.in-9.is (c.fit-in-9.ensures.0 ∙ rw c.unwrap_or-v.ensures), c.fit-in-9.ensures.1)
 
 pub returns-in-10 : goal.returns-in-10
 unfolding painter_word paragraph_word character_word ending_word indent_word effect meaning
-returns-in-10 c = (by_word c.args.reading c.args.number 10 c.in-10.is (c.fit-in-10.ensures.0 ∙ rw c.value-v.ensures), c.fit-in-10.ensures.1)
+returns-in-10 c = (by_word c.args.reading c.args.number 10 c.in-10.is (c.fit-in-10.ensures.0 ∙ rw c.unwrap_or-v.ensures), c.fit-in-10.ensures.1)
 
 pub returns-in-13 : goal.returns-in-13
 unfolding painter_word paragraph_word character_word ending_word indent_word effect meaning
@@ -60,27 +60,27 @@ returns-in-21 c = (by_word c.args.reading c.args.number 21 c.in-21.is refl, omeg
 
 pub returns-in-35 : goal.returns-in-35
 unfolding painter_word paragraph_word character_word ending_word indent_word effect meaning
-returns-in-35 c = (by_word c.args.reading c.args.number 35 c.in-35.is (c.space.ensures.0 ∙ rw c.value-v.ensures), c.space.ensures.1)
+returns-in-35 c = (by_word c.args.reading c.args.number 35 c.in-35.is (c.space.ensures.0 ∙ rw c.unwrap_or-v.ensures), c.space.ensures.1)
 
 pub returns-in-33 : goal.returns-in-33
 unfolding painter_word paragraph_word character_word ending_word indent_word effect meaning
-returns-in-33 c = (by_word c.args.reading c.args.number 33 c.in-33.is (rw c.value-v.ensures), omega arith)
+returns-in-33 c = (by_word c.args.reading c.args.number 33 c.in-33.is (rw c.unwrap_or-v.ensures), omega arith)
 
 pub returns-in-34 : goal.returns-in-34
 unfolding painter_word paragraph_word character_word ending_word indent_word effect meaning
-returns-in-34 c = (by_word c.args.reading c.args.number 34 c.in-34.is (rw c.value-v.ensures), omega arith)
+returns-in-34 c = (by_word c.args.reading c.args.number 34 c.in-34.is (rw c.unwrap_or-v.ensures), omega arith)
 
 pub returns-in-36 : goal.returns-in-36
 unfolding painter_word paragraph_word character_word ending_word indent_word effect meaning
-returns-in-36 c = (by_word c.args.reading c.args.number 36 c.in-36.is (rw c.value-v.ensures), omega arith)
+returns-in-36 c = (by_word c.args.reading c.args.number 36 c.in-36.is (rw c.unwrap_or-v.ensures), omega arith)
 
 pub returns-in-25 : goal.returns-in-25
 unfolding painter_word paragraph_word character_word ending_word indent_word effect meaning
-returns-in-25 c = (by_word c.args.reading c.args.number 25 c.in-25.is (rw c.value-v.ensures), omega arith)
+returns-in-25 c = (by_word c.args.reading c.args.number 25 c.in-25.is (rw c.unwrap_or-v.ensures), omega arith)
 
 pub returns-in-3 : goal.returns-in-3
 unfolding painter_word paragraph_word character_word ending_word indent_word effect meaning
-returns-in-3 c = (by_word c.args.reading c.args.number 3 c.in-3.is (rw c.value-v.ensures), omega arith)
+returns-in-3 c = (by_word c.args.reading c.args.number 3 c.in-3.is (rw c.unwrap_or-v.ensures), omega arith)
 
 pub returns-in-26 : goal.returns-in-26
 unfolding painter_word paragraph_word character_word ending_word indent_word effect meaning
@@ -140,15 +140,15 @@ returns-in-20 c = (by_word c.args.reading c.args.number 20 c.in-20.is c.ending.e
 
 pub returns-in-32 : goal.returns-in-32
 unfolding painter_word paragraph_word character_word ending_word indent_word effect meaning
-returns-in-32 c = (by_word c.args.reading c.args.number 32 c.in-32.is (c.indent.ensures.0 ∙ rw c.value-v.ensures), c.indent.ensures.1)
+returns-in-32 c = (by_word c.args.reading c.args.number 32 c.in-32.is (c.indent.ensures.0 ∙ rw c.unwrap_or-v.ensures), c.indent.ensures.1)
 
 pub returns-in-31 : goal.returns-in-31
 unfolding painter_word paragraph_word character_word ending_word indent_word effect meaning
-returns-in-31 c = (by_word c.args.reading c.args.number 31 c.in-31.is (c.indent-in-31.ensures.0 ∙ rw c.value-v.ensures), c.indent-in-31.ensures.1)
+returns-in-31 c = (by_word c.args.reading c.args.number 31 c.in-31.is (c.indent-in-31.ensures.0 ∙ rw c.unwrap_or-v.ensures), c.indent-in-31.ensures.1)
 
 pub returns-in-30 : goal.returns-in-30
 unfolding painter_word paragraph_word character_word ending_word indent_word effect meaning
-returns-in-30 c = (by_word c.args.reading c.args.number 30 c.in-30.is (c.indent-in-30.ensures.0 ∙ rw c.value-v.ensures), c.indent-in-30.ensures.1)
+returns-in-30 c = (by_word c.args.reading c.args.number 30 c.in-30.is (c.indent-in-30.ensures.0 ∙ rw c.unwrap_or-v.ensures), c.indent-in-30.ensures.1)
 
 pub returns-in_default : goal.returns-in_default
 unfolding meaning

@@ -1,5 +1,5 @@
 -- `number_at` meets its contract. The invariant: i groups have the high bit and are gathered, and what is left gives the rest
--- of the value. The measure is the groups that may be left. Each way to leave has its law.
+-- of the value. Each way to leave has its law.
 -- Assumes nothing.
 use native.Mathlib.Omega.{arith}
 use Rattle.sevens.proofs.Branches.{no_number, low-number, gathering-start, gathering-short, gathering-six}
@@ -10,7 +10,7 @@ pub returns-then-s-eq0 : goal.returns-then-s-eq0
 returns-then-s-eq0 c = search (no_number)
 
 pub returns-then-first-lt128 : goal.returns-then-first-lt128
-returns-then-first-lt128 c = search (low-number)
+returns-then-first-lt128 c = rw c.from.ensures (low-number _ c.if-s-eq0.false c.if-first-lt128.true)
 
 pub loop-i-init : goal.loop-i-init
 loop-i-init c = search (gathering-start)
@@ -21,19 +21,19 @@ returns-then-s-i c = search (gathering-short)
 pub returns-then-b-eq0 : goal.returns-then-b-eq0
 returns-then-b-eq0 c =
     let g = c.loop-i.invariant in
-    let w = c.wide-group.ensures in
+    let w = c.from-group.ensures in
     gathering-long _ _ _ _ g (omega arith) (omega arith) _ w (omega arith) (omega arith)
 
 pub returns-then-value-gt4294967295 : goal.returns-then-value-gt4294967295
 returns-then-value-gt4294967295 c =
     let g = c.loop-i.invariant in
-    let w = c.wide-group.ensures in
+    let w = c.from-group.ensures in
     gathering-over _ _ _ _ g (omega arith) (omega arith) _ w (omega arith) (omega arith)
 
 pub returns-then-b-lt128 : goal.returns-then-b-lt128
 returns-then-b-lt128 c =
     let g = c.loop-i.invariant in
-    let w = c.wide-group.ensures in
+    let w = c.from-group.ensures in
     gathering-done _ _ _ _ g (omega arith) (omega arith) _ w (omega arith) (λ z. omega arith) (omega arith)
 
 pub loop-i-preserved : goal.loop-i-preserved

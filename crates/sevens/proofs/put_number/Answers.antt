@@ -9,8 +9,8 @@ use Rattle.sevens.proofs.put_number.Goals as goal
 pub loop-rest-init : goal.loop-rest-init
 loop-rest-init c = search (putting-start, rules)
 
-pub low_byte-b-requires : goal.low_byte-b-requires
-low_byte-b-requires c = search (byte_or, byte-and, rules)
+pub overflow_cast-b : goal.overflow_cast-b
+overflow_cast-b c = search (byte_or, byte-and, rules)
 
 pub loop-rest-preserved : goal.loop-rest-preserved
 loop-rest-preserved c = search (putting-more)

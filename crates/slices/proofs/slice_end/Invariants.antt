@@ -5,8 +5,8 @@ use Rattle.slices.specs.Slices.{slice_length}
 use Rattle.slices.proofs.Ends.{At}
 use Rattle.slices.proofs.slice_end.Given as goal
 
-abbrev pub invariant-loop-i : goal.invariant-loop-i
-invariant-loop-i l = At l.s (slice_length l.s) l.i
+abbrev pub invariant-loop-eight : goal.invariant-loop-eight
+invariant-loop-eight l = At l.s (slice_length l.s) l.i
 
-abbrev pub decreases-loop-i : goal.decreases-loop-i
-decreases-loop-i l = length l.s - l.i
+abbrev pub decreases-loop-eight : goal.decreases-loop-eight
+decreases-loop-eight l = length l.s - l.i

@@ -5,8 +5,8 @@ use Rattle.slices.specs.Slices.{is_start, standard_length}
 use Rattle.slices.proofs.Searches.{Goes}
 use Rattle.slices.proofs.standard_end.Given as goal
 
-abbrev pub invariant-loop-i : goal.invariant-loop-i
-invariant-loop-i l = Goes is_start l.s (standard_length l.s) l.i
+abbrev pub invariant-loop-eight : goal.invariant-loop-eight
+invariant-loop-eight l = Goes is_start l.s (standard_length l.s) l.i
 
-abbrev pub decreases-loop-i : goal.decreases-loop-i
-decreases-loop-i l = length l.s - l.i
+abbrev pub decreases-loop-eight : goal.decreases-loop-eight
+decreases-loop-eight l = length l.s - l.i

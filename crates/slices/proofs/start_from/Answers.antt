@@ -1,16 +1,21 @@
--- `start_from` meets its contract. The invariant: no byte that starts a slice stands between `from` and i. The measure is what is left.
-use mathlib.Core.Path.{refl}
-use Rattle.slices.proofs.Searches.{goes-more, goes-here, goes_last}
+-- `start_from` meets its contract: the chain counts the bytes that start no slice.
+use Rattle.std.proofs.Common.{drop, ◌∙◌, ap, ◌+◌, rules, tests}
+use Rattle.std.proofs.lemmas.Iterator.{YieldsList-from_slice}
+use Rattle.std.proofs.lemmas.Iterator.Consumers.{count_from_yields_List}
+use Rattle.std.proofs.lemmas.Iterator.Search.{YieldsList-from_take_while}
+use Rattle.std.proofs.lemmas.List.{take_rest}
+use Rattle.std.proofs.lemmas.List.Folds.{length-prefix_len}
+use Rattle.classes.specs.Eights.{outside}
+use Rattle.classes.proofs.Runs.{lead-prefix}
+use Rattle.slices.specs.Slices.{is_start}
 use Rattle.slices.proofs.start_from.Goals as goal
 
-pub loop-i-init : goal.loop-i-init
-loop-i-init c = record { within = c.requires; ends = refl }
-
-pub returns-then-is_start : goal.returns-then-is_start
-returns-then-is_start c = goes-here _ _ _ c.loop-i.invariant _ c.is_start.ensures c.loop-i-test.true c.if-is_start.true
-
-pub loop-i-preserved : goal.loop-i-preserved
-loop-i-preserved c = goes-more _ _ _ c.loop-i.invariant _ c.is_start.ensures c.loop-i-test.true c.if-is_start.false
-
 pub returns : goal.returns
-returns c = goes_last _ _ _ c.loop-i.invariant c.loop-i-test.false
+returns c =
+    let f = outside is_start in
+    let s = drop c.args.from c.args.s.now in
+    let rest = take_rest c.args.s.now c.args.from in
+    let passed = count_from_yields_List c.take_while.result _ c.count-passed.ensures.ran
+    (YieldsList-from_take_while _ f (YieldsList-from_slice s cc) c.take_while.ensures.closure c.take_while.ensures.done (λ x b q k. search (rules, tests)))
+    ∙ length-prefix_len f s ∙ lead-prefix f s in
+    ap (λ n. c.args.from + n) passed

@@ -3,26 +3,28 @@ use mathlib.Core.Path.{refl}
 use native.Mathlib.Omega.{arith}
 use lib.ListN.{length-take, length-drop}
 use Rattle.rooms.proofs.Rooms.{wrote_then, wrote-stops}
-use Rattle.rooms.proofs.Streams.{name-apart}
 use Rattle.tokens.specs.Tokens.{shown_layout}
 use Rattle.standard.proofs.Rules.{word-parts}
 use Rattle.standard.proofs.Sizes.{named-next}
 use borrow.Author.Rules.{rules}
+use Rattle.std.proofs.lemmas.Result.{err_from_is_err_and}
 use Rattle.standard.proofs.word.Goals as goal
 
 pub slice_bounds-named-end : goal.slice_bounds-named-end
 slice_bounds-named-end c = simp length-take (omega arith)
 
-pub named-first-requires : goal.named-first-requires
-named-first-requires c = (simp length-take (omega arith), search rules, search rules)
+pub named-requires : goal.named-requires
+named-requires c = (simp length-take (omega arith), search rules, search rules)
 
 pub tail-requires : goal.tail-requires
 tail-requires c =
-    let b = named-next _ _ _ c.named-first.ensures c.in-Done.is in
+    let b = named-next _ _ _ c.named.ensures c.in_ok-next.was in
     simp (length-take, length-drop) (omega arith)
 
-pub returns-in-Refused : goal.returns-in-Refused
-returns-in-Refused c = wrote-stops shown_layout name-apart _ (word-parts _ _ _ _ _ c.letters_of-k.ensures.0 c.number_length.ensures.0 refl) c.named-first.ensures c.in-Refused.is
+pub returns-in_err-next : goal.returns-in_err-next
+returns-in_err-next c =
+    let p = err_from_is_err_and c.from_residual.result c.from_residual.ensures.1 in
+    rw (p.1, p.2) (wrote-stops shown_layout _ (word-parts _ _ _ _ _ c.letters_of-k.ensures.0 c.number_length.ensures.0 refl) c.named.ensures c.in_err-next.was)
 
-pub returns-in-Done : goal.returns-in-Done
-returns-in-Done c = wrote_then shown_layout name-apart _ (word-parts _ _ _ _ _ c.letters_of-k.ensures.0 c.number_length.ensures.0 c.leads.ensures.0) c.named-first.ensures c.in-Done.is c.tail.ensures
+pub returns : goal.returns
+returns c = wrote_then shown_layout _ (word-parts _ _ _ _ _ c.letters_of-k.ensures.0 c.number_length.ensures.0 c.leads.ensures.0) c.named.ensures c.in_ok-next.was c.tail.ensures

@@ -1,38 +1,16 @@
 -- `read_list` meets its contract: all blocks find room, or both rooms are cleared.
-use native.Mathlib.Omega.{arith}
-use lib.ListN.{length}
-use Rattle.blocks.proofs.Settling.{count-words}
 use Rattle.stored.proofs.Whole.{list_full, list-laid}
 use Rattle.stored.proofs.read_list.Goals as goal
 
-pub overflow_mul-count : goal.overflow_mul-count
-overflow_mul-count c =
-    let at-laid2 = c in
-    let at-lay-list = at-laid2 in
-    let start = at-lay-list in
-    let b = start.well_formed in
-    let h = count-words (length start.args.blocks.now) (length start.args.text.now)
-    (rw at-laid2.in-On.is at at-lay-list.lay_list-laid.ensures.still) in
-    omega arith
+pub returns-in-Err : goal.returns-in-Err
+returns-in-Err c =
+    let laid = c.lay_list-laid in
+    let e = c.refuse.ensures in
+    list_full c.args.list.now c.args.blocks.now c.args.text.now laid.result _ _ laid.ensures.laid c.in-Err.is
+    e.answer e.block_room e.text_room laid.auto.blocks laid.auto.text
 
-pub returns-in-Full : goal.returns-in-Full
-returns-in-Full c =
-    let at-refuse = c in
-    let at-laid = at-refuse in
-    let at-lay-list = at-laid in
-    let start = at-lay-list in
-    list_full start.args.list.now start.args.blocks.now start.args.text.now
-    at-lay-list.lay_list-laid.result _ _ at-lay-list.lay_list-laid.ensures.laid at-laid.in-Full.is
-    at-refuse.refuse.ensures.answer at-refuse.refuse.ensures.block_room at-refuse.refuse.ensures.text_room
-    at-lay-list.lay_list-laid.auto.blocks at-lay-list.lay_list-laid.auto.text
-
-pub returns-in-On : goal.returns-in-On
-returns-in-On c =
-    let at-clear-bytes-from = c in
-    let at-clear-from = at-clear-bytes-from in
-    let at-laid2 = at-clear-from in
-    let at-lay-list = at-laid2 in
-    let start = at-lay-list in
-    list-laid start.args.list.now start.args.blocks.now start.args.text.now
-    at-lay-list.lay_list-laid.result _ _ at-lay-list.lay_list-laid.ensures.laid at-laid2.in-On.is
-    at-clear-from.clear_from.ensures at-clear-bytes-from.clear_bytes_from.ensures
+pub returns-in-Ok : goal.returns-in-Ok
+returns-in-Ok c =
+    let laid = c.lay_list-laid in
+    list-laid c.args.list.now c.args.blocks.now c.args.text.now laid.result _ _ laid.ensures.laid c.in-Ok.is
+    c.clear_from.ensures c.clear_from-in-Ok.ensures

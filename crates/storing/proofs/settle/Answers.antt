@@ -1,17 +1,15 @@
 -- `settle` meets its contract: a count within the total, or one beyond.
-use native.Mathlib.Omega.{arith}
-use Rattle.storing.proofs.Settling.{settle-fits, settle-over}
+use Rattle.std.proofs.lemmas.Result.{err_from_is_err_and}
+use Rattle.storing.proofs.Settling.{settle-fits, settle-over, settle-refused}
 use Rattle.storing.proofs.settle.Goals as goal
 
-pub returns-then-count-total : goal.returns-then-count-total
-returns-then-count-total c =
-    let at_count = c in
-    let start = at_count in
-    settle-fits start.args.outcome start.args.total (omega (arith, at_count.count.ensures, c.if-count-total.true))
+pub returns-in_err-n : goal.returns-in_err-n
+returns-in_err-n c =
+    let p = err_from_is_err_and c.from_residual.result c.from_residual.ensures.1 in
+    rw (p.1, p.2) (settle-refused c.args.total c.in_err-n.was)
+
+pub returns-then-n-total : goal.returns-then-n-total
+returns-then-n-total c = settle-fits c.args.total c.in_ok-n.was c.if-n-total.true
 
 pub returns : goal.returns
-returns c =
-    let at_count = c in
-    let start = at_count in
-    settle-over start.args.outcome start.args.total (omega (arith, at_count.count.ensures, c.if-count-total.false))
-    c.of.ensures
+returns c = settle-over c.args.total c.in_ok-n.was c.if-n-total.false c.of.ensures

@@ -4,11 +4,11 @@ use Rattle.storing.proofs.write_list.Goals as goal
 
 pub returns : goal.returns
 returns c =
-    let at-settle = c in
-    let u = at-settle.unindented-bare.ensures in
+    let u = c.unindented-bare.ensures in
     let w = c.put_list-outcome.ensures in
+    let e = c.settle-answer.ensures in
     let ws = c.args.blocks.now in
     let tx = c.args.text.now in record {
-      answer = settle-answer ws tx w u at-settle.settle-answer.ensures;
-      content = settle-room ws tx w u at-settle.settle-answer.ensures c.clear_bytes_from.ensures c.count-count.ensures;
+      answer = settle-answer ws tx w u e;
+      content = settle-room ws tx w u e c.clear_from.ensures c.count_of-count.ensures;
     }

@@ -4,13 +4,18 @@ use Rattle.rooms.proofs.Rooms.{wrote-stop}
 use Rattle.tokens.specs.Tokens.{shown_layout}
 use Rattle.tokens.proofs.Records.{wrote-token-and, word-record}
 use Rattle.tokenize.proofs.Rules.{hex-short, hex-bad, hex-is}
+use Rattle.std.proofs.lemmas.Result.{err_from_is_err_and}
+use Rattle.answers.proofs.Results.{ok_or-none, ok_or-some}
 use Rattle.tokenize.proofs.hex_escape.Goals as goal
 
 pub returns-then-s-lt2 : goal.returns-then-s-lt2
 returns-then-s-lt2 c = wrote-stop shown_layout (hex-short _ _ c.if-s-lt2.true) refl
 
-pub returns-in-Bad : goal.returns-in-Bad
-returns-in-Bad c = wrote-stop shown_layout (hex-bad _ _ c.if-s-lt2.false _ c.hex_pair-value.ensures c.in-Bad.is) refl
+pub returns-in_err-v : goal.returns-in_err-v
+returns-in_err-v c =
+    let p = err_from_is_err_and c.from_residual.result c.from_residual.ensures.1 in
+    let o = ok_or-none _ _ c.ok_or.ensures.value c.in_err-v.was in
+    rw (p.1, p.2) (wrote-stop shown_layout (hex-bad _ _ c.if-s-lt2.false _ c.hex_pair.ensures o.0) o.1)
 
-pub returns-in-Is : goal.returns-in-Is
-returns-in-Is c = wrote-token-and (hex-is _ _ c.if-s-lt2.false _ c.hex_pair-value.ensures _ c.in-Is.is) (word-record _ _ c.word.ensures) c.put.ensures c.plain.ensures
+pub returns : goal.returns
+returns c = wrote-token-and (hex-is _ _ c.if-s-lt2.false _ c.hex_pair.ensures _ (ok_or-some _ _ c.ok_or.ensures.value c.in_ok-v.was)) (word-record _ _ c.word.ensures) c.put.ensures c.plain.ensures

@@ -7,7 +7,7 @@ use Rattle.tokens.specs.Tokens.{shown_layout}
 use Rattle.tokenize.proofs.Rules.{word-parts, word-short}
 use Rattle.tokenize.proofs.Sizes.{named-next}
 use borrow.Author.Rules.{rules}
-use Rattle.rooms.proofs.Streams.{name-apart}
+use Rattle.std.proofs.lemmas.Result.{err_from_is_err_and}
 use Rattle.tokenize.proofs.word.Goals as goal
 
 pub slice_bounds-bare_length-end : goal.slice_bounds-bare_length-end
@@ -16,20 +16,22 @@ slice_bounds-bare_length-end c = simp length-take (omega arith)
 pub slice_bounds-named-end : goal.slice_bounds-named-end
 slice_bounds-named-end c = simp length-take (omega (arith, simp length-take at c.bare_length-e.ensures.within))
 
-pub named-first-requires : goal.named-first-requires
-named-first-requires c =
+pub named-requires : goal.named-requires
+named-requires c =
     (simp length-take (omega (arith, simp length-take at c.bare_length-e.ensures.within)), search rules, search rules)
 
 pub returns-then-k-s : goal.returns-then-k-s
-returns-then-k-s c = wrote_then shown_layout name-apart _ (word-short _ _ _ _ c.lead_of-k.ensures.count c.bare_length-e.ensures.value c.if-k-s.true) c.named-first.ensures c.in-Done.is (wrote_none shown_layout refl)
+returns-then-k-s c = wrote_then shown_layout _ (word-short _ _ _ _ c.lead_of-k.ensures.count c.bare_length-e.ensures.value c.if-k-s.true) c.named.ensures c.in_ok-m.was (wrote_none shown_layout refl)
 
 pub word_tail-requires : goal.word_tail-requires
 word_tail-requires c =
-    let b = named-next _ _ c.named-first.ensures c.in-Done.is in
+    let b = named-next _ _ c.named.ensures c.in_ok-m.was in
     simp (length-take, length-drop) (omega arith)
 
-pub returns-in-Refused : goal.returns-in-Refused
-returns-in-Refused c = wrote-stops shown_layout name-apart _ (word-parts _ _ _ _ c.lead_of-k.ensures.count c.bare_length-e.ensures.value) c.named-first.ensures c.in-Refused.is
+pub returns-in_err-m : goal.returns-in_err-m
+returns-in_err-m c =
+    let p = err_from_is_err_and c.from_residual.result c.from_residual.ensures.1 in
+    rw (p.1, p.2) (wrote-stops shown_layout _ (word-parts _ _ _ _ c.lead_of-k.ensures.count c.bare_length-e.ensures.value) c.named.ensures c.in_err-m.was)
 
-pub returns-else-k-s : goal.returns-else-k-s
-returns-else-k-s c = wrote_then shown_layout name-apart _ (word-parts _ _ _ _ c.lead_of-k.ensures.count c.bare_length-e.ensures.value) c.named-first.ensures c.in-Done.is c.word_tail.ensures
+pub returns : goal.returns
+returns c = wrote_then shown_layout _ (word-parts _ _ _ _ c.lead_of-k.ensures.count c.bare_length-e.ensures.value) c.named.ensures c.in_ok-m.was c.word_tail.ensures

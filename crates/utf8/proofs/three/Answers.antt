@@ -7,8 +7,8 @@ use lib.Bits.{or_shifted_r}
 use Rattle.utf8.proofs.Bits.{byte_or}
 use Rattle.utf8.proofs.three.Goals as goal
 
-pub low_byte-a-requires : goal.low_byte-a-requires
-low_byte-a-requires c = let h : c.args.c / 4096 < 256 = omega arith in search (byte_or, rules)
+pub overflow_cast-a : goal.overflow_cast-a
+overflow_cast-a c = let h : c.args.c / 4096 < 256 = omega arith in search (byte_or, rules)
 
 pub returns : goal.returns
 unfolding padded

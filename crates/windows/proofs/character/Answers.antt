@@ -1,20 +1,22 @@
 -- `character` meets its contract: by the range of the byte.
+use native.Mathlib.Omega.{arith}
 use borrow.Author.Tests.{lt-ltb, le-ltb}
 use Rattle.windows.specs.Windows.{windows1252}
 use Rattle.windows.proofs.character.Goals as goal
 
-pub returns-then-b-lt128 : goal.returns-then-b-lt128
+pub returns-in-0-to-127 : goal.returns-in-0-to-127
 unfolding windows1252
-returns-then-b-lt128 c = rw (lt-ltb _ 128 c.if-b-lt128.true)
+returns-in-0-to-127 c = rw (lt-ltb c.args.b 128 (omega arith))
 
-pub returns-then-b-gt255 : goal.returns-then-b-gt255
+pub returns-in-128-to-159 : goal.returns-in-128-to-159
 unfolding windows1252
-returns-then-b-gt255 c = rw (le-ltb _ 128 c.if-b-lt128.false, lt-ltb 255 _ c.if-b-gt255.true)
+returns-in-128-to-159 c =
+    rw (le-ltb c.args.b 128 (omega arith), le-ltb 255 c.args.b (omega arith), le-ltb 159 c.args.b (omega arith), ← c.own_characters-own.ensures)
 
-pub returns-then-b-gt159 : goal.returns-then-b-gt159
+pub returns-in-160-to-255 : goal.returns-in-160-to-255
 unfolding windows1252
-returns-then-b-gt159 c = rw (le-ltb _ 128 c.if-b-lt128.false, le-ltb 255 _ c.if-b-gt255.false, lt-ltb 159 _ c.if-b-gt159.true)
+returns-in-160-to-255 c = rw (le-ltb c.args.b 128 (omega arith), le-ltb 255 c.args.b (omega arith), lt-ltb 159 c.args.b (omega arith))
 
-pub returns : goal.returns
+pub returns-in_default : goal.returns-in_default
 unfolding windows1252
-returns c = rw (le-ltb _ 128 c.if-b-lt128.false, le-ltb 255 _ c.if-b-gt255.false, le-ltb 159 _ c.if-b-gt159.false, ← c.own_characters-own.ensures)
+returns-in_default c = rw (le-ltb c.args.b 128 (omega arith), lt-ltb 255 c.args.b (omega arith))

@@ -4,12 +4,12 @@ use Rattle.extraction.proofs.Listings.{listing-refused, listing-read}
 use Rattle.extraction.proofs.listing.list.Goals as goal
 
 pub returns-then-told-ne0 : goal.returns-then-told-ne0
-returns-then-told-ne0 c = record { number = c.number-told.ensures; content = rw (← c.number-told.ensures, ← c.place-place.ensures, ← c.counts-counts.ensures) (put_as (listing-refused _ _ _ _ _ _ _ c.if-told-ne0.true) c.head-first.ensures) }
+returns-then-told-ne0 c = record { number = c.number_of-told.ensures; content = rw (← c.number_of-told.ensures, ← c.place_of-place.ensures, ← c.counts_of-counts.ensures) (put_as (listing-refused _ _ _ _ _ _ _ c.if-told-ne0.true) c.head-first.ensures) }
 
 pub returns : goal.returns
 returns c = record {
-  number = c.number-told.ensures;
-  content = rw (← c.number-told.ensures, ← c.place-place.ensures, ← c.counts-counts.ensures)
+  number = c.number_of-told.ensures;
+  content = rw (← c.number_of-told.ensures, ← c.place_of-place.ensures, ← c.counts_of-counts.ensures)
       (put_as (listing-read _ _ _ _ _ _ _ c.if-told-ne0.false)
       (put_then c.head-first.ensures c.head-first.auto.page
       (put_then c.records-font_lines.ensures c.records-font_lines.auto.page

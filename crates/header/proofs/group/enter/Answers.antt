@@ -6,7 +6,7 @@ pub returns-in-Nothing : goal.returns-in-Nothing
 returns-in-Nothing c = enter-nothing _ _ _ _ _ _ _ _ _ (c.aim_of-a.ensures _) c.in-Nothing.is
 
 pub returns-in-Hide : goal.returns-in-Hide
-returns-in-Hide c = enter-hide _ _ _ _ _ _ _ _ _ (c.aim_of-a.ensures _) c.in-Hide.is (c.extent-hidden.ensures.0 _) c.extent-hidden.ensures.1
+returns-in-Hide c = enter-hide _ _ _ _ _ _ _ _ _ (c.aim_of-a.ensures _) c.in-Hide.is (c.extent.ensures.0 _) c.extent.ensures.1
 
 pub returns-in-Fonts : goal.returns-in-Fonts
 returns-in-Fonts c = enter-fonts _ _ _ _ _ _ _ _ _ (c.aim_of-a.ensures _) _ _ c.in-Fonts.is c.font_table.ensures

@@ -3,4 +3,4 @@ use Rattle.host.proofs.Answers.{cut_as}
 use Rattle.host.proofs.answer.of_cut.Goals as goal
 
 pub returns : goal.returns
-returns c = cut_as c.args.outcome c.number-refusal.ensures c.place-place.ensures c.count-count.ensures
+returns c = cut_as c.args.outcome c.number_of.ensures c.place_of.ensures c.count_of.ensures

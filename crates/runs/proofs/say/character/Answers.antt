@@ -9,4 +9,4 @@ pub slice_bounds-lay-end : goal.slice_bounds-lay-end
 slice_bounds-lay-end c = encoded-count _ _ c.encode-e.ensures
 
 pub returns : goal.returns
-returns c = record { laid = encoded-text _ _ c.encode-e.ensures _ _ _ _ c.lay.ensures.laid; held = c.lay.ensures.held }
+returns c = record { laid = encoded-text _ _ c.encode-e.ensures _ _ _ _ c.lay.ensures.laid; ready = c.lay.ensures.ready }

@@ -1,9 +1,8 @@
--- `starts_of` meets its contract: the number is that of the bytes. Assumes nothing.
+-- `starts_of` meets its contract: the library's number of the bytes is theirs. Assumes nothing.
+use mathlib.Core.Path.{◌∙◌}
 use native.Mathlib.Omega.{arith}
+use Rattle.classes.proofs.Marks.{packed-le}
 use Rattle.slices.proofs.eights.starts_of.Goals as goal
 
-pub word_of-w-requires : goal.word_of-w-requires
-word_of-w-requires c = omega (arith, c.requires)
-
 pub returns : goal.returns
-returns c = c.starts.ensures _ c.requires (λ i. let b = c.type_inv.s i in omega (arith, b)) c.word_of-w.ensures
+returns c = c.starts.ensures c.args.eight.now c.told-eight (λ i. let b = c.fits-eight i in omega (arith, b)) (c.from_le_bytes.ensures ∙ packed-le c.args.eight.now c.told-eight)

@@ -1,49 +1,18 @@
 -- `block_at` meets its contract, as that of `entry` does: the numbers, and then the rules.
-use native.Mathlib.Omega.{arith}
-use lib.ListN.{length-take}
 use mathlib.Core.Path.{refl}
 use Rattle.fields.specs.Fields.{last_of}
-use Rattle.stored.proofs.Branches.{block_refused, block_within, block-entry}
+use Rattle.std.proofs.lemmas.Result.{err_from_is_err_and}
+use Rattle.stored.proofs.Branches.{block_refused, block-entry}
 use Rattle.stored.proofs.check.block_at.Goals as goal
 
-pub slice_bounds-style_from-end : goal.slice_bounds-style_from-end
-slice_bounds-style_from-end c = simp length-take (omega arith)
+pub returns-in_err-m : goal.returns-in_err-m
+returns-in_err-m c =
+    let p = err_from_is_err_and c.from_residual.result c.from_residual.ensures.1 in
+    let n = c.numbers_at in
+    rw (p.1, p.2) (block_refused (last_of c.args.before) c.args.s.now _ n.result refl n.ensures c.in_err-m.was)
 
-pub style_from-style-requires : goal.style_from-style-requires
-style_from-style-requires c = simp length-take (omega arith)
-
-pub slice_bounds-ruled-count : goal.slice_bounds-ruled-count
-slice_bounds-ruled-count c =
-    let at-numbers2 = c in
-    let at-numbers-at = at-numbers2 in
-    let start = at-numbers-at in
-    let w = block_within (last_of start.args.begun start.args.before) start.args.s.now _
-    at-numbers-at.numbers_at-numbers.result refl at-numbers-at.numbers_at-numbers.ensures at-numbers2.in-Done.is in
-    omega arith
-
-pub slice_bounds-ruled-start : goal.slice_bounds-ruled-start
-slice_bounds-ruled-start c =
-    let at-numbers2 = c in
-    let at-numbers-at = at-numbers2 in
-    let start = at-numbers-at in
-    let w = block_within (last_of start.args.begun start.args.before) start.args.s.now _
-    at-numbers-at.numbers_at-numbers.result refl at-numbers-at.numbers_at-numbers.ensures at-numbers2.in-Done.is in
-    omega arith
-
-pub returns-in-Refused : goal.returns-in-Refused
-returns-in-Refused c =
-    let at-numbers-at = c in
-    let start = at-numbers-at in
-    block_refused (last_of start.args.begun start.args.before) start.args.s.now _
-    at-numbers-at.numbers_at-numbers.result refl at-numbers-at.numbers_at-numbers.ensures c.in-Refused.is
-
-pub returns-in-Done : goal.returns-in-Done
-returns-in-Done c =
-    let at_wide = c in
-    let at-style-from = at_wide in
-    let at-numbers2 = at-style-from in
-    let at-numbers-at = at-numbers2 in
-    let start = at-numbers-at in
-    block-entry (last_of start.args.begun start.args.before) start.args.s.now _
-    at-numbers-at.numbers_at-numbers.result refl at-numbers-at.numbers_at-numbers.ensures at-numbers2.in-Done.is
-    at-style-from.style_from-style.ensures at_wide.wide-n.ensures c.ruled.ensures
+pub returns : goal.returns
+returns c =
+    let n = c.numbers_at in
+    block-entry (last_of c.args.before) c.args.s.now _ n.result refl n.ensures c.in_ok-m.was
+    c.style_from-style.ensures c.wide-n.ensures c.ruled.ensures

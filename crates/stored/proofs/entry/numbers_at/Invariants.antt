@@ -1,11 +1,7 @@
--- `numbers_at` meets its contract: the numbers that are left, behind those in the words, are all of them.
-use Prim.Native.Nat.{◌-◌}
-use lib.ListN.{length}
+-- The numbers that are left, behind those in the words, are all of them.
+use Rattle.std.proofs.Common.{length}
 use Rattle.stored.proofs.Reading.{Reading}
 use Rattle.stored.proofs.entry.numbers_at.Given as goal
 
-abbrev pub invariant-loop-i : goal.invariant-loop-i
-invariant-loop-i l = Reading l.s (length l.initial.words) l.i l.t l.words
-
-abbrev pub decreases-loop-i : goal.decreases-loop-i
-decreases-loop-i l = length l.words - l.i
+abbrev pub invariant-loop-word : goal.invariant-loop-word
+invariant-loop-word l = Reading l.s (length l.initial.words) l.word-index l.t l.words

@@ -1,21 +1,12 @@
 -- `put_block` meets its contract: its numbers, and then its text.
 use mathlib.Core.Path.{ap, ◌∙◌}
 use native.Mathlib.Omega.{arith}
-use lib.ListN.{length, length-set, length-take, take, set}
+use lib.ListN.{length, length-take, take, set}
 use Rattle.styles.specs.Styles.{bare_width}
 use Rattle.fields.specs.Fields.{block_numbers}
-use Rattle.fields.proofs.Styles.{numbers-length, numbers-with}
+use Rattle.fields.proofs.Styles.{numbers-with}
 use Rattle.storing.proofs.Putting.{numbers-place, block-wrote}
 use Rattle.storing.proofs.block.put_block.Goals as goal
-
-pub slice_bounds-numbers-end : goal.slice_bounds-numbers-end
-slice_bounds-numbers-end c = simp length-set (omega (arith, numbers-length _ c.numbers_of-numbers.ensures))
-
-pub slice_bounds-put_numbers-end : goal.slice_bounds-put_numbers-end
-slice_bounds-put_numbers-end c = simp (length-take, length-set) (omega (arith, numbers-length _ c.numbers_of-numbers.ensures))
-
-pub put_numbers-at-requires : goal.put_numbers-at-requires
-put_numbers-at-requires c = (simp length-take (omega arith), omega (arith, c.requires))
 
 pub put_bytes-requires : goal.put_bytes-requires
 put_bytes-requires c =

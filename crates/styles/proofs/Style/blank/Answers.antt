@@ -1,7 +1,8 @@
--- `blank` meets its contract: each of fourteen zeros is zero.
+-- `blank` meets its contract: each word is zero.
+use borrow.Author.Rules.{rules}
 use Rattle.styles.specs.Styles.{style_at, no_style}
 use Rattle.styles.proofs.Style.blank.Goals as goal
 
 pub returns : goal.returns
 unfolding style_at no_style
-returns c = c.at.ensures
+returns c = search rules

@@ -8,6 +8,8 @@ use Rattle.tokens.specs.Tokens.{shown_layout}
 use Rattle.tokens.proofs.Records.{wrote-token}
 use Rattle.controls.proofs.Words.{numbered-bad, numbered_is}
 use Rattle.tokenize.proofs.Rules.{named-bare, named-numbered}
+use Rattle.std.proofs.lemmas.Result.{err_from_is_err_and}
+use Rattle.answers.proofs.Results.{ok_or-none, ok_or-some}
 use Rattle.tokenize.proofs.quick.numbered.Goals as goal
 
 pub returns-then-e-w : goal.returns-then-e-w
@@ -16,11 +18,14 @@ returns-then-e-w c = wrote-token (named-bare _ _ _ c.requires.ends.0 c.if-e-w.tr
 pub slice_bounds-word_record-end : goal.slice_bounds-word_record-end
 slice_bounds-word_record-end c = simp length-take (omega arith)
 
-pub word_record-requires-in-Is : goal.word_record-requires-in-Is
-word_record-requires-in-Is c = (simp length-take (omega arith), search rules)
+pub word_record-requires-2 : goal.word_record-requires-2
+word_record-requires-2 c = (simp length-take (omega arith), search rules)
 
-pub returns-in-Bad : goal.returns-in-Bad
-returns-in-Bad c = wrote-stop shown_layout (named-numbered _ _ _ c.requires.ends.0 c.if-e-w.false ∙ numbered-bad _ _ _ _ c.decimal_of-number.ensures c.in-Bad.is) refl
+pub returns-in_err-v : goal.returns-in_err-v
+returns-in_err-v c =
+    let p = err_from_is_err_and c.from_residual.result c.from_residual.ensures.1 in
+    let o = ok_or-none _ _ c.ok_or.ensures.value c.in_err-v.was in
+    rw (p.1, p.2) (wrote-stop shown_layout (named-numbered _ _ _ c.requires.ends.0 c.if-e-w.false ∙ numbered-bad _ _ _ _ c.decimal_of.ensures o.0) o.1)
 
-pub returns-in-Is : goal.returns-in-Is
-returns-in-Is c = wrote-token (named-numbered _ _ _ c.requires.ends.0 c.if-e-w.false ∙ numbered_is _ _ _ _ c.decimal_of-number.ensures _ c.in-Is.is) c.word_record-in-Is.ensures c.put-in-Is.ensures
+pub returns : goal.returns
+returns c = wrote-token (named-numbered _ _ _ c.requires.ends.0 c.if-e-w.false ∙ numbered_is _ _ _ _ c.decimal_of.ensures _ (ok_or-some _ _ c.ok_or.ensures.value c.in_ok-v.was)) c.word_record-2.ensures c.put-2.ensures

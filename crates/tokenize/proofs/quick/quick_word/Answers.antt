@@ -6,35 +6,36 @@ use Rattle.rooms.proofs.Rooms.{wrote_then, wrote-stops}
 use Rattle.tokens.specs.Tokens.{shown_layout}
 use Rattle.tokenize.proofs.Sizes.{named-next}
 use Rattle.tokenize.proofs.Shapes.{word-body, word-shape}
-use Rattle.rooms.proofs.Streams.{name-apart}
+use Rattle.std.proofs.lemmas.Result.{err_from_is_err_and}
 use Rattle.tokenize.proofs.quick.quick_word.Goals as goal
 
-pub returns-in-Refused : goal.returns-in-Refused
-returns-in-Refused c = rw (sym c.in-Refused.is) c.word-other.ensures
+pub returns-in-Err : goal.returns-in-Err
+returns-in-Err c = rw (sym c.in-Err.is) c.word-other.ensures
 
-pub returns-in-Done : goal.returns-in-Done
-returns-in-Done c = rw (sym c.in-Done.is) c.word-other.ensures
+pub returns-in-Ok : goal.returns-in-Ok
+returns-in-Ok c = rw (sym c.in-Ok.is) c.word-other.ensures
 
 pub slice_bounds-numbered-end : goal.slice_bounds-numbered-end
 slice_bounds-numbered-end c = let h = simp (length-take, length-drop) at c.lead_of.ensures.within in simp length-take (omega (arith, h, c.letters_of-e.ensures))
 
-pub numbered-first-requires : goal.numbered-first-requires
-numbered-first-requires c =
+pub numbered-requires : goal.numbered-requires
+numbered-requires c =
     let h = simp (length-take, length-drop) at c.lead_of.ensures.within in
     record { bounds = (simp length-take (omega (arith, h, c.letters_of-e.ensures, c.requires)), c.requires.1, c.requires.2); ends = (word-body _ _ _ c.letters_of-e.ensures.0 c.lead_of.ensures.count _ c.ends_at.ensures c.if-not-ends_at.false-raw, simp length-take (omega (arith, h, c.letters_of-e.ensures))) }
 
 pub behind-requires : goal.behind-requires
 behind-requires c =
     let h = simp (length-take, length-drop) at c.lead_of.ensures.within in
-    let b = named-next _ _ c.numbered-first.ensures c.in-Done-first.is in
+    let b = named-next _ _ c.numbered.ensures c.in_ok-m.was in
     (c.requires.0, omega (arith, b, c.requires), omega (arith, h, c.letters_of-e.ensures))
 
-pub returns-in-Refused-first : goal.returns-in-Refused-first
-returns-in-Refused-first c =
+pub returns-in_err-m : goal.returns-in_err-m
+returns-in_err-m c =
     let h = simp (length-take, length-drop) at c.lead_of.ensures.within in
-    wrote-stops shown_layout name-apart _ (word-shape _ _ _ c.letters_of-e.ensures.0 c.lead_of.ensures.count _ c.ends_at.ensures c.if-not-ends_at.false-raw _ (omega (arith, h, c.letters_of-e.ensures))) c.numbered-first.ensures c.in-Refused-first.is
+    let p = err_from_is_err_and c.from_residual.result c.from_residual.ensures.1 in
+    rw (p.1, p.2) (wrote-stops shown_layout _ (word-shape _ _ _ c.letters_of-e.ensures.0 c.lead_of.ensures.count _ c.ends_at.ensures c.if-not-ends_at.false-raw _ (omega (arith, h, c.letters_of-e.ensures))) c.numbered.ensures c.in_err-m.was)
 
-pub returns-in-Done-first : goal.returns-in-Done-first
-returns-in-Done-first c =
+pub returns : goal.returns
+returns c =
     let h = simp (length-take, length-drop) at c.lead_of.ensures.within in
-    wrote_then shown_layout name-apart _ (word-shape _ _ _ c.letters_of-e.ensures.0 c.lead_of.ensures.count _ c.ends_at.ensures c.if-not-ends_at.false-raw _ (omega (arith, h, c.letters_of-e.ensures))) c.numbered-first.ensures c.in-Done-first.is c.behind.ensures
+    wrote_then shown_layout _ (word-shape _ _ _ c.letters_of-e.ensures.0 c.lead_of.ensures.count _ c.ends_at.ensures c.if-not-ends_at.false-raw _ (omega (arith, h, c.letters_of-e.ensures))) c.numbered.ensures c.in_ok-m.was c.behind.ensures

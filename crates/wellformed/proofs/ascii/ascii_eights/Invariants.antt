@@ -4,8 +4,8 @@ use lib.ListN.{length}
 use Rattle.wellformed.specs.Ascii.{Passed}
 use Rattle.wellformed.proofs.ascii.ascii_eights.Given as goal
 
-abbrev pub invariant-loop-at : goal.invariant-loop-at
-invariant-loop-at l = Passed l.s l.from l.at
+abbrev pub invariant-loop-eight : goal.invariant-loop-eight
+invariant-loop-eight l = Passed l.s l.from l.at
 
-abbrev pub decreases-loop-at : goal.decreases-loop-at
-decreases-loop-at l = length l.s - l.at
+abbrev pub decreases-loop-eight : goal.decreases-loop-eight
+decreases-loop-eight l = length l.s - l.at
