@@ -10,7 +10,6 @@ ghost use Rattle.tokens.specs.Tokens.{value_of, token_words};
 ghost use Rattle.tokens.specs.Items.{property_of, number_at, word_item, item_at, slice_at, part as part_of};
 
 use crate::{SLICE, words};
-use rooms::wide;
 
 #[derive(Clone, Copy)]
 pub enum Item {
@@ -95,12 +94,12 @@ pub fn item_at(t: &[u32]) -> Item
 pub fn part(source: &[u8], place: u32, count: u32) -> &[u8]
     ensures { result.now ≡ part_of source.now place count }
 {
-    let from = wide(place);
+    let from = place as usize;
     if source.len() < from {
         return &source[..0];
     }
     let t = &source[from..];
-    let n = wide(count);
+    let n = count as usize;
     if t.len() < n {
         return t;
     }
