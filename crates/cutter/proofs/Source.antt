@@ -20,6 +20,7 @@ use Rattle.rooms.specs.Rooms.{capacity, put, put_all, Wrote, encode, settled, co
 use Rattle.rooms.proofs.Streams.{answer-count}
 use Rattle.rooms.proofs.Rooms.{wrote_one, length-encode, put_all-front, settled-fits, settled-over}
 use Rattle.slices.specs.Slices.{slices_by}
+use Rattle.tokens.specs.declared.Kind.TheVariants as kinds
 use Rattle.tokens.specs.declared.Record.{Record}
 use Rattle.tokens.specs.Tokens.{Shown, Token, token, token_words, record_words, bare_record, shown_layout, token_layout, sealed_all}
 use Rattle.tokens.proofs.Records.{token-sized, closing-record, wrote-token}
@@ -49,7 +50,7 @@ module _ (p : ℕ) where
   last-close (b ∷ c ∷ s) h e = absurd (omega arith)
 
 -- the bracket's record, and then its slice
-pub last-wrote : {x : Stream Refusal Token} {p n : ℕ} {room room' room'' : List ℕ} {r : Record} → x ≡ token p 1 Shown.closing ▸ end → r ≡ bare_record 2
+pub last-wrote : {x : Stream Refusal Token} {p n : ℕ} {room room' room'' : List ℕ} {r : Record} → x ≡ token p 1 Shown.closing ▸ end → r ≡ bare_record kinds.Closing
     → room' ≡ put token_words room n (record_words r) → room'' ≡ sealed_all p 1 room' n (n + 1 - n) → Wrote token_layout n room x (Ok (n + 1)) room''
 unfolding each put_all
 last-wrote {p = p} {n = n} {room = room} e q h k =

@@ -25,7 +25,7 @@ use readings::Reading;
 use rooms::clear_from;
 use slices::slice_end_by;
 use tokenize::quick::slice_tokens;
-use tokens::{Record, TOKEN_WORDS, put, seal};
+use tokens::{Kind, Record, TOKEN_WORDS, put, seal};
 
 // The last slice: a closing bracket alone.
 fn last(s: &[u8], place: usize, room: &mut [u32], n: usize) -> Result<usize, Refusal>
@@ -39,7 +39,7 @@ fn last(s: &[u8], place: usize, room: &mut [u32], n: usize) -> Result<usize, Ref
     if s[0] != b'}' {
         return Err(Refusal::at(Why::LastSlice, p));
     }
-    put(room, n, Record::bare(2));
+    put(room, n, Record::bare(Kind::Closing));
     seal(room, n, n + 1, p, 1);
     Ok(n + 1)
 }

@@ -16,6 +16,7 @@ use Rattle.classes.specs.Bytes.{is_alpha, in_class, lead}
 use Rattle.classes.proofs.Runs.{or_left, or_right}
 use Rattle.numbers.specs.Numbers.{hex_pair, decimal}
 use Rattle.rooms.specs.Streams.{Stream, end, stop, ◌▸◌, and_then}
+use Rattle.tokens.specs.declared.Kind.TheVariants as kinds
 use Rattle.tokens.specs.declared.Record.{Record}
 use Rattle.tokens.specs.Tokens.{Shown, bare_record, symbol_record, record_of}
 use Rattle.tokens.proofs.Records.{symbol-record, ignorable-record, opening-record, closing-record}
@@ -136,7 +137,7 @@ module _ (p b : ℕ) (s : List ℕ) where
 
 -- the record of a symbol or a bracket, by its byte
 module _ {r : Record} (b : ℕ) where
-  pub symbol-mark : b ≡ 42 → r ≡ bare_record 4 → r ≡ record_of (symbol_of b)
+  pub symbol-mark : b ≡ 42 → r ≡ bare_record kinds.Ignorable → r ≡ record_of (symbol_of b)
   unfolding symbol_of
   symbol-mark e h = rw (eq-eqb b 42 e) (ignorable-record h)
 
@@ -144,11 +145,11 @@ module _ {r : Record} (b : ℕ) where
   unfolding symbol_of
   symbol-other f h = rw (ne_eqb b 42 f) (symbol-record b None h)
 
-  pub bracket-opening : b ≡ 123 → r ≡ bare_record 1 → r ≡ record_of (bracket_of b)
+  pub bracket-opening : b ≡ 123 → r ≡ bare_record kinds.Opening → r ≡ record_of (bracket_of b)
   unfolding bracket_of
   bracket-opening e h = rw (eq-eqb b 123 e) (opening-record h)
 
-  pub bracket-closing : (b ≡ 123 → ⊥) → r ≡ bare_record 2 → r ≡ record_of (bracket_of b)
+  pub bracket-closing : (b ≡ 123 → ⊥) → r ≡ bare_record kinds.Closing → r ≡ record_of (bracket_of b)
   unfolding bracket_of
   bracket-closing f h = rw (ne_eqb b 123 f) (closing-record h)
 

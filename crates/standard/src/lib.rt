@@ -24,7 +24,7 @@ use classes::{Class, is_alpha, lead_of};
 use controls::{numbered_word, word_record};
 use names::Table;
 use numbers::hex_pair;
-use tokens::{Record, put};
+use tokens::{Kind, Record, put};
 
 // `{`, `}` or `\`, which a backslash makes plain text.
 fn is_escape(b: u8) -> bool
@@ -38,7 +38,7 @@ fn symbol(b: u8) -> Record
     ensures { result ≡ record_of (symbol_of b) }
 {
     if b == b'*' {
-        return Record::bare(4);
+        return Record::bare(Kind::Ignorable);
     }
     Record::symbol(b as u32, None)
 }
@@ -48,9 +48,9 @@ fn bracket(b: u8) -> Record
     ensures { result ≡ record_of (bracket_of b) }
 {
     if b == b'{' {
-        return Record::bare(1);
+        return Record::bare(Kind::Opening);
     }
-    Record::bare(2)
+    Record::bare(Kind::Closing)
 }
 
 // 1 if b stands in front, else 0.
@@ -154,7 +154,7 @@ fn line_break(b: u8, s: &[u8], place: usize, room: &mut [u32], n: usize) -> Resu
     requires { (place + (2 + length s.now) ≤ 65536) × (n ≤ place) }
     ensures { Wrote shown_layout n room.old (line_break_and place (break_length b s.now) s.now) result room.new }
 {
-    put(room, n, Record::bare(3));
+    put(room, n, Record::bare(Kind::LineBreak));
     if b == b'\r' {
         let k = leads(s, b'\n');
         return tail(&s[k..], place + 2 + k, room, n + 1);

@@ -25,7 +25,7 @@ use controls::{numbered_word, word_record};
 use names::Table;
 use numbers::hex_pair;
 use readings::Reading;
-use tokens::{Record, put, words};
+use tokens::{Kind, Record, put, words};
 
 // `{`, `}` or a line feed.
 fn is_mark(b: u8) -> bool
@@ -140,7 +140,7 @@ fn line_break(s: &[u8], place: usize, room: &mut [u32], n: usize) -> Result<usiz
     requires { (place + (2 + length s.now) ≤ 65536) × (n ≤ place) }
     ensures { Wrote shown_layout n room.old (line_break_and place s.now) result room.new }
 {
-    put(room, n, Record::bare(3));
+    put(room, n, Record::bare(Kind::LineBreak));
     plain(s, place + 2, room, n + 1)
 }
 
@@ -182,7 +182,7 @@ fn returned(s: &[u8], place: usize, room: &mut [u32], n: usize) -> Result<usize,
     if s[0] != b'\r' {
         return other(s, place, room, n);
     }
-    put(room, n, Record::bare(3));
+    put(room, n, Record::bare(Kind::LineBreak));
     behind_feed(&s[1..], place + 2, room, n + 1)
 }
 
@@ -234,7 +234,7 @@ fn escaped(
         return line_break(&s[1..], place, room, n);
     }
     if b == b'*' {
-        put(room, n, Record::bare(4));
+        put(room, n, Record::bare(Kind::Ignorable));
         return Ok(n + 1);
     }
     other_by(reading, s, place, room, n)
@@ -246,11 +246,11 @@ fn mark(b: u8, room: &mut [u32], n: usize) -> usize
     ensures { Wrote shown_layout n room.old (mark_of b) (Ok result) room.new }
 {
     if b == b'{' {
-        put(room, n, Record::bare(1));
+        put(room, n, Record::bare(Kind::Opening));
         return n + 1;
     }
     if b == b'}' {
-        put(room, n, Record::bare(2));
+        put(room, n, Record::bare(Kind::Closing));
         return n + 1;
     }
     n
