@@ -15,7 +15,7 @@ pub slice_bounds-numbered_word-end : goal.slice_bounds-numbered_word-end
 slice_bounds-numbered_word-end c = simp length-take (omega arith)
 
 pub numbered_word-requires : goal.numbered_word-requires
-numbered_word-requires c = (simp length-take (omega arith), search rules, search rules)
+numbered_word-requires c = (simp length-take (omega arith), search rules)
 
 pub returns : goal.returns
 returns c = wrote_as shown_layout (named-numbered _ _ _ c.body_of-k.ensures.count c.if-k-w.false) c.numbered_word.ensures

@@ -18,7 +18,7 @@ slice_bounds-named-end c = simp length-take (omega (arith, simp length-take at c
 
 pub named-requires : goal.named-requires
 named-requires c =
-    (simp length-take (omega (arith, simp length-take at c.bare_length-e.ensures.within)), search rules, search rules)
+    (simp length-take (omega (arith, simp length-take at c.bare_length-e.ensures.within)), search rules)
 
 pub returns-then-k-s : goal.returns-then-k-s
 returns-then-k-s c = wrote_then shown_layout _ (word-short _ _ _ _ c.lead_of-k.ensures.count c.bare_length-e.ensures.value c.if-k-s.true) c.named.ensures c.in_ok-m.was (wrote_none shown_layout refl)

@@ -19,7 +19,7 @@ pub slice_bounds-word_record-end : goal.slice_bounds-word_record-end
 slice_bounds-word_record-end c = simp length-take (omega arith)
 
 pub word_record-requires-2 : goal.word_record-requires-2
-word_record-requires-2 c = (simp length-take (omega arith), search rules)
+word_record-requires-2 c = simp length-take (omega arith)
 
 pub returns-in_err-v : goal.returns-in_err-v
 returns-in_err-v c =

@@ -21,7 +21,7 @@ slice_bounds-numbered-end c = let h = simp (length-take, length-drop) at c.lead_
 pub numbered-requires : goal.numbered-requires
 numbered-requires c =
     let h = simp (length-take, length-drop) at c.lead_of.ensures.within in
-    record { bounds = (simp length-take (omega (arith, h, c.letters_of-e.ensures, c.requires)), c.requires.1, c.requires.2); ends = (word-body _ _ _ c.letters_of-e.ensures.0 c.lead_of.ensures.count _ c.ends_at.ensures c.if-not-ends_at.false-raw, simp length-take (omega (arith, h, c.letters_of-e.ensures))) }
+    record { bounds = (simp length-take (omega (arith, h, c.letters_of-e.ensures, c.requires)), c.requires.1); ends = (word-body _ _ _ c.letters_of-e.ensures.0 c.lead_of.ensures.count _ c.ends_at.ensures c.if-not-ends_at.false-raw, simp length-take (omega (arith, h, c.letters_of-e.ensures))) }
 
 pub behind-requires : goal.behind-requires
 behind-requires c =
