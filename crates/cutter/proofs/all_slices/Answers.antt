@@ -15,13 +15,13 @@ pub returns-then-s-eq0 : goal.returns-then-s-eq0
 returns-then-s-eq0 c = wrote_none token_layout (all_none _ _ _ c.if-s-eq0.true)
 
 pub loop-t-init : goal.loop-t-init
-loop-t-init c = loop-start _ _ _ _ c.if-s-eq0.false c.requires.0
+loop-t-init c = loop-start _ _ _ _ c.if-s-eq0.false c.requires
 
 pub slice_bounds-cut_slice-end : goal.slice_bounds-cut_slice-end
 slice_bounds-cut_slice-end c = simp length-take (omega arith)
 
 pub cut_slice-requires : goal.cut_slice-requires
-cut_slice-requires c = (simp length-take (omega (arith, c.loop-t.invariant.fits, c.if-t-e.false)), c.loop-t.invariant.below, c.requires.1)
+cut_slice-requires c = (simp length-take (omega (arith, c.loop-t.invariant.fits, c.if-t-e.false)), c.loop-t.invariant.below)
 
 pub overflow_cast-at : goal.overflow_cast-at
 overflow_cast-at c = omega (arith, c.loop-t.invariant.fits)
@@ -54,7 +54,7 @@ loop-t-preserved c = loop-next _ c.loop-t.invariant (c.slice_end_by-e.ensures.le
 pub last_by-requires : goal.last_by-requires
 last_by-requires c =
     let l = c.loop-t.invariant in
-    (l.fits, omega (arith, l.fits, l.some, l.below), l.below, c.requires.1)
+    (l.fits, omega (arith, l.fits, l.some, l.below), l.below)
 
 pub returns : goal.returns
 returns c = loop-last _ c.loop-t.invariant (c.slice_end_by-e.ensures.length, (c.slice_end_by-e.ensures.within, c.slice_end_by-e.ensures.some)) c.if-t-e.true c.last_by.ensures

@@ -14,7 +14,7 @@ pub slice_bounds-named-end : goal.slice_bounds-named-end
 slice_bounds-named-end c = simp length-take (omega arith)
 
 pub named-requires : goal.named-requires
-named-requires c = (simp length-take (omega arith), search rules, search rules)
+named-requires c = (simp length-take (omega arith), search rules)
 
 pub tail-requires : goal.tail-requires
 tail-requires c =
