@@ -16,21 +16,14 @@ ghost use Rattle.classes.specs.declared.Class.TheVariants.{Alpha};
 ghost use Rattle.classes.specs.Bytes.{in_class, lead};
 ghost use Rattle.rooms.specs.Rooms.{Wrote};
 ghost use Rattle.tokens.specs.Tokens.{shown_layout, record_of};
-ghost use Rattle.standard.specs.Standard.{leads as leads_of, tail as tail_of, is_escape, number_length, named as named_of, word as word_of, hex_escape, break_length, line_break_and, symbol_of, bracket_of, escaped as escaped_of, tokens as tokens_of};
+ghost use Rattle.standard.specs.Standard.{leads as leads_of, tail as tail_of, number_length, named as named_of, word as word_of, hex_escape, break_length, line_break_and, symbol_of, bracket_of, escaped as escaped_of, tokens as tokens_of};
 
 use answers::Why;
 use classes::{Class, is_alpha, lead_of};
-use controls::{numbered_word, word_record};
+use controls::{is_escape, numbered_word, word_record};
 use names::Names;
 use numbers::hex_pair;
 use tokens::{Record, put};
-
-// `{`, `}` or `\`, which a backslash makes plain text.
-fn is_escape(b: u8) -> bool
-    ensures { result ≡ is_escape b }
-{
-    (b == b'{') | (b == b'}') | (b == b'\\')
-}
 
 // The record of a symbol's byte; `*` is the mark.
 fn symbol(b: u8) -> Record
@@ -65,19 +58,11 @@ fn leads(s: &[u8], b: u8) -> usize
     0
 }
 
-// How many letters stand in front. A loop of its own, since the class is then known in it.
+// How many letters stand in front. A chain of its own, since the class is then known in it.
 fn letters_of(s: &[u8]) -> usize
     ensures { (result ≡ lead (in_class Alpha) s.now) × (result ≤ length s.now) }
 {
-    let mut i = 0;
-    while i < s.len() {
-        let b = s[i];
-        if !is_alpha(b) {
-            return i;
-        }
-        i += 1;
-    }
-    i
+    s.iter().take_while(|b| is_alpha(**b)).count()
 }
 
 // How many bytes the number in front has: a minus sign counts if a digit stands behind it.

@@ -16,11 +16,11 @@ pub mod quick;
 ghost use Rattle.std.specs.Prelude.{◌≡◌, ◌+◌, ◌≤◌, ◌<◌, length};
 ghost use Rattle.rooms.specs.Rooms.{Wrote};
 ghost use Rattle.tokens.specs.Tokens.{shown_layout, text_record};
-ghost use Rattle.tokenize.specs.Tokenize.{is_mark, is_escape, plain as plain_of, word_tail, bare_length, named as named_of, word as word_of, hex_escape, line_break_and, other as other_of, behind_feed, returned as returned_of, other_by, escaped as escaped_of, mark as mark_of, tokens as tokens_of};
+ghost use Rattle.tokenize.specs.Tokenize.{is_mark, plain as plain_of, word_tail, bare_length, named as named_of, word as word_of, hex_escape, line_break_and, other as other_of, behind_feed, returned as returned_of, other_by, escaped as escaped_of, mark as mark_of, tokens as tokens_of};
 
 use answers::Why;
 use classes::{Class, body_of, is_letter, lead_of};
-use controls::{numbered_word, word_record};
+use controls::{is_escape, numbered_word, word_record};
 use names::Names;
 use numbers::hex_pair;
 use readings::Reading;
@@ -31,13 +31,6 @@ fn is_mark(b: u8) -> bool
     ensures { result ≡ is_mark b }
 {
     (b == b'{') | (b == b'}') | (b == b'\n')
-}
-
-// `{`, `}` or `\`, which a backslash makes plain text.
-fn is_escape(b: u8) -> bool
-    ensures { result ≡ is_escape b }
-{
-    (b == b'{') | (b == b'}') | (b == b'\\')
 }
 
 fn text(place: usize, length: usize) -> Record

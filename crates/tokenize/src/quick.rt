@@ -28,14 +28,7 @@ use tokens::put;
 fn letters_of(s: &[u8]) -> usize
     ensures { (result ≡ lead is_letter s.now) × (result ≤ length s.now) }
 {
-    let mut i = 0;
-    while i < s.len() {
-        if !is_letter(s[i]) {
-            return i;
-        }
-        i += 1;
-    }
-    i
+    s.iter().take_while(|b| is_letter(**b)).count()
 }
 
 // Whether a word ends at k.
