@@ -49,13 +49,7 @@ fn bracket(b: u8) -> Record
 fn leads(s: &[u8], b: u8) -> usize
     ensures { (result ≡ leads_of b s.now) × (result ≤ length s.now) }
 {
-    if s.len() == 0 {
-        return 0;
-    }
-    if s[0] == b {
-        return 1;
-    }
-    0
+    usize::from(s.first() == Some(&b))
 }
 
 // How many letters stand in front. A chain of its own, since the class is then known in it.
