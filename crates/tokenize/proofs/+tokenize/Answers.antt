@@ -1,6 +1,6 @@
 -- `tokenize` meets its contract: each branch is the rule of the first byte.
 use native.Mathlib.Omega.{arith}
-use mathlib.Core.Path.{refl, sym}
+use mathlib.Core.Path.{refl}
 use lib.ListN.{length-take, length-drop}
 use Rattle.rooms.proofs.Rooms.{wrote_none, wrote_then, wrote_as}
 use Rattle.tokens.specs.Tokens.{shown_layout}
