@@ -12,11 +12,5 @@ returns-then-source-gt65536 c = wrote-stop token_layout (stream-long _ _ c.if-so
 pub returns-then-has_high : goal.returns-then-has_high
 returns-then-has_high c = wrote-stop token_layout (stream-high _ _ c.if-source-gt65536.false _ c.has_high.ensures c.if-has_high.true) c.of-then-has_high.ensures
 
-pub slice_bounds-all_slices-end : goal.slice_bounds-all_slices-end
-slice_bounds-all_slices-end c = simp (length-take, length-drop) (omega (arith, simp (length-take, length-drop) at c.body_of-end.ensures.within))
-
-pub all_slices-requires : goal.all_slices-requires
-all_slices-requires c = simp (length-take, length-drop) (omega arith)
-
 pub returns : goal.returns
 returns c = wrote_as token_layout (stream-slices _ _ c.if-source-gt65536.false _ c.has_high.ensures c.if-has_high.false _ _ c.lead_of-start.ensures.count c.body_of-end.ensures.count) c.all_slices.ensures

@@ -10,12 +10,6 @@ use borrow.Author.Rules.{rules}
 use Rattle.std.proofs.lemmas.Result.{err_from_is_err_and}
 use Rattle.standard.proofs.word.Goals as goal
 
-pub slice_bounds-named-end : goal.slice_bounds-named-end
-slice_bounds-named-end c = simp length-take (omega arith)
-
-pub named-requires : goal.named-requires
-named-requires c = (simp length-take (omega arith), search rules)
-
 pub tail-requires : goal.tail-requires
 tail-requires c =
     let b = named-next _ _ _ c.named.ensures c.in_ok-next.was in
