@@ -13,7 +13,6 @@
 ghost use Rattle.std.specs.Prelude.{◌≡◌, ◌+◌, ◌≤◌, ◌<◌, length, replicate};
 ghost use Rattle.rooms.specs.Rooms.{Wrote};
 ghost use Rattle.slices.specs.Slices.{slices_by};
-ghost use Rattle.standard.specs.Closing.{is_bracket};
 ghost use Rattle.tokens.specs.Tokens.{shown_layout, token_layout};
 ghost use Rattle.cutter.specs.Cutting.{tokens_by, last as last_of, last_by, all_slices, token_stream, Cuts};
 
@@ -32,10 +31,7 @@ fn last(s: &[u8], place: usize, room: &mut [u32], n: usize) -> Result<usize, Ref
     ensures { Wrote token_layout n room.old (last_of place s.now) result room.new }
 {
     let p = place as u32;
-    if s.len() != 1 {
-        return Err(Refusal::at(Why::LastSlice, p));
-    }
-    if s[0] != b'}' {
+    if s != b"}".as_slice() {
         return Err(Refusal::at(Why::LastSlice, p));
     }
     put(room, n, Record::bare(2));
@@ -61,15 +57,6 @@ fn cut_slice(
     slice_tokens(reading, s, place, names, room, n)
 }
 
-fn is_bracket(s: &[u8]) -> bool
-    ensures { result ≡ is_bracket s.now }
-{
-    if s.len() != 1 {
-        return false;
-    }
-    s[0] == b'}'
-}
-
 // The last slice by the specification: it is cut as the others first.
 fn standard_last(
     s: &[u8],
@@ -83,11 +70,11 @@ fn standard_last(
 {
     let p = place as u32;
     let m = standard::slice_tokens(s, place, names, room, n).map_err(|why| Refusal::at(why, p))?;
-    if !is_bracket(s) {
-        return Err(Refusal::at(Why::LastSlice, p));
+    if s == b"}".as_slice() {
+        seal(room, n, m, p, s.len() as u32);
+        return Ok(m);
     }
-    seal(room, n, m, p, s.len() as u32);
-    Ok(m)
+    Err(Refusal::at(Why::LastSlice, p))
 }
 
 // The last slice by the reading.

@@ -4,8 +4,6 @@ use borrow.Author.Rules.{rules}
 use Rattle.std.proofs.lemmas.Result.{err_from_is_err_and}
 use Rattle.answers.specs.Answers.{refusal_at}
 use Rattle.answers.proofs.Results.{mapped-ok, mapped-err}
-use native.Mathlib.Omega.{arith}
-use lib.ListN.{length-take}
 use Rattle.rooms.proofs.Rooms.{wrote_none}
 use Rattle.tokens.specs.Tokens.{token_layout}
 use Rattle.cutter.proofs.Loop.{all_none, loop-start, loop-falls, loop-stop, next-above, loop-next, loop-last}

@@ -1,6 +1,4 @@
 -- `whole` meets its contract: too long, a byte above 127, or the slices of the trimmed source.
-use native.Mathlib.Omega.{arith}
-use lib.ListN.{length-take, length-drop}
 use Rattle.rooms.proofs.Rooms.{wrote-stop, wrote_as}
 use Rattle.tokens.specs.Tokens.{token_layout}
 use Rattle.cutter.proofs.Source.{stream-long, stream-high, stream-slices}
