@@ -1,6 +1,6 @@
 -- 02, A1: the tokens of one slice in standard reading, rule by rule. A slice stands at place p of the source. Where a rule speaks of what
 -- follows a backslash, p is the backslash's place. Assumes nothing: these are definitions.
-use Rattle.std.specs.Prelude.{ℕ, zero, suc, ◌+◌, List, [], ◌∷◌, Bool, cond, ◌||◌, take, drop, eqb}
+use Rattle.std.specs.Prelude.{ℕ, zero, suc, ◌+◌, List, [], ◌∷◌, cond, ◌||◌, take, drop, eqb}
 use Rattle.answers.specs.declared.Why.{Why}
 use Rattle.answers.specs.declared.Why.TheVariants.{HexShort, HexBad}
 use Rattle.classes.specs.declared.Class.TheVariants.{Alpha, Digit}

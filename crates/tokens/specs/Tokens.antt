@@ -1,5 +1,5 @@
 -- 01, Cutting, and 02, A1 and A4: what a token is, and its eight words. Assumes nothing: these are definitions.
-use Rattle.std.specs.Prelude.{ℕ, zero, suc, ◌+◌, ◌*◌, List, [], ◌∷◌, ◌++◌, cond, length, ltb, Option, Some, None, is_some, unwrap_or}
+use Rattle.std.specs.Prelude.{ℕ, zero, suc, ◌+◌, ◌*◌, List, [], ◌∷◌, ◌++◌, cond, length, ltb, Option, None, is_some, unwrap_or}
 use Rattle.std.proofs.lemmas.List.Edits.{sets}
 use Rattle.rooms.specs.Rooms.{Layout, capacity}
 use Rattle.tokens.specs.declared.Record.{Record}

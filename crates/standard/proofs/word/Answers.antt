@@ -6,7 +6,6 @@ use Rattle.rooms.proofs.Rooms.{wrote_then, wrote-stops}
 use Rattle.tokens.specs.Tokens.{shown_layout}
 use Rattle.standard.proofs.Rules.{word-parts}
 use Rattle.standard.proofs.Sizes.{named-next}
-use borrow.Author.Rules.{rules}
 use Rattle.std.proofs.lemmas.Result.{err_from_is_err_and}
 use Rattle.standard.proofs.word.Goals as goal
 
