@@ -145,13 +145,12 @@ fn seal_one(room: &mut [u32], n: usize, place: u32, length: u32)
 }
 
 // The same behind the records from n up to m.
+#[tactic(auto, using(crate::proofs::Sealing::sealed_more, crate::proofs::Sealing::sealed_none))]
 pub fn seal(room: &mut [u32], n: usize, m: usize, place: u32, length: u32)
     requires { n ≤ m }
     ensures { room.new ≡ sealed_all place length room.old n (m - n) }
 {
-    let mut i = n;
-    while i < m {
+    for i in n..m {
         seal_one(room, i, place, length);
-        i += 1;
     }
 }

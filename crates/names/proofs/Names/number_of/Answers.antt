@@ -2,7 +2,7 @@
 -- the length of that chain.
 use borrow.Author.Rules.{rules}
 use Rattle.names.proofs.Chains.{ahead-empty, ahead_none, ahead-start, ahead-less, ahead_more, ahead-stop, ahead-end}
-use Rattle.names.proofs.number_of.Goals as goal
+use Rattle.names.proofs.Names.number_of.Goals as goal
 
 pub returns-in_default-clause-number : goal.returns-in_default-clause-number
 returns-in_default-clause-number c = search (ahead-empty, rules)

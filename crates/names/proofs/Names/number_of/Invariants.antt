@@ -3,7 +3,7 @@
 use lib.ListN.{length}
 use Rattle.names.proofs.Contents.{chain}
 use Rattle.names.proofs.Chains.{Ahead}
-use Rattle.names.proofs.number_of.Given as goal
+use Rattle.names.proofs.Names.number_of.Given as goal
 
 abbrev pub invariant-loop-row : goal.invariant-loop-row
 invariant-loop-row l = Ahead l.w l.row
