@@ -1,4 +1,4 @@
--- Laws: Chunks, of a token that comes as a chunk of words; Looks, of the loops; and for the crates above, Walk, of what the walk passes over.
+-- Laws: Chunks, of the token that comes as a chunk of words; Looks, of the loops; and for the crates above, Walk, of what the walk passes over.
 -- Cases: a late table, computed.
 pub mod Chunks
 pub mod Looks

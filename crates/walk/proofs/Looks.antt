@@ -15,7 +15,8 @@ use Rattle.tokens.specs.Tokens.{Shown, token_words}
 use Rattle.tokens.specs.declared.item.Item.{Item}
 use Rattle.tokens.specs.Items.{item_at, shown_of, shown_all, slice_at, tokens_all}
 use Rattle.tokens.proofs.Items.{shown-none, tokens_none}
-use Rattle.walk.proofs.Chunks.{Chunk, chunk-shown, chunk-tokens, chunk-words, left_none}
+use Rattle.rooms.proofs.Chunks.{Chunk, chunk-words, left_none}
+use Rattle.walk.proofs.Chunks.{chunk-shown, chunk-tokens}
 use Rattle.walk.specs.declared.Aim.{Aim}
 use Rattle.walk.specs.declared.Aim.TheVariants.{Nothing}
 use Rattle.walk.specs.Walk.{aim_at, is_break, aim_from, aim, level, extent, table_word}
@@ -52,9 +53,9 @@ module _ {s : List ℕ} {count : ℕ} {t : List ℕ} {n : ℕ} {late : Bool} (l 
   -- no token is left
   pub look_none : (0 < n → length t < token_words) → (src : List ℕ) → Nothing ≡ aim (shown_all src count s)
   unfolding aim_from
-  look_none f src = rw (shown-none src n t (left_none n t l.words f)) at (l.left src)
+  look_none f src = rw (shown-none src n t (left_none token_words n t l.words f)) at (l.left src)
 
-  module _ {here more : List ℕ} {m : ℕ} (k : Chunk t n here more m) {i : Item} (e : i ≡ item_at here)
+  module _ {here more : List ℕ} {m : ℕ} (k : Chunk token_words t n here more m) {i : Item} (e : i ≡ item_at here)
       {b : Bool} (q : (src : List ℕ) → b ≡ is_break (shown_of src i)) where
     first-token : (src : List ℕ) → aim_at late (shown_of src i) (aim_from true (shown_all src m more)) ≡ aim (shown_all src count s)
     unfolding aim_from
@@ -104,10 +105,10 @@ module _ {s : List ℕ} {count : ℕ} {t : List ℕ} {n d : ℕ} (l : Measuring 
   pub measure-none : (0 < n → length t < token_words) → ((src : List ℕ) → count ≡ extent 1 (shown_all src count s)) × (count ≤ count)
   unfolding extent
   measure-none f =
-      let z : n ≤ 0 = left_none n t l.words f in
+      let z : n ≤ 0 = left_none token_words n t l.words f in
       ((λ src. let e : count - n + 0 ≡ extent 1 (shown_all src count s) = rw (shown-none src n t z) at (l.left src) in omega arith), omega arith)
 
-  module _ {here more : List ℕ} {m : ℕ} (k : Chunk t n here more m) where
+  module _ {here more : List ℕ} {m : ℕ} (k : Chunk token_words t n here more m) where
     -- what `level` asks
     pub measure-ready : (0 < d) × (d ≤ count)
     measure-ready = (l.some, let e : m + 1 ≡ n = k.one in let a : d ≤ 1 + (count - n) = l.deep in let b : n ≤ count = l.few in omega arith)
@@ -150,9 +151,9 @@ seek-start s count h = record { words = h; left = λ src. refl }
 module _ {s : List ℕ} {count : ℕ} {t : List ℕ} {n : ℕ} (l : Seeking s count t n) where
   pub seek-none : (0 < n → length t < token_words) → (src : List ℕ) → 0 ≡ table_word (tokens_all src count s)
   unfolding table_word
-  seek-none f src = rw (tokens_none src n t (left_none n t l.words f)) at (l.left src)
+  seek-none f src = rw (tokens_none src n t (left_none token_words n t l.words f)) at (l.left src)
 
-  module _ {here more : List ℕ} {m : ℕ} (k : Chunk t n here more m) {i : Item} (e : i ≡ item_at here)
+  module _ {here more : List ℕ} {m : ℕ} (k : Chunk token_words t n here more m) {i : Item} (e : i ≡ item_at here)
       {b : Bool} (q : (src : List ℕ) → b ≡ is_break (shown_of src i)) where
     seek-one : (src : List ℕ) → cond b (table_word (tokens_all src m more)) (slice_at here) ≡ table_word (tokens_all src count s)
     unfolding table_word
