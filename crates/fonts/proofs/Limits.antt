@@ -1,7 +1,7 @@
 -- How many records a font room holds.
 --     limit-within       they lie in the room
 -- Assumes nothing.
-use Rattle.std.proofs.Common.{◌≡◌, ℕ, ◌*◌, ◌/◌, ◌<◌, ◌≤◌, Bool, true, false, cond, ltb, refl, arith, ltb-false, le-ltb, lt-ltb}
+use Rattle.std.proofs.Common.{◌≡◌, ℕ, ◌*◌, ◌/◌, ◌≤◌, Bool, true, false, cond, ltb, refl, arith, ltb-false}
 use Rattle.rooms.specs.Rooms.{table_limit, capacity}
 use Rattle.fonts.specs.Rows.{font_words}
 

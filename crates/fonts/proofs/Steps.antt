@@ -1,10 +1,10 @@
 -- The loop over a group's tokens, in the terms of the code.
---     name-fits, name-told, named-empty, named-full   the name of a text
+--     name-fits       the length of a text's name
 --     effect-token    a token's effect, and then the room, is the definition's step
 --     effect-row      the code's new current font is the definition's
 --     loop-start, -set, -store, -full, -unnumbered, -end   one law for each way through the loop
 -- Assumes nothing.
-use Rattle.std.proofs.Common.{◌≡◌, ℕ, zero, suc, ◌-◌, ◌*◌, ◌<◌, ◌≤◌, Bool, true, false, cond, ◌||◌, eqb, ltb, List, [], ◌∷◌, length, take, sym, refl, ap, ◌∙◌, arith, length-take, length-take-le, eq-eqb, ne_eqb}
+use Rattle.std.proofs.Common.{◌≡◌, ℕ, zero, suc, ◌*◌, ◌<◌, ◌≤◌, Bool, true, false, cond, ◌||◌, eqb, ltb, List, [], ◌∷◌, length, take, sym, refl, ap, ◌∙◌, arith, length-take, length-take-le}
 use Rattle.answers.specs.declared.Why.TheVariants.{FontNumber, FontRoom}
 use Rattle.answers.specs.declared.Why.{Why}
 use Rattle.answers.specs.declared.Refusal.{Refusal}
@@ -55,18 +55,6 @@ body-length f (b ∷ s) = go (f b) (body f s) (body-length f s)
 module _ (src : List ℕ) (p n : ℕ) {bytes : List ℕ} {m : ℕ} where
   pub name-fits : bytes ≡ part src p n → m ≤ length bytes → n < 4294967296 → m < 4294967296
   name-fits e h l = let k : length bytes ≤ n = rw e (part_length src p n) in omega arith
-
-  pub name-told : bytes ≡ part src p n → m ≡ body (in_class Semicolon) bytes → m ≡ body (in_class Semicolon) (part src p n)
-  name-told e h = h ∙ ap (body (in_class Semicolon)) e
-
-module _ (f : Row) (p : ℕ) (bs : List ℕ) {n : ℕ} (e : n ≡ body (in_class Semicolon) bs) where
-  pub named-empty : n ≡ 0 → record { key = f.key; place = 0; length = n } ≡ named_row f p bs
-  unfolding named_row
-  named-empty h = rw (← e, eq-eqb n 0 h)
-
-  pub named-full : (n ≡ 0 → ⊥) → record { key = f.key; place = p; length = n } ≡ named_row f p bs
-  unfolding named_row
-  named-full h = rw (← e, ne_eqb n 0 h)
 
 -- the definition's next current font
 abbrev numbered_font : Option ℕ → Font → Font

@@ -72,7 +72,10 @@ fn numbered(number: Option<u32>, f: Font) -> Effect
 {
     match number {
         None => Effect::Unnumbered,
-        Some(v) => Effect::Store(Font { key: key_of(v), ..f }),
+        Some(v) => Effect::Store(Font {
+            key: key_of(v),
+            ..f
+        }),
     }
 }
 
