@@ -4,7 +4,7 @@ use mathlib.Core.List.{List, ◌∷◌}
 use Prim.Native.Nat.{ℕ, ◌+◌}
 use native.Mathlib.Omega.{arith}
 use Rattle.rooms.proofs.Chunks.{Chunk, chunk-word, chunk-behind, chunk-one}
-use Rattle.tokens.specs.Tokens.{Shown, Token, shown_words, token_words}
+use Rattle.tokens.specs.Tokens.{shown_words, token_words}
 use Rattle.tokens.specs.Items.{item_at, shown_of, shown_all, token_at, tokens_all}
 
 module _ {ws : List ℕ} {n : ℕ} {here more : List ℕ} {m : ℕ} (k : Chunk token_words ws n here more m) where

@@ -31,18 +31,12 @@ fn word_aim(w: u32, number: Option<u32>, late: bool) -> Aim
 {
     match number {
         Some(_) => Aim::Nothing,
-        None => {
-            if w == words::STYLE_SHEET {
-                return Aim::Hide;
-            }
-            if w == words::FONT_TABLE {
-                return Aim::Fonts(late);
-            }
-            if w == words::COLOUR_TABLE {
-                return Aim::Colours(late);
-            }
-            Aim::Nothing
-        }
+        None => match w {
+            words::STYLE_SHEET => Aim::Hide,
+            words::FONT_TABLE => Aim::Fonts(late),
+            words::COLOUR_TABLE => Aim::Colours(late),
+            _ => Aim::Nothing,
+        },
     }
 }
 
