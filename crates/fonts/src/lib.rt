@@ -10,10 +10,9 @@
 mod rows;
 
 ghost use Rattle.std.specs.Prelude.{◌≡◌, ◌*◌, ◌%◌, ◌≤◌, length};
-ghost use Rattle.answers.specs.Answers.{refusal_at};
 ghost use Rattle.classes.specs.declared.Class.TheVariants.{Semicolon};
 ghost use Rattle.classes.specs.Bytes.{in_class, body};
-ghost use Rattle.tokens.specs.Items.{part as part_of, slice_at, tokens_all};
+ghost use Rattle.tokens.specs.Items.{part as part_of, tokens_all};
 ghost use Rattle.rooms.specs.Rooms.{table_limit};
 ghost use Rattle.fonts.specs.Rows.{ReadFonts, font_words};
 ghost use Rattle.fonts.specs.Fonts.{fonts as fonts_of};
