@@ -1,7 +1,7 @@
 -- A group, by what its bracket begins.
 --     opens-kind                            the test of a token's kind
---     late-fonts, fonts-read, fonts-bad     a font table: refused by 10, read, refused by its own
---     late-colours, colours-read, -bad      a colour table, the same
+--     fonts-read, fonts-bad                 a font table: read, refused by its own
+--     colours-read, -bad                    a colour table, the same
 --     enter-nothing, -hide, -fonts, -colours   what the bracket begins, one law for each
 -- Assumes nothing.
 use mathlib.Core.Path.{◌≡◌, refl, sym, ap, ◌∙◌}
@@ -12,9 +12,8 @@ use native.Mathlib.Omega.{arith}
 use borrow.Author.Tests.{eqb-true, eqb-false, ne_eqb}
 use lib.Dec.{eqb}
 use lib.ListN.{length, get_or, take}
-use Rattle.answers.specs.declared.Why.TheVariants.{TableLineBreak}
 use Rattle.answers.specs.declared.Refusal.{Refusal}
-use Rattle.answers.specs.Answers.{refusal_at, Found, found, refused}
+use Rattle.answers.specs.Answers.{Found, found, refused}
 use Rattle.rooms.proofs.Streams.{ok_err}
 use Rattle.tokens.specs.Tokens.{Token, token_words, shown_by}
 use Rattle.tokens.specs.declared.item.Item.TheVariants.{Text, Closing, LineBreak, Ignorable, Word, Unknown, Symbol}
@@ -77,14 +76,6 @@ group-words : (src t : List ℕ) (n : ℕ) {h : ℕ} → h ≡ extent 1 (shown_a
 group-words src t n {h} e l = sym (tokens-take src h n t l) ∙ ap (λ (k : ℕ). take k (tokens_all src n t)) (group-length src t n e)
 
 module _ (src t : List ℕ) (n : ℕ) {late : Bool} (limit held : ℕ) (room : List ℕ) where
-  pub late-fonts : late ≡ true → {p : ℕ} {q : Refusal} → p ≡ table_word (tokens_all src n t) → q ≡ refusal_at TableLineBreak p
-      → FontsMet late (table_word (tokens_all src n t)) (fonts limit (group (tokens_all src n t))) held (extent 1 (shown_by (tokens_all src n t))) (Err q) room × (0 ≤ n)
-  late-fonts l d e = (rw (l, ← d) (ap Err e), omega arith)
-
-  pub late-colours : late ≡ true → {p : ℕ} {q : Refusal} → p ≡ table_word (tokens_all src n t) → q ≡ refusal_at TableLineBreak p
-      → ColoursMet late (table_word (tokens_all src n t)) (colours limit (group (tokens_all src n t))) held (extent 1 (shown_by (tokens_all src n t))) (Err q) room
-  late-colours l d e = rw (l, ← d) (ap Err e)
-
   module _ (l : late ≡ false) {h : ℕ} (a : h ≡ extent 1 (shown_all src n t)) (b : h ≤ n) (o : Result ℕ Refusal) where
     module _ (room₀ : List ℕ) (r : ReadFonts (fonts limit (tokens_all src h (take (h * token_words) t))) room₀ o room) where
       fonts-told : ReadFonts (fonts limit (group (tokens_all src n t))) room₀ o room

@@ -1,4 +1,6 @@
--- Laws: Looks, of the two loops; and for the crates above, Walk, of what the walk passes over. Cases: a late table, computed.
+-- Laws: Chunks, of the token that comes as a chunk of words; Looks, of the loops; and for the crates above, Walk, of what the walk passes over.
+-- Cases: a late table, computed.
+pub mod Chunks
 pub mod Looks
 pub mod Walk
 pub mod Cases
