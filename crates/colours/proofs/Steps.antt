@@ -24,7 +24,7 @@ use Rattle.tokens.specs.declared.item.Item.TheVariants.{Text, Opening, Closing, 
 use Rattle.tokens.specs.Items.{item_at, shown_of, slice_at, tokens_all}
 use Rattle.tokens.proofs.Items.{tokens_none}
 use Rattle.rooms.proofs.Chunks.{Chunk, chunk-words, left_none}
-use Rattle.colours.proofs.Chunks.{chunk-tokens}
+use Rattle.tokens.proofs.Chunks.{chunk-tokens}
 use Rattle.colours.specs.declared.Colour.{Colour}
 use Rattle.colours.specs.declared.Effect.{Effect}
 use Rattle.colours.specs.declared.Effect.TheVariants.{Set, Store, Unfit}

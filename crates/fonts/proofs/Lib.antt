@@ -1,8 +1,7 @@
 -- Laws that the crates above cite: RowTables, of tables of fonts; Inserts, of the store of a font; Tables, of the font table that tokens give.
--- For this crate alone: Chunks, the token that comes as a chunk of words; Searches, of a key's rank among the records; Shifts, of records that move on; Limits, how many records a room
+-- For this crate alone: Searches, of a key's rank among the records; Shifts, of records that move on; Limits, how many records a room
 -- holds; Steps, of a token's effect and the loop over tokens.
 pub mod RowTables
-mod Chunks
 mod Searches
 mod Shifts
 pub mod Inserts

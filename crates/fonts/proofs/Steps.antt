@@ -21,7 +21,7 @@ use Rattle.tokens.specs.declared.item.Item.TheVariants.{Text, Opening, Closing, 
 use Rattle.tokens.specs.Items.{part, item_at, shown_of, slice_at, tokens_all}
 use Rattle.tokens.proofs.Items.{tokens_none}
 use Rattle.rooms.proofs.Chunks.{Chunk, chunk-words, left_none}
-use Rattle.fonts.proofs.Chunks.{chunk-tokens}
+use Rattle.tokens.proofs.Chunks.{chunk-tokens}
 use Rattle.fonts.specs.declared.rows.Font.{Font as Row}
 use Rattle.fonts.specs.declared.Effect.{Effect}
 use Rattle.fonts.specs.declared.Effect.TheVariants.{Set, Store, Unnumbered}

@@ -1,6 +1,5 @@
--- Laws: Chunks, of the token that comes as a chunk of words; Looks, of the loops; and for the crates above, Walk, of what the walk passes over.
+-- Laws: Looks, of the loops; and for the crates above, Walk, of what the walk passes over.
 -- Cases: a late table, computed.
-pub mod Chunks
 pub mod Looks
 pub mod Walk
 pub mod Cases

@@ -16,7 +16,7 @@ use Rattle.tokens.specs.declared.item.Item.{Item}
 use Rattle.tokens.specs.Items.{item_at, shown_of, shown_all, slice_at, tokens_all}
 use Rattle.tokens.proofs.Items.{shown-none, tokens_none}
 use Rattle.rooms.proofs.Chunks.{Chunk, chunk-words, left_none}
-use Rattle.walk.proofs.Chunks.{chunk-shown, chunk-tokens}
+use Rattle.tokens.proofs.Chunks.{chunk-shown, chunk-tokens}
 use Rattle.walk.specs.declared.Aim.{Aim}
 use Rattle.walk.specs.declared.Aim.TheVariants.{Nothing}
 use Rattle.walk.specs.Walk.{aim_at, is_break, aim_from, aim, level, extent, table_word}
