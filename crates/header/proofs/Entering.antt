@@ -1,5 +1,5 @@
 -- A group, by what its bracket begins.
---     opens-kind                            the test of a token's kind
+--     opens-yes, -no                        whether a token is an opening bracket, by its kind
 --     fonts-read, fonts-bad                 a font table: read, refused by its own
 --     colours-read, -bad                    a colour table, the same
 --     enter-nothing, -hide, -fonts, -colours   what the bracket begins, one law for each
@@ -9,16 +9,17 @@ use mathlib.Core.List.{List}
 use mathlib.Core.Bool.{Bool, true, false, cond}
 use Prim.Native.Nat.{ℕ, ◌*◌, ◌≤◌}
 use native.Mathlib.Omega.{arith}
-use borrow.Author.Tests.{eqb-true, eqb-false, ne_eqb}
 use lib.Dec.{eqb}
 use lib.ListN.{length, get_or, take}
 use Rattle.answers.specs.declared.Refusal.{Refusal}
 use Rattle.answers.specs.Answers.{Found, found, refused}
 use Rattle.rooms.proofs.Streams.{ok_err}
 use Rattle.tokens.specs.Tokens.{Token, token_words, shown_by}
-use Rattle.tokens.specs.declared.item.Item.TheVariants.{Text, Closing, LineBreak, Ignorable, Word, Unknown, Symbol}
-use Rattle.tokens.specs.Items.{property_of, item_of, item_at, shown_all, tokens_all}
-use Rattle.tokens.proofs.Items.{item-opening, tokens-take, tokens-shown}
+use Rattle.tokens.specs.declared.item.Item.TheVariants.{Word, Unknown}
+use Rattle.tokens.specs.declared.Kind.{Kind}
+use Rattle.tokens.specs.declared.Kind.TheVariants as kinds
+use Rattle.tokens.specs.Items.{kind_at, number_at, item_at, shown_all, tokens_all}
+use Rattle.tokens.proofs.Items.{item_by, item-by-kind, tokens-take, tokens-shown}
 use Rattle.rooms.proofs.Clearing.{overlaid-front}
 use Rattle.fonts.specs.Rows.{Font, table_words, ReadFonts}
 use Rattle.fonts.specs.Fonts.{fonts}
@@ -33,33 +34,24 @@ use Rattle.header.specs.Entering.{opens, Holds, passed, FontsMet, ColoursMet, Me
 use Rattle.std.specs.Prelude.{Result, Ok, Err, Option}
 
 module _ (ws : List ℕ) where
-  opens-yes : get_or ws 0 0 ≡ 1 → true ≡ opens (item_at ws)
-  opens-yes e = ap opens (item-opening ws e)
+  pub opens-yes : kind_at ws ≡ kinds.Opening → true ≡ opens (item_at ws)
+  opens-yes e = ap opens (item-by-kind ws e)
 
-  opens-no : (get_or ws 0 0 ≡ 1 → ⊥) → false ≡ opens (item_at ws)
-  unfolding item_at item_of
-  opens-no h =
-      rw (ne_eqb _ 1 h)
-      (go (eqb (get_or ws 0 0) 2) (eqb (get_or ws 0 0) 3) (eqb (get_or ws 0 0) 4) (eqb (get_or ws 0 0) 5) (eqb (get_or ws 1 0) 49) (eqb (get_or ws 0 0) 6)
-      (property_of (get_or ws 2 0) (get_or ws 3 0)))
+  pub opens-no : (kind_at ws ≡ kinds.Opening → ⊥) → false ≡ opens (item_at ws)
+  opens-no h = go (kind_at ws) h ∙ ap opens (item-by-kind ws refl)
     where
-      go : (b c d e u f : Bool) (num : Option ℕ)
-          → false ≡ opens (cond b Closing (cond c LineBreak (cond d Ignorable
-          (cond e (cond u (Unknown (get_or ws 4 0) (get_or ws 5 0) num) (Word (get_or ws 1 0) num)) (cond f (Symbol (get_or ws 1 0) num) (Text (get_or ws 4 0) (get_or ws 5 0)))))))
-      go true c d e u f num = refl
-      go false true d e u f num = refl
-      go false false true e u f num = refl
-      go false false false true true f num = refl
-      go false false false true false f num = refl
-      go false false false false u true num = refl
-      go false false false false u false num = refl
+      word : (u : Bool) (p n : ℕ) (num : Option ℕ) → false ≡ opens (cond u (Unknown p n num) (Word (get_or ws 1 0) num))
+      word true p n num = refl
+      word false p n num = refl
 
-  pub opens-kind : eqb (get_or ws 0 0) 1 ≡ opens (item_at ws)
-  opens-kind = go (eqb (get_or ws 0 0) 1) refl
-    where
-      go : (t : Bool) → eqb (get_or ws 0 0) 1 ≡ t → t ≡ opens (item_at ws)
-      go true e = opens-yes (eqb-true (get_or ws 0 0) 1 e)
-      go false e = opens-no (eqb-false (get_or ws 0 0) 1 e)
+      go : (k : Kind) → (k ≡ kinds.Opening → ⊥) → false ≡ opens (item_by k ws)
+      go kinds.Text n = refl
+      go kinds.Opening n = absurd (n refl)
+      go kinds.Closing n = refl
+      go kinds.LineBreak n = refl
+      go kinds.Ignorable n = refl
+      go kinds.Word n = word (eqb (get_or ws 1 0) 49) (get_or ws 4 0) (get_or ws 5 0) (number_at ws)
+      go kinds.Symbol n = refl
 
 done-done : (n m : ℕ) → ◌≡◌ {A = Result ℕ Refusal} (Ok n) (Ok m) → n ≡ m
 done-done n m e = cc

@@ -1,6 +1,6 @@
 -- A record read back, and records one after the other.
 --     kind-number             a kind but a text's has the number that it is read from
---     item-by-kind, -opening  the item of a record, by its kind
+--     item-by-kind            the item of a record, by its kind
 --     part_none ..            the part of a source, by where it lies
 --     shown-none, -some       what a room's tokens show, from the first one on
 --     tokens_none, -some      the tokens themselves, from the first one on
@@ -70,9 +70,6 @@ item_by_cases ws false false false false false false = refl
 pub item-by-kind : (ws : List ℕ) {k : Kind} → kind_at ws ≡ k → item_by k ws ≡ item_at ws
 unfolding item_at item_of
 item-by-kind ws e = rw (← e) (item_by_cases ws _ _ _ _ _ _)
-
-pub item-opening : (ws : List ℕ) → get_or ws 0 0 ≡ 1 → Opening ≡ item_at ws
-item-opening ws e = item-by-kind ws {k = kinds.Opening} (rw e refl)
 
 -- all from a place on, as the code lends it
 abbrev pub rest : List ℕ → ℕ → List ℕ
