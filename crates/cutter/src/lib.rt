@@ -77,7 +77,7 @@ fn standard_last(
     Err(Refusal::at(Why::LastSlice, p))
 }
 
-// The last slice by the reading.
+// The last slice by the reading. A test of the reading, which is the host's number, is plainer here than a closure.
 fn last_by(
     reading: Reading,
     s: &[u8],
@@ -112,6 +112,7 @@ fn all_slices(
     let mut t = s;
     let mut p = place;
     let mut n = 0;
+    // A `loop`: where a slice ends tells where the next one starts.
     loop {
         let e = slice_end_by(reading, t);
         if t.len() <= e {

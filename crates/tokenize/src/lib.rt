@@ -178,7 +178,7 @@ fn returned(s: &[u8], place: usize, room: &mut [u32], n: usize) -> Result<usize,
     behind_feed(&s[1..], place + 2, room, n + 1)
 }
 
-// The last rule, by the reading.
+// The last rule, by the reading. A test of the reading, which is the host's number, is plainer here than a closure.
 fn other_by(
     reading: Reading,
     s: &[u8],
