@@ -5,7 +5,8 @@ ghost use Rattle.tokens.specs.Items.{item_at, shown_of, shown_all};
 ghost use Rattle.tokens.proofs.Items.{rest};
 ghost use Rattle.walk.specs.Walk.{passed_by, entered_length, aim as aim_of};
 
-use tokens::TOKEN_WORDS;
+use tokens::item::kind_at;
+use tokens::{Kind, TOKEN_WORDS};
 use walk::{Aim, aim_of, extent};
 
 // How many tokens behind an opening bracket belong to such a group. Most often a text, a bracket or no token stands there, and none
@@ -17,7 +18,7 @@ fn group_length(rest: &[u32], left: usize) -> usize
     if left == 0 {
         return 0;
     }
-    if rest[0] < 3 {
+    if rest[0] < Kind::LineBreak.number() {
         return 0;
     }
     let a = aim_of(rest, left);
@@ -34,8 +35,8 @@ pub fn passed(t: &[u32], n: usize) -> usize
     requires { (0 < n) × (n * token_words ≤ length t.now) }
     ensures { ((src : List ℕ) → result ≡ passed_by (shown_of src (item_at t.now)) (shown_all src (n - 1) (rest t.now token_words))) × (result ≤ n - 1) }
 {
-    if t[0] != 1 {
-        return 0;
+    match kind_at(t) {
+        Kind::Opening => group_length(&t[TOKEN_WORDS..], n - 1),
+        _ => 0,
     }
-    group_length(&t[TOKEN_WORDS..], n - 1)
 }

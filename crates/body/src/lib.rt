@@ -72,6 +72,7 @@ pub fn lay_body(
     let mut page = Page::blank();
     let mut t = tokens;
     let mut n = count;
+    // A `while`: a group that the walk passes over goes at once.
     while 0 < n {
         let h = passed(t, n);
         let behind = owed_behind(source, reading, t, &states, depth, owed);

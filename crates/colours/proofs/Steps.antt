@@ -1,5 +1,4 @@
 -- The loop over a group's tokens, in the terms of the code.
---     word-.., limit-..              the small functions, by how a test fell
 --     effect-token                   a token's effect, and then the room, is the definition's step
 --     effect-small                   colours whose values fit stay such
 --     loop-start, -set, -store, -full, -unfit, -end   one law for each way through the loop
@@ -7,11 +6,11 @@
 use mathlib.Core.Path.{◌≡◌, refl, sym, ap, ◌∙◌}
 use mathlib.Core.List.{List, [], ◌∷◌, ◌++◌}
 use mathlib.Core.Bool.{Bool, true, false, cond}
-use Prim.Native.Nat.{ℕ, ◌+◌, ◌-◌, ◌*◌, ◌≤◌, ◌<◌}
+use Prim.Native.Nat.{ℕ, ◌+◌, ◌*◌, ◌≤◌, ◌<◌}
 use native.Mathlib.Nat.{div-one}
 use native.Mathlib.Numerals.{add-one}
 use native.Mathlib.Omega.{arith}
-use borrow.Author.Tests.{ltb-true, ltb-false, lt-ltb, le-ltb, ne_eqb}
+use borrow.Author.Tests.{ltb-true, ltb-false, lt-ltb, le-ltb}
 use lib.ListN.{length, take, set, length-set, drop, take-append-drop}
 use lib.Dec.{eqb, ltb}
 use lib.Seq.{length-take-le, take-suc-set, drop-set-lt, drop-drop}
@@ -23,7 +22,9 @@ use Rattle.tokens.specs.Tokens.{Token, value_of, token_words}
 use Rattle.tokens.specs.declared.item.Item.{Item}
 use Rattle.tokens.specs.declared.item.Item.TheVariants.{Text, Opening, Closing, LineBreak, Ignorable, Word, Unknown, Symbol}
 use Rattle.tokens.specs.Items.{item_at, shown_of, slice_at, tokens_all}
-use Rattle.tokens.proofs.Items.{rest, words-less, tokens_none, tokens-some}
+use Rattle.tokens.proofs.Items.{tokens_none}
+use Rattle.rooms.proofs.Chunks.{Chunk, chunk-words, left_none}
+use Rattle.tokens.proofs.Chunks.{chunk-tokens}
 use Rattle.colours.specs.declared.Colour.{Colour}
 use Rattle.colours.specs.declared.Effect.{Effect}
 use Rattle.colours.specs.declared.Effect.TheVariants.{Set, Store, Unfit}
@@ -33,14 +34,6 @@ use Rattle.colours.specs.Effects.{fitted, word_effect, effect_of, Small}
 use Rattle.colours.proofs.Tables.{colours-refused}
 use Rattle.std.specs.Prelude.{Ok, Err, Option}
 
-pub limit-small : (n : ℕ) → n < 256 → n ≡ table_limit colour_words n
-unfolding table_limit
-limit-small n h = rw (div-one n, lt-ltb n 256 h)
-
-pub limit-large : (n : ℕ) → 256 ≤ n → 256 ≡ table_limit colour_words n
-unfolding table_limit
-limit-large n h = rw (div-one n, le-ltb n 256 h)
-
 limit-within : (n : ℕ) → table_limit colour_words n ≤ n
 unfolding table_limit
 limit-within n = rw (div-one n) (go (ltb n 256) refl)
@@ -48,23 +41,6 @@ limit-within n = rw (div-one n) (go (ltb n 256) refl)
     go : (t : Bool) → ltb n 256 ≡ t → cond t n 256 ≤ n
     go true e = omega arith
     go false e = ltb-false n 256 e
-
-module _ (w v : ℕ) (c : Colour) {e : Effect} where
-  pub word-red : w ≡ 37 → e ≡ fitted v (Set (record { red = v; green = c.green; blue = c.blue })) → e ≡ word_effect w v c
-  unfolding word_effect
-  word-red h q = q ∙ rw h
-
-  pub word-green : w ≡ 38 → e ≡ fitted v (Set (record { red = c.red; green = v; blue = c.blue })) → e ≡ word_effect w v c
-  unfolding word_effect
-  word-green h q = q ∙ rw h
-
-  pub word-blue : w ≡ 39 → e ≡ fitted v (Store (record { red = c.red; green = c.green; blue = v })) → e ≡ word_effect w v c
-  unfolding word_effect
-  word-blue h q = q ∙ rw h
-
-pub word-other : (w v : ℕ) (c : Colour) → (w ≡ 37 → ⊥) → (w ≡ 38 → ⊥) → (w ≡ 39 → ⊥) → Set c ≡ word_effect w v c
-unfolding word_effect
-word-other w v c a b d = rw (ne_eqb w 37 a, ne_eqb w 38 b, ne_eqb w 39 d)
 
 -- an effect, and then the room
 abbrev applied : ℕ → List ℕ → Effect → Fate Colours
@@ -139,7 +115,6 @@ state room k c = found (record { table = take k room; colour = c })
 -- the loop: what is left, from the present colours, leads where the whole leads
 pub record Loop (tokens : List ℕ) (count : ℕ) (room₀ : List ℕ) (limit : ℕ) (room ws : List ℕ) (n : ℕ) (c : Colour) (k : ℕ) : Type 0 where
   pub words : n * token_words ≤ length ws
-  pub few : n ≤ 65536
   pub long : length room ≡ length room₀
   pub limited : limit ≡ table_limit colour_words (length room₀)
   pub held : limit ≤ length room
@@ -148,12 +123,11 @@ pub record Loop (tokens : List ℕ) (count : ℕ) (room₀ : List ℕ) (limit : 
   pub small : Small c
   pub left : (src : List ℕ) → colours_from limit (state room k c) (tokens_all src n ws) ≡ colours_from limit (found no_colours) (tokens_all src count tokens)
 
-pub loop-start : (tokens : List ℕ) (count : ℕ) (room : List ℕ) (limit : ℕ) → (count * token_words ≤ length tokens) × (count ≤ 65536) → limit ≡ table_limit colour_words (length room)
+pub loop-start : (tokens : List ℕ) (count : ℕ) (room : List ℕ) (limit : ℕ) → count * token_words ≤ length tokens → limit ≡ table_limit colour_words (length room)
     → Loop tokens count room limit room tokens count black 0
 loop-start tokens count room limit h e =
     record {
-      words = h.0;
-      few = h.1;
+      words = h;
       long = refl;
       limited = e;
       held = rw e (limit-within (length room));
@@ -180,31 +154,31 @@ module _ {tokens : List ℕ} {count : ℕ} {room₀ : List ℕ} {limit : ℕ} {r
       rw (← z) refl
 
   -- no token is left
-  pub loop-end : n ≤ 0 → (src : List ℕ) → ReadColours (colours (table_limit colour_words (length room₀)) (tokens_all src count tokens)) room₀ (Ok k) room
+  pub loop-end : (0 < n → length ws < token_words) → (src : List ℕ) → ReadColours (colours (table_limit colour_words (length room₀)) (tokens_all src count tokens)) room₀ (Ok k) room
   unfolding colours_from
-  loop-end h src =
+  loop-end f src =
+      let h : n ≤ 0 = left_none token_words n ws l.words f in
       let e : state room k c ≡ colours_from limit (found no_colours) (tokens_all src count tokens) = rw (tokens_none src n ws h) at (l.left src) in
       let z : found (take k room) ≡ colours (table_limit colour_words (length room₀)) (tokens_all src count tokens) = ended src (state room k c) e in
       let b : room ≡ take k room ++ drop k room₀ = sym (take-append-drop k room) ∙ ap (λ (x : List ℕ). take k room ++ x) l.behind in
       rw (← z, filled) (refl, b)
 
-  module _ (h : 0 < n) {i : Item} (a : i ≡ item_at ws) {e : Effect} (b : e ≡ effect_of i c) where
-    turned : (src : List ℕ) → colours_from limit (found_at (slice_at ws) (applied limit (take k room) e)) (tokens_all src (n - 1) (rest ws token_words))
+  module _ {here more : List ℕ} {m : ℕ} (q : Chunk token_words ws n here more m) {i : Item} (a : i ≡ item_at here) {e : Effect} (b : e ≡ effect_of i c) where
+    turned : (src : List ℕ) → colours_from limit (found_at (slice_at here) (applied limit (take k room) e)) (tokens_all src m more)
         ≡ colours_from limit (found no_colours) (tokens_all src count tokens)
     unfolding colours_from
     turned src =
-        rw (b, a, ← (effect-token limit src (item_at ws) (take k room) c))
-        (rw (tokens-some src n ws h) at (l.left src))
+        rw (b, a, ← (effect-token limit src (item_at here) (take k room) c))
+        (rw (chunk-tokens q src) at (l.left src))
 
     still : SmallEffect e
     still = rw b (effect-small i c l.small)
 
     -- a new current colour
-    pub loop-set : (d : Colour) → e ≡ Set d → Loop tokens count room₀ limit room (rest ws token_words) (n - 1) d k
+    pub loop-set : (d : Colour) → e ≡ Set d → Loop tokens count room₀ limit room more m d k
     loop-set d x =
         record {
-          words = words-less n ws l.words;
-          few = let f : n ≤ 65536 = l.few in omega arith;
+          words = chunk-words q l.words;
           long = l.long;
           limited = l.limited;
           held = l.held;
@@ -215,34 +189,33 @@ module _ {tokens : List ℕ} {count : ℕ} {room₀ : List ℕ} {limit : ℕ} {r
         }
 
     -- 12, a number that does not fit
-    pub loop-unfit : (p : ℕ) → p ≡ slice_at ws → (q : Refusal) → q ≡ refusal_at NumberField p → e ≡ Unfit → (src : List ℕ)
-        → ReadColours (colours (table_limit colour_words (length room₀)) (tokens_all src count tokens)) room₀ (Err q) room
-    loop-unfit p z q y x src = rw (y, z) (stopped src (refusal_at NumberField (slice_at ws)) (tokens_all src (n - 1) (rest ws token_words)) (rw x at (turned src)))
+    pub loop-unfit : (p : ℕ) → p ≡ slice_at here → (r : Refusal) → r ≡ refusal_at NumberField p → e ≡ Unfit → (src : List ℕ)
+        → ReadColours (colours (table_limit colour_words (length room₀)) (tokens_all src count tokens)) room₀ (Err r) room
+    loop-unfit p z r y x src = rw (y, z) (stopped src (refusal_at NumberField (slice_at here)) (tokens_all src m more) (rw x at (turned src)))
 
     module _ (d : Colour) (x : e ≡ Store d) where
       pub stored-small : Small d
       stored-small = rw x at still
 
-      stored-turned : (src : List ℕ) → colours_from limit (found_at (slice_at ws) (kept limit (record { table = take k room; colour = d }))) (tokens_all src (n - 1) (rest ws token_words))
+      stored-turned : (src : List ℕ) → colours_from limit (found_at (slice_at here) (kept limit (record { table = take k room; colour = d }))) (tokens_all src m more)
           ≡ colours_from limit (found no_colours) (tokens_all src count tokens)
       stored-turned src = rw x at (turned src)
 
       -- 18, a colour too many
-      pub loop-full : limit ≤ k → (q : Refusal) → q ≡ refusal ColourRoom → (src : List ℕ)
-          → ReadColours (colours (table_limit colour_words (length room₀)) (tokens_all src count tokens)) room₀ (Err q) room
-      loop-full g q y src =
+      pub loop-full : limit ≤ k → (r : Refusal) → r ≡ refusal ColourRoom → (src : List ℕ)
+          → ReadColours (colours (table_limit colour_words (length room₀)) (tokens_all src count tokens)) room₀ (Err r) room
+      loop-full g r y src =
           let t : ltb (length (take k room)) limit ≡ false = le-ltb (length (take k room)) limit (rw filled g) in
-          rw y (stopped src (refusal ColourRoom) (tokens_all src (n - 1) (rest ws token_words)) (rw t at (stored-turned src)))
+          rw y (stopped src (refusal ColourRoom) (tokens_all src m more) (rw t at (stored-turned src)))
 
       -- one colour more
-      pub loop-store : k < limit → (w : ℕ) → w ≡ colour_word d → Loop tokens count room₀ limit (set room k w) (rest ws token_words) (n - 1) d (k + 1)
+      pub loop-store : k < limit → (w : ℕ) → w ≡ colour_word d → Loop tokens count room₀ limit (set room k w) more m d (k + 1)
       loop-store g w y =
           let u : limit ≤ length room = l.held in
           let t : ltb (length (take k room)) limit ≡ true = lt-ltb (length (take k room)) limit (rw filled g) in
           let s : take (k + 1) (set room k w) ≡ take k room ++ (colour_word d ∷ []) = rw (add-one, ← y) (take-suc-set room k w (omega arith)) in
           record {
-            words = words-less n ws l.words;
-            few = let f : n ≤ 65536 = l.few in omega arith;
+            words = chunk-words q l.words;
             long = simp length-set l.long;
             limited = l.limited;
             held = simp length-set u;

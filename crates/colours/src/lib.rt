@@ -16,6 +16,7 @@ ghost use Rattle.colours.specs.Effects.{fitted as fitted_of, word_effect, effect
 ghost use Rattle.tokens.specs.Tokens.{token_words};
 
 use answers::{Refusal, Why};
+use rooms::table_limit;
 use tokens::item::{Item, item_at, slice_at};
 use tokens::{TOKEN_WORDS, words};
 
@@ -36,16 +37,6 @@ pub enum Effect {
     Unfit,
 }
 
-// How many colours a room of n words holds, a word each, and at most 256.
-fn limit_of(n: usize) -> usize
-    ensures { result ≡ table_limit colour_words n }
-{
-    if n < 256 {
-        return n;
-    }
-    256
-}
-
 // A value is 0 to 255.
 fn fitted(v: u32, e: Effect) -> Effect
     ensures { result ≡ fitted_of v e }
@@ -57,37 +48,16 @@ fn fitted(v: u32, e: Effect) -> Effect
 }
 
 // `red`, `green` and `blue` are words 37 to 39; the last stores.
+#[tactic(auto, unfolding(crate::specs::Effects::word_effect))]
 fn word_effect(w: u32, v: u32, c: Colour) -> Effect
     ensures { result ≡ word_effect w v c }
 {
-    if w == words::COLOUR_RED {
-        let red = Colour {
-            red: v,
-            green: c.green,
-            blue: c.blue,
-        };
-        let e = Effect::Set(red);
-        return fitted(v, e);
+    match w {
+        words::COLOUR_RED => fitted(v, Effect::Set(Colour { red: v, ..c })),
+        words::COLOUR_GREEN => fitted(v, Effect::Set(Colour { green: v, ..c })),
+        words::COLOUR_BLUE => fitted(v, Effect::Store(Colour { blue: v, ..c })),
+        _ => Effect::Set(c),
     }
-    if w == words::COLOUR_GREEN {
-        let green = Colour {
-            red: c.red,
-            green: v,
-            blue: c.blue,
-        };
-        let e = Effect::Set(green);
-        return fitted(v, e);
-    }
-    if w == words::COLOUR_BLUE {
-        let blue = Colour {
-            red: c.red,
-            green: c.green,
-            blue: v,
-        };
-        let e = Effect::Store(blue);
-        return fitted(v, e);
-    }
-    Effect::Set(c)
 }
 
 // What a token does, where c is the current colour. No number means 0.
@@ -99,13 +69,7 @@ fn step(i: Item, c: Colour) -> Effect
             let v = number.unwrap_or(0);
             word_effect(w, v, c)
         }
-        Item::Text(_, _) => Effect::Set(c),
-        Item::Opening => Effect::Set(c),
-        Item::Closing => Effect::Set(c),
-        Item::LineBreak => Effect::Set(c),
-        Item::Ignorable => Effect::Set(c),
-        Item::Unknown(_, _, _) => Effect::Set(c),
-        Item::Symbol(_, _) => Effect::Set(c),
+        _ => Effect::Set(c),
     }
 }
 
@@ -123,22 +87,15 @@ pub fn read_colours(tokens: &[u32], count: usize, room: &mut [u32]) -> Result<us
     requires { (count * token_words ≤ length tokens.now) × (count ≤ 65536) }
     ensures { (src : List ℕ) → ReadColours (colours_of (table_limit colour_words (length room.old)) (tokens_all src count tokens.now)) room.old result room.new }
 {
-    let limit = limit_of(room.len());
-    let mut t = tokens;
-    let mut n = count;
+    let limit = table_limit(room.len(), COLOUR_WORDS);
     let mut colour = Colour {
         red: 0,
         green: 0,
         blue: 0,
     };
     let mut stored: usize = 0;
-    while 0 < n {
-        let here = t;
-        let i = item_at(here);
-        let e = step(i, colour);
-        t = &here[TOKEN_WORDS..];
-        n -= 1;
-        match e {
+    for here in tokens.chunks_exact(TOKEN_WORDS).take(count) {
+        match step(item_at(here), colour) {
             Effect::Set(c) => {
                 colour = c;
             }
@@ -146,14 +103,12 @@ pub fn read_colours(tokens: &[u32], count: usize, room: &mut [u32]) -> Result<us
                 if limit <= stored {
                     return Err(Refusal::of(Why::ColourRoom));
                 }
-                let w = colour_word(next);
-                room[stored] = w;
+                room[stored] = colour_word(next);
                 stored += 1;
                 colour = next;
             }
             Effect::Unfit => {
-                let place = slice_at(here);
-                return Err(Refusal::at(Why::NumberField, place));
+                return Err(Refusal::at(Why::NumberField, slice_at(here)));
             }
         }
     }

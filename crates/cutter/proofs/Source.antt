@@ -1,13 +1,14 @@
 -- The whole source and the last slice, a law for each branch of the code. Assumes nothing.
 use mathlib.Core.Path.{◌≡◌, refl, sym, ap, ◌∙◌}
 use mathlib.Core.List.{List, [], ◌∷◌, ◌++◌}
-use mathlib.Core.Bool.{Bool, true, false}
+use mathlib.Core.Bool.{Bool, true, false, cond, not, ◌&&◌}
 use Prim.Native.Nat.{ℕ, ◌+◌, ◌-◌, ◌*◌, ◌≤◌, ◌<◌}
 use native.Mathlib.Omega.{arith}
-use borrow.Author.Tests.{ne_eqb, lt-ltb, le-ltb}
-use lib.ListN.{length, get_or, take, drop, replicate, length-drop}
+use borrow.Author.Tests.{not-true, not-false, lt-ltb, le-ltb}
+use lib.ListN.{length, take, drop, replicate, length-drop}
 use lib.Seq.{take_all}
 use lib.Dec.{eqb}
+use lib.Pointwise.{pointwise}
 use Rattle.answers.specs.declared.Refusal.{Refusal}
 use Rattle.answers.specs.declared.Why.TheVariants.{SourceTooLong, NotAscii, LastSlice, TokenRoom}
 use Rattle.answers.specs.declared.Why.{Why}
@@ -20,6 +21,7 @@ use Rattle.rooms.specs.Rooms.{capacity, put, put_all, Wrote, encode, settled, co
 use Rattle.rooms.proofs.Streams.{answer-count}
 use Rattle.rooms.proofs.Rooms.{wrote_one, length-encode, put_all-front, settled-fits, settled-over}
 use Rattle.slices.specs.Slices.{slices_by}
+use Rattle.tokens.specs.declared.Kind.TheVariants as kinds
 use Rattle.tokens.specs.declared.Record.{Record}
 use Rattle.tokens.specs.Tokens.{Shown, Token, token, token_words, record_words, bare_record, shown_layout, token_layout, sealed_all}
 use Rattle.tokens.proofs.Records.{token-sized, closing-record, wrote-token}
@@ -29,27 +31,44 @@ use Rattle.cutter.proofs.Closing.{cut_all}
 use Rattle.cutter.specs.Cutting.{trim_start, last, all_slices, trimmed, token_stream, cut_answer, cut_room}
 use Rattle.std.specs.Prelude.{Result, Ok, Err}
 
-module _ (p : ℕ) where
-  pub last-long : (s : List ℕ) → (length s ≡ 1 → ⊥) → last p s ≡ stop (refusal_at LastSlice p)
-  unfolding last
-  last-long [] h = refl
-  last-long (b ∷ []) h = absurd (h refl)
-  last-long (b ∷ c ∷ s) h = refl
+-- a slice that is `}` alone, as the code compares it
+pub bracket-alone : (s t : List ℕ) → t ≡ 125 ∷ [] → pointwise eqb s t ≡ is_bracket s
+bracket-alone s t e = rw e (go s)
+  where
+    both : (t : Bool) → t && true ≡ t
+    both true = refl
+    both false = refl
 
-  pub last-other : (s : List ℕ) → length s ≡ 1 → (get_or s 0 0 ≡ 125 → ⊥) → last p s ≡ stop (refusal_at LastSlice p)
-  unfolding last
-  last-other [] h f = refl
-  last-other (b ∷ []) h f = rw (ne_eqb b 125 f)
-  last-other (b ∷ c ∷ s) h f = refl
+    none : (t : Bool) → t && false ≡ false
+    none true = refl
+    none false = refl
 
-  pub last-close : (s : List ℕ) → length s ≡ 1 → get_or s 0 0 ≡ 125 → last p s ≡ token p 1 Shown.closing ▸ end
+    go : (s : List ℕ) → pointwise eqb s (125 ∷ []) ≡ is_bracket s
+    go [] = refl
+    go (b ∷ []) = both (eqb b 125)
+    go (b ∷ c ∷ s) = none (eqb b 125)
+
+module _ (p : ℕ) (s t : List ℕ) (q : t ≡ 125 ∷ []) (r : Bool) (z : r ≡ not (pointwise eqb s t)) where
+  last-at : last p s ≡ cond (is_bracket s) (token p 1 Shown.closing ▸ end) (stop (refusal_at LastSlice p))
   unfolding last
-  last-close [] h e = absurd (omega arith)
-  last-close (b ∷ []) h e = rw e
-  last-close (b ∷ c ∷ s) h e = absurd (omega arith)
+  last-at = go s
+    where
+      go : (s : List ℕ) → last p s ≡ cond (is_bracket s) (token p 1 Shown.closing ▸ end) (stop (refusal_at LastSlice p))
+      go [] = refl
+      go (b ∷ []) = refl
+      go (b ∷ c ∷ s) = refl
+
+  alone : r ≡ not (is_bracket s)
+  alone = z ∙ ap not (bracket-alone s t q)
+
+  pub last-other : r ≡ true → last p s ≡ stop (refusal_at LastSlice p)
+  last-other e = let n : is_bracket s ≡ false = not-true (is_bracket s) (sym alone ∙ e) in last-at ∙ rw n
+
+  pub last-close : r ≡ false → last p s ≡ token p 1 Shown.closing ▸ end
+  last-close e = let n : is_bracket s ≡ true = not-false (is_bracket s) (sym alone ∙ e) in last-at ∙ rw n
 
 -- the bracket's record, and then its slice
-pub last-wrote : {x : Stream Refusal Token} {p n : ℕ} {room room' room'' : List ℕ} {r : Record} → x ≡ token p 1 Shown.closing ▸ end → r ≡ bare_record 2
+pub last-wrote : {x : Stream Refusal Token} {p n : ℕ} {room room' room'' : List ℕ} {r : Record} → x ≡ token p 1 Shown.closing ▸ end → r ≡ bare_record kinds.Closing
     → room' ≡ put token_words room n (record_words r) → room'' ≡ sealed_all p 1 room' n (n + 1 - n) → Wrote token_layout n room x (Ok (n + 1)) room''
 unfolding each put_all
 last-wrote {p = p} {n = n} {room = room} e q h k =
@@ -115,14 +134,3 @@ module _ (rd : Reading) where
         rw (w.holds n e, c) (put_all-front token_layout token-sized (token_stream rd src) room (rw (c, length-wrote) at h)) in
         let l : length (encode token_layout (token_stream rd src)) ≡ n * token_words = length-encode token_layout token-sized (token_stream rd src) ∙ rw c in
         z ∙ rw (← settle-fits e h, f, length-wrote, l)
-
--- a slice that is `}` alone, as the code tests it
-pub bracket-not : (s : List ℕ) → (length s ≡ 1 → ⊥) → false ≡ is_bracket s
-bracket-not [] h = refl
-bracket-not (b ∷ []) h = absurd (h refl)
-bracket-not (b ∷ c ∷ s) h = refl
-
-pub bracket-one : (s : List ℕ) → length s ≡ 1 → eqb (get_or s 0 0) 125 ≡ is_bracket s
-bracket-one [] h = absurd (omega arith)
-bracket-one (b ∷ []) h = refl
-bracket-one (b ∷ c ∷ s) h = absurd (omega arith)

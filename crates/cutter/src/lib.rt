@@ -11,21 +11,19 @@
 #![tactic(auto)]
 
 ghost use Rattle.std.specs.Prelude.{◌≡◌, ◌+◌, ◌≤◌, ◌<◌, length, replicate};
-ghost use Rattle.names.specs.Names.{rows};
 ghost use Rattle.rooms.specs.Rooms.{Wrote};
 ghost use Rattle.slices.specs.Slices.{slices_by};
-ghost use Rattle.standard.specs.Closing.{is_bracket};
 ghost use Rattle.tokens.specs.Tokens.{shown_layout, token_layout};
 ghost use Rattle.cutter.specs.Cutting.{tokens_by, last as last_of, last_by, all_slices, token_stream, Cuts};
 
 use answers::{Refusal, Why};
 use classes::{Class, body_of, has_high, lead_of};
-use names::Table;
+use names::Names;
 use readings::Reading;
 use rooms::clear_from;
 use slices::slice_end_by;
 use tokenize::quick::slice_tokens;
-use tokens::{Record, TOKEN_WORDS, put, seal};
+use tokens::{Kind, Record, TOKEN_WORDS, put, seal};
 
 // The last slice: a closing bracket alone.
 fn last(s: &[u8], place: usize, room: &mut [u32], n: usize) -> Result<usize, Refusal>
@@ -33,13 +31,10 @@ fn last(s: &[u8], place: usize, room: &mut [u32], n: usize) -> Result<usize, Ref
     ensures { Wrote token_layout n room.old (last_of place s.now) result room.new }
 {
     let p = place as u32;
-    if s.len() != 1 {
+    if s != b"}".as_slice() {
         return Err(Refusal::at(Why::LastSlice, p));
     }
-    if s[0] != b'}' {
-        return Err(Refusal::at(Why::LastSlice, p));
-    }
-    put(room, n, Record::bare(2));
+    put(room, n, Record::bare(Kind::Closing));
     seal(room, n, n + 1, p, 1);
     Ok(n + 1)
 }
@@ -49,11 +44,11 @@ fn cut_slice(
     reading: Reading,
     s: &[u8],
     place: usize,
-    names: &Table,
+    names: &Names,
     room: &mut [u32],
     n: usize,
 ) -> Result<usize, Why>
-    requires { (place + length s.now ≤ 65536) × (n ≤ place) × (names.now ≡ rows) }
+    requires { (place + length s.now ≤ 65536) × (n ≤ place) }
     ensures { Wrote shown_layout n room.old (tokens_by reading place s.now) result room.new }
 {
     if reading.is_standard() {
@@ -62,45 +57,36 @@ fn cut_slice(
     slice_tokens(reading, s, place, names, room, n)
 }
 
-fn is_bracket(s: &[u8]) -> bool
-    ensures { result ≡ is_bracket s.now }
-{
-    if s.len() != 1 {
-        return false;
-    }
-    s[0] == b'}'
-}
-
 // The last slice by the specification: it is cut as the others first.
 fn standard_last(
     s: &[u8],
     place: usize,
-    names: &Table,
+    names: &Names,
     room: &mut [u32],
     n: usize,
 ) -> Result<usize, Refusal>
-    requires { (place + length s.now ≤ 65536) × (n ≤ place) × (names.now ≡ rows) }
+    requires { (place + length s.now ≤ 65536) × (n ≤ place) }
     ensures { Wrote token_layout n room.old (last_by Reading.Standard place s.now) result room.new }
 {
     let p = place as u32;
     let m = standard::slice_tokens(s, place, names, room, n).map_err(|why| Refusal::at(why, p))?;
-    if !is_bracket(s) {
-        return Err(Refusal::at(Why::LastSlice, p));
+    if s == b"}".as_slice() {
+        seal(room, n, m, p, s.len() as u32);
+        return Ok(m);
     }
-    seal(room, n, m, p, s.len() as u32);
-    Ok(m)
+    Err(Refusal::at(Why::LastSlice, p))
 }
 
-// The last slice by the reading.
+// The last slice by the reading. A test of the reading, which is the host's number, is plainer here than a closure.
 fn last_by(
     reading: Reading,
     s: &[u8],
     place: usize,
-    names: &Table,
+    names: &Names,
     room: &mut [u32],
     n: usize,
 ) -> Result<usize, Refusal>
-    requires { (place + length s.now ≤ 65536) × (n < 65536) × (n ≤ place) × (names.now ≡ rows) }
+    requires { (place + length s.now ≤ 65536) × (n < 65536) × (n ≤ place) }
     ensures { Wrote token_layout n room.old (last_by reading place s.now) result room.new }
 {
     if reading.is_standard() {
@@ -114,10 +100,10 @@ fn all_slices(
     reading: Reading,
     s: &[u8],
     place: usize,
-    names: &Table,
+    names: &Names,
     room: &mut [u32],
 ) -> Result<usize, Refusal>
-    requires { (place + length s.now ≤ 65536) × (names.now ≡ rows) }
+    requires { place + length s.now ≤ 65536 }
     ensures { Wrote token_layout 0 room.old (all_slices reading place (slices_by reading s.now)) result room.new }
 {
     if s.len() == 0 {
@@ -126,6 +112,7 @@ fn all_slices(
     let mut t = s;
     let mut p = place;
     let mut n = 0;
+    // A `loop`: where a slice ends tells where the next one starts.
     loop {
         let e = slice_end_by(reading, t);
         if t.len() <= e {
@@ -142,8 +129,7 @@ fn all_slices(
 }
 
 // The source, if it is short enough and of bytes below 128, trimmed and cut.
-fn whole(reading: Reading, source: &[u8], names: &Table, room: &mut [u32]) -> Result<usize, Refusal>
-    requires { names.now ≡ rows }
+fn whole(reading: Reading, source: &[u8], names: &Names, room: &mut [u32]) -> Result<usize, Refusal>
     ensures { Wrote token_layout 0 room.old (token_stream reading source.now) result room.new }
 {
     if 65536 < source.len() {
@@ -171,7 +157,7 @@ fn refuse(refusal: Refusal, room: &mut [u32]) -> Result<usize, Refusal>
 pub fn cut(source: &[u8], reading: Reading, room: &mut [u32]) -> Result<usize, Refusal>
     ensures { Cuts reading source.now room.old result room.new }
 {
-    let names = names::table();
+    let names = Names::new();
     match whole(reading, source, &names, room) {
         Err(refusal) => refuse(refusal, room),
         Ok(n) => {

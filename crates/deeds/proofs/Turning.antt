@@ -6,7 +6,7 @@
 -- Assumes nothing.
 use mathlib.Core.Path.{◌≡◌, refl, sym, ap, ◌∙◌}
 use mathlib.Core.List.{List, [], ◌∷◌}
-use mathlib.Core.Bool.{Bool, true, false, cond, ◌&&◌, ◌||◌}
+use mathlib.Core.Bool.{Bool, true, false, cond, ◌&&◌}
 use Prim.Native.Nat.{ℕ, ◌-◌, ◌<◌, ◌≤◌}
 use native.Mathlib.Omega.{arith}
 use borrow.Author.Tests.{eqb-true}
@@ -33,10 +33,15 @@ use Rattle.machine.proofs.Stack.{held-top}
 use Rattle.blocks.specs.declared.Page.{Page}
 use Rattle.blocks.specs.Laying.{Laying, on, off, roomed, add_of, Ready}
 use Rattle.runs.specs.Runs.{rows, step_by, steps_by, laid_all}
-use Rattle.deeds.specs.Deeds.{doing, symbol_effect, token_deed}
+use Rattle.deeds.specs.Deeds.{doing, token_deed}
 use Rattle.deeds.specs.Turns.{deed_at, effect_at, moved_by, stays_by, Deep, Took, turned, turn_of, Turns}
 use Rattle.runs.proofs.Saying.{laid-off, laid-append, said-none, said-own, said-ended, said-text, told_text, said-values}
 use Rattle.deeds.proofs.Moves.{took-keep, took-parts}
+use Rattle.tokens.specs.Items.{kind_at}
+use Rattle.tokens.specs.declared.Kind.TheVariants as kinds
+use Rattle.tokens.proofs.Items.{kind-number}
+use Rattle.std.specs.Prelude.{◌⊎◌}
+use Rattle.std.proofs.Common.{inl, inr}
 use Rattle.deeds.proofs.Words.{at-token, kind-word, kind-symbol, act-telling, unit-at}
 use Rattle.std.specs.Prelude.{Result, Ok, Err, Option}
 
@@ -231,24 +236,19 @@ word-turn rd st p b t w num true q = rw (eqb-true w 2 q) (unit-turn st p b t num
 word-turn rd st p b t w num false q = refl
 
 -- a word, or a symbol, by its effect
-act-turn : (rd : Reading) (src ws : List ℕ) (st : List (List ℕ)) (p : Page) (b t : List ℕ) → eqb (get_or ws 0 0) 5 || eqb (get_or ws 0 0) 6 ≡ true
+act-turn : (rd : Reading) (src ws : List ℕ) (st : List (List ℕ)) (p : Page) (b t : List ℕ) → (kind_at ws ≡ kinds.Word) ⊎ (kind_at ws ≡ kinds.Symbol)
     → turn_of st p b t (ended before) (doing (effect_at rd ws)) ≡ turn_of st p b t (ended before) (token_deed rd (shown_of src (item_at ws)))
 unfolding effect_at
-act-turn rd src ws st p b t k = go (eqb (get_or ws 0 0) 5) refl k
-  where
-    go : (x : Bool) → eqb (get_or ws 0 0) 5 ≡ x → x || eqb (get_or ws 0 0) 6 ≡ true
-        → turn_of st p b t (ended before) (doing (cond x (effect rd (get_or ws 1 0) (number_at ws)) (symbol_effect (get_or ws 1 0) (number_at ws))))
-        ≡ turn_of st p b t (ended before) (token_deed rd (shown_of src (item_at ws)))
-    go true e k = word-turn rd st p b t (get_or ws 1 0) (number_at ws) (eqb (get_or ws 1 0) 2) refl
-        ∙ ap (turn_of st p b t (ended before)) (kind-word rd src ws (eqb-true (get_or ws 0 0) 5 e))
-    go false e k = ap (turn_of st p b t (ended before)) (kind-symbol rd src ws (eqb-true (get_or ws 0 0) 6 k))
+act-turn rd src ws st p b t (inl e) = rw (kind-number ws e tt) (word-turn rd st p b t (get_or ws 1 0) (number_at ws) (eqb (get_or ws 1 0) 2) refl
+    ∙ ap (turn_of st p b t (ended before)) (kind-word rd src ws e))
+act-turn rd src ws st p b t (inr e) = rw (kind-number ws e tt) (ap (turn_of st p b t (ended before)) (kind-symbol rd src ws e))
 
 -- it is read: what is left of it is all of it, or behind its run no more than that
 doing-turn : (st : List (List ℕ)) (p : Page) (b t : List ℕ) (n : ℕ) (d : Deed Setting) → is_telling d ≡ false → is_passed (left n d) ≡ false
     → turn_of st p b t (ended before) d ≡ turn_of st p b t (ended before) (left n d)
 doing-turn st p b t n d e q = ap (turn_of st p b t (ended before)) (left-read n d d refl e q)
 
-pub turns-act-at : (rd : Reading) (src ws : List ℕ) (st : List (List ℕ)) (p : Page) (b t : List ℕ) (h n : ℕ) → h ≤ 0 → eqb (get_or ws 0 0) 5 || eqb (get_or ws 0 0) 6 ≡ true
+pub turns-act-at : (rd : Reading) (src ws : List ℕ) (st : List (List ℕ)) (p : Page) (b t : List ℕ) (h n : ℕ) → h ≤ 0 → (kind_at ws ≡ kinds.Word) ⊎ (kind_at ws ≡ kinds.Symbol)
     → is_passed (left n (deed_at rd src ws h)) ≡ false → (a : Act) → meaning a ≡ effect_at rd ws
     → {r : Result ℕ Why} {states : List (List ℕ)} {run : Run} {page : Page} {b' t' : List ℕ} {w v : ℕ}
     → Turns r states run page b' t' w v (turn_of st p b t (ended before) (doing (meaning a)))

@@ -2,21 +2,25 @@
 --     at-..         the token that words start with, by whether the walk passes over what stands behind it
 --     kind-..       that token by its kind
 --     gave-ended    and what its run gives, if it is no `u` word and something is left of it
---     brace-at, count-one, count-text   whether it is a brace, and how many characters it is
+--     brace-yes, -no, count-one, -text   whether it is a brace, and how many characters it is
 -- Assumes nothing.
 use mathlib.Core.Path.{◌≡◌, refl, sym, ap, ◌∙◌}
 use mathlib.Core.List.{List, [], ◌∷◌}
-use mathlib.Core.Bool.{Bool, true, false, cond, ◌&&◌, ◌||◌, true≢false}
+use mathlib.Core.Bool.{Bool, true, false, cond, ◌&&◌, true≢false}
 use Prim.Native.Nat.{ℕ, zero, suc, ◌<◌, ◌≤◌}
 use native.Mathlib.Omega.{arith}
-use borrow.Author.Tests.{lt-ltb, le-ltb, ltb-true, le-leb, leb-true, eq-eqb, ne_eqb, eqb-true, eqb-false}
+use borrow.Author.Tests.{lt-ltb, le-ltb, ltb-true, eqb-true}
 use lib.ListN.{length, get_or, drop}
-use lib.Dec.{eqb, ltb, leb}
-use Rattle.answers.specs.declared.Why.TheVariants.{IgnorableInBody}
+use lib.Dec.{eqb, ltb}
 use Rattle.readings.specs.declared.Reading.{Reading}
 use Rattle.tokens.specs.declared.item.Item.TheVariants.{Text, Opening, Closing, LineBreak, Ignorable, Word, Unknown, Symbol}
 use Rattle.tokens.specs.Tokens.{Shown}
-use Rattle.tokens.specs.Items.{item_at, item_of, word_item, number_at, shown_of, part}
+use Rattle.tokens.specs.declared.Kind.{Kind}
+use Rattle.tokens.specs.declared.Kind.TheVariants as kinds
+use Rattle.tokens.specs.Items.{kind_at, item_at, item_of, word_item, number_at, shown_of, part}
+use Rattle.tokens.proofs.Items.{item_by, item-by-kind}
+use Rattle.std.specs.Prelude.{◌⊎◌}
+use Rattle.std.proofs.Common.{inl, inr}
 use Rattle.settings.specs.Fields.{Setting}
 use Rattle.settings.specs.Effects.{Effect, effect, painter_word, paragraph_word, character_word, ending_word, indent_word}
 use Rattle.settings.specs.Effects as does
@@ -24,7 +28,7 @@ use Rattle.units.specs.declared.Run.{Run}
 use Rattle.units.specs.declared.Gave.{Gave}
 use Rattle.machine.specs.Machine.{Deed, parts, ended, gave, is_brace, counts, tells_rest, left, is_passed, owing}
 use Rattle.machine.proofs.Left.{is_telling, left-told}
-use Rattle.classes.proofs.Runs.{and_left, and_right, or_left, or_right}
+use Rattle.classes.proofs.Runs.{and_left, and_right}
 use Rattle.deeds.specs.Deeds.{doing, symbol_effect, token_deed}
 use Rattle.deeds.specs.Turns.{deed_at}
 use Rattle.std.specs.Prelude.{Option}
@@ -42,31 +46,14 @@ module _ (rd : Reading) (src ws : List ℕ) where
   at-token h z = rw (le-ltb 0 h z)
 
   -- by its kind
-  pub kind-open : get_or ws 0 0 ≡ 1 → Deed.opens ≡ token_deed rd (shown_of src (item_at ws))
-  unfolding item_at item_of
-  kind-open e = rw e
+  abbrev by_kind : Kind → Deed Setting
+  by_kind k = token_deed rd (shown_of src (item_by k ws))
 
-  pub kind-close : get_or ws 0 0 ≡ 2 → Deed.closes ≡ token_deed rd (shown_of src (item_at ws))
-  unfolding item_at item_of
-  kind-close e = rw e
+  pub kind-deed : {k : Kind} → kind_at ws ≡ k → by_kind k ≡ token_deed rd (shown_of src (item_at ws))
+  kind-deed e = ap (λ i. token_deed rd (shown_of src i)) (item-by-kind ws e)
 
-  pub kind-break : get_or ws 0 0 ≡ 3 → Deed.says (10 ∷ []) ≡ token_deed rd (shown_of src (item_at ws))
-  unfolding item_at item_of
-  kind-break e = rw e
-
-  pub kind-mark : get_or ws 0 0 ≡ 4 → Deed.stops IgnorableInBody ≡ token_deed rd (shown_of src (item_at ws))
-  unfolding item_at item_of
-  kind-mark e = rw e
-
-  pub kind-text : (get_or ws 0 0 ≡ 1 → ⊥) → (get_or ws 0 0 ≡ 2 → ⊥) → (get_or ws 0 0 ≡ 3 → ⊥) → (get_or ws 0 0 ≡ 4 → ⊥) → (get_or ws 0 0 ≡ 5 → ⊥) → (get_or ws 0 0 ≡ 6 → ⊥)
-      → Deed.tells (part src (get_or ws 4 0) (get_or ws 5 0)) ≡ token_deed rd (shown_of src (item_at ws))
-  unfolding item_at item_of
-  kind-text a b c d e f =
-      rw (ne_eqb (get_or ws 0 0) 1 a, ne_eqb (get_or ws 0 0) 2 b, ne_eqb (get_or ws 0 0) 3 c, ne_eqb (get_or ws 0 0) 4 d, ne_eqb (get_or ws 0 0) 5 e, ne_eqb (get_or ws 0 0) 6 f)
-
-  pub kind-symbol : get_or ws 0 0 ≡ 6 → doing (symbol_effect (get_or ws 1 0) (number_at ws)) ≡ token_deed rd (shown_of src (item_at ws))
-  unfolding item_at item_of
-  kind-symbol e = rw e
+  pub kind-symbol : kind_at ws ≡ kinds.Symbol → doing (symbol_effect (get_or ws 1 0) (number_at ws)) ≡ token_deed rd (shown_of src (item_at ws))
+  kind-symbol e = kind-deed e
 
   -- a word's item: an unknown one does nothing, as words that are none of 01's effects
   word-item : (w p n : ℕ) (num : Option ℕ) → (b : Bool) → eqb w 49 ≡ b → cond (eqb w 2) (Deed.unit num) (doing (effect rd w num)) ≡ token_deed rd (shown_of src (cond b (Unknown p n num) (Word w num)))
@@ -74,16 +61,18 @@ module _ (rd : Reading) (src ws : List ℕ) where
   word-item w p n num true q = rw (eqb-true w 49 q)
   word-item w p n num false q = refl
 
-  pub kind-word : get_or ws 0 0 ≡ 5 → cond (eqb (get_or ws 1 0) 2) (Deed.unit (number_at ws)) (doing (effect rd (get_or ws 1 0) (number_at ws))) ≡ token_deed rd (shown_of src (item_at ws))
-  unfolding item_at item_of
-  kind-word e = rw e (word-item (get_or ws 1 0) (get_or ws 4 0) (get_or ws 5 0) (number_at ws) (eqb (get_or ws 1 0) 49) refl)
+  word-deed : cond (eqb (get_or ws 1 0) 2) (Deed.unit (number_at ws)) (doing (effect rd (get_or ws 1 0) (number_at ws))) ≡ by_kind kinds.Word
+  word-deed = word-item (get_or ws 1 0) (get_or ws 4 0) (get_or ws 5 0) (number_at ws) (eqb (get_or ws 1 0) 49) refl
+
+  pub kind-word : kind_at ws ≡ kinds.Word → cond (eqb (get_or ws 1 0) 2) (Deed.unit (number_at ws)) (doing (effect rd (get_or ws 1 0) (number_at ws))) ≡ token_deed rd (shown_of src (item_at ws))
+  kind-word e = word-deed ∙ kind-deed e
 
   pub unit-at : (h : ℕ) → (eqb (get_or ws 0 0) 5 && eqb (get_or ws 1 0) 2) ≡ true → (0 < h → get_or ws 0 0 ≡ 1) → Deed.unit (number_at ws) ≡ deed_at rd src ws h
   unit-at h c l =
       let k : get_or ws 0 0 ≡ 5 = eqb-true (get_or ws 0 0) 5 (and_left (eqb (get_or ws 0 0) 5) (eqb (get_or ws 1 0) 2) c) in
       let w : get_or ws 1 0 ≡ 2 = eqb-true (get_or ws 1 0) 2 (and_right (eqb (get_or ws 0 0) 5) (eqb (get_or ws 1 0) 2) c) in
       let u : Deed.unit (number_at ws) ≡ cond (eqb (get_or ws 1 0) 2) (Deed.unit (number_at ws)) (doing (effect rd (get_or ws 1 0) (number_at ws))) = rw w refl in
-      u ∙ kind-word k ∙ at-token h (no-group k l)
+      u ∙ kind-word (rw k refl) ∙ at-token h (no-group k l)
     where
       no-group : get_or ws 0 0 ≡ 5 → (0 < h → get_or ws 0 0 ≡ 1) → h ≤ 0
       no-group k l = go h l
@@ -207,55 +196,44 @@ word_flat rd w num true = (refl, refl)
 word_flat rd w num false = doing-flat (effect rd w num)
 
 module _ (rd : Reading) (src ws : List ℕ) where
-  abbrev kind : ℕ
-  kind = get_or ws 0 0
-
   abbrev deed : Deed Setting
   deed = token_deed rd (shown_of src (item_at ws))
 
-  -- of the kinds 3 to 6
-  flat-kind : 3 ≤ kind → kind ≤ 6 → (is_brace deed ≡ false) × (counts deed ≡ 1)
-  flat-kind l m = three (eqb kind 3) refl
-    where
-      six : (t : Bool) → eqb kind 6 ≡ t → (kind ≡ 3 → ⊥) → (kind ≡ 4 → ⊥) → (kind ≡ 5 → ⊥) → (is_brace deed ≡ false) × (counts deed ≡ 1)
-      six true e a b c = rw (← kind-symbol rd src ws (eqb-true kind 6 e)) (doing-flat (symbol_effect (get_or ws 1 0) (number_at ws)))
-      six false e a b c = let d = eqb-false kind 6 e in absurd (d (omega arith))
+  brace_of : Kind → Bool
+  brace_of kinds.Text = false
+  brace_of kinds.Opening = true
+  brace_of kinds.Closing = true
+  brace_of kinds.LineBreak = false
+  brace_of kinds.Ignorable = false
+  brace_of kinds.Word = false
+  brace_of kinds.Symbol = false
 
-      five : (t : Bool) → eqb kind 5 ≡ t → (kind ≡ 3 → ⊥) → (kind ≡ 4 → ⊥) → (is_brace deed ≡ false) × (counts deed ≡ 1)
-      five true e a b = rw (← kind-word rd src ws (eqb-true kind 5 e)) (word_flat rd (get_or ws 1 0) (number_at ws) (eqb (get_or ws 1 0) 2))
-      five false e a b = six (eqb kind 6) refl a b (eqb-false kind 5 e)
+  word-flat : (is_brace (by_kind rd src ws kinds.Word) ≡ false) × (counts (by_kind rd src ws kinds.Word) ≡ 1)
+  word-flat = rw (← word-deed rd src ws) (word_flat rd (get_or ws 1 0) (number_at ws) (eqb (get_or ws 1 0) 2))
 
-      four : (t : Bool) → eqb kind 4 ≡ t → (kind ≡ 3 → ⊥) → (is_brace deed ≡ false) × (counts deed ≡ 1)
-      four true e a = rw (← kind-mark rd src ws (eqb-true kind 4 e)) (refl, refl)
-      four false e a = five (eqb kind 5) refl a (eqb-false kind 4 e)
+  brace-by : (k : Kind) → brace_of k ≡ is_brace (by_kind rd src ws k)
+  unfolding brace_of
+  brace-by kinds.Text = refl
+  brace-by kinds.Opening = refl
+  brace-by kinds.Closing = refl
+  brace-by kinds.LineBreak = refl
+  brace-by kinds.Ignorable = refl
+  brace-by kinds.Word = sym word-flat.0
+  brace-by kinds.Symbol = sym (doing-flat (symbol_effect (get_or ws 1 0) (number_at ws))).0
 
-      three : (t : Bool) → eqb kind 3 ≡ t → (is_brace deed ≡ false) × (counts deed ≡ 1)
-      three true e = rw (← kind-break rd src ws (eqb-true kind 3 e)) (refl, refl)
-      three false e = four (eqb kind 4) refl (eqb-false kind 3 e)
+  -- a kind that is no text and no brace
+  one-by : (k : Kind) → (k ≡ kinds.Text → ⊥) → brace_of k ≡ false → 1 ≡ counts (by_kind rd src ws k)
+  unfolding brace_of
+  one-by kinds.Text n e = absurd (n refl)
+  one-by kinds.Opening n e = absurd (true≢false e)
+  one-by kinds.Closing n e = absurd (true≢false e)
+  one-by kinds.LineBreak n e = refl
+  one-by kinds.Ignorable n e = refl
+  one-by kinds.Word n e = sym word-flat.1
+  one-by kinds.Symbol n e = sym (doing-flat (symbol_effect (get_or ws 1 0) (number_at ws))).1
 
-  -- of the others
-  text-kind : (kind ≡ 1 → ⊥) → (kind ≡ 2 → ⊥) → (3 ≤ kind → kind ≤ 6 → ⊥)
-      → (is_brace deed ≡ false) × (counts deed ≡ length (part src (get_or ws 4 0) (get_or ws 5 0)))
-  text-kind a b n =
-      let t : Deed.tells (part src (get_or ws 4 0) (get_or ws 5 0)) ≡ deed =
-      kind-text rd src ws a b (λ e. n (omega arith) (omega arith)) (λ e. n (omega arith) (omega arith)) (λ e. n (omega arith) (omega arith)) (λ e. n (omega arith) (omega arith)) in
-      rw (← t) (refl, refl)
-
-  -- a brace by its kind, where no group is passed over
-  brace-kind : eqb kind 1 || eqb kind 2 ≡ is_brace deed
-  brace-kind = one (eqb kind 1) refl
-    where
-      more : (t : Bool) → leb 3 kind && leb kind 6 ≡ t → (kind ≡ 1 → ⊥) → (kind ≡ 2 → ⊥) → false ≡ is_brace deed
-      more true e a b = sym (flat-kind (leb-true 3 kind (and_left (leb 3 kind) (leb kind 6) e)) (leb-true kind 6 (and_right (leb 3 kind) (leb kind 6) e))).0
-      more false e a b = sym (text-kind a b (λ x y. true≢false (sym (rw (le-leb 3 kind x, le-leb kind 6 y)) ∙ e))).0
-
-      two : (t : Bool) → eqb kind 2 ≡ t → (kind ≡ 1 → ⊥) → t ≡ is_brace deed
-      two true e a = rw (← kind-close rd src ws (eqb-true kind 2 e)) refl
-      two false e a = more (leb 3 kind && leb kind 6) refl a (eqb-false kind 2 e)
-
-      one : (t : Bool) → eqb kind 1 ≡ t → t || eqb kind 2 ≡ is_brace deed
-      one true e = rw (← kind-open rd src ws (eqb-true kind 1 e)) refl
-      one false e = two (eqb kind 2) refl (eqb-false kind 1 e)
+  brace-kind : brace_of (kind_at ws) ≡ is_brace deed
+  brace-kind = brace-by (kind_at ws) ∙ ap is_brace (kind-deed rd src ws refl)
 
   -- a group that is passed over is a brace
   no-group : (m : ℕ) → is_brace (deed_at rd src ws m) ≡ false → m ≤ 0
@@ -264,28 +242,42 @@ module _ (rd : Reading) (src ws : List ℕ) where
   no-group (suc m) e = let t : ltb 0 (suc m) ≡ true = lt-ltb 0 (suc m) (omega arith) in absurd (true≢false (rw t at e))
 
   module _ (h : ℕ) (l : 0 < h → get_or ws 0 0 ≡ 1) where
-    pub brace-at : eqb (get_or ws 0 0) 1 || eqb (get_or ws 0 0) 2 ≡ is_brace (deed_at rd src ws h)
-    unfolding deed_at
+    brace-at : brace_of (kind_at ws) ≡ is_brace (deed_at rd src ws h)
+    unfolding deed_at brace_of
     brace-at = go (ltb 0 h) refl
       where
-        go : (t : Bool) → ltb 0 h ≡ t → eqb kind 1 || eqb kind 2 ≡ is_brace (cond t parts deed)
-        go true e = rw (eq-eqb kind 1 (l (ltb-true 0 h e))) refl
+        go : (t : Bool) → ltb 0 h ≡ t → brace_of (kind_at ws) ≡ is_brace (cond t parts deed)
+        go true e = rw (l (ltb-true 0 h e)) refl
         go false e = brace-kind
+
+    pub brace-yes : (kind_at ws ≡ kinds.Opening) ⊎ (kind_at ws ≡ kinds.Closing) → true ≡ is_brace (deed_at rd src ws h)
+    unfolding brace_of
+    brace-yes (inl e) = rw e at brace-at
+    brace-yes (inr e) = rw e at brace-at
+
+    pub brace-no : (kind_at ws ≡ kinds.Opening → ⊥) → (kind_at ws ≡ kinds.Closing → ⊥) → false ≡ is_brace (deed_at rd src ws h)
+    unfolding brace_of
+    brace-no o c = no (kind_at ws) o c ∙ brace-at
+      where
+        no : (k : Kind) → (k ≡ kinds.Opening → ⊥) → (k ≡ kinds.Closing → ⊥) → false ≡ brace_of k
+        no kinds.Text o c = refl
+        no kinds.Opening o c = absurd (o refl)
+        no kinds.Closing o c = absurd (c refl)
+        no kinds.LineBreak o c = refl
+        no kinds.Ignorable o c = refl
+        no kinds.Word o c = refl
+        no kinds.Symbol o c = refl
 
     module _ (n : is_brace (deed_at rd src ws h) ≡ false) where
       -- so no group is passed over
-      deed-here : deed ≡ deed_at rd src ws h
-      deed-here = at-token rd src ws h (no-group h n)
+      deed-here : {k : Kind} → kind_at ws ≡ k → by_kind rd src ws k ≡ deed_at rd src ws h
+      deed-here e = kind-deed rd src ws e ∙ at-token rd src ws h (no-group h n)
 
-      pub count-one : leb 3 (get_or ws 0 0) && leb (get_or ws 0 0) 6 ≡ true → 1 ≡ counts (deed_at rd src ws h)
-      count-one e = rw (← deed-here) (sym (flat-kind (leb-true 3 kind (and_left (leb 3 kind) (leb kind 6) e)) (leb-true kind 6 (and_right (leb 3 kind) (leb kind 6) e))).1)
+      pub count-one : (kind_at ws ≡ kinds.Text → ⊥) → 1 ≡ counts (deed_at rd src ws h)
+      count-one t = one-by (kind_at ws) t (brace-at ∙ n) ∙ ap counts (deed-here refl)
 
-      pub count-text : leb 3 (get_or ws 0 0) && leb (get_or ws 0 0) 6 ≡ false → length (part src (get_or ws 4 0) (get_or ws 5 0)) ≡ counts (deed_at rd src ws h)
-      count-text e =
-          let b : eqb kind 1 || eqb kind 2 ≡ false = brace-at ∙ n in
-          rw (← deed-here) (sym (text-kind (λ x. true≢false (sym (rw (eq-eqb kind 1 x)) ∙ or_left (eqb kind 1) (eqb kind 2) b))
-          (λ x. true≢false (sym (rw (eq-eqb kind 2 x)) ∙ or_right (eqb kind 1) (eqb kind 2) b))
-          (λ x y. true≢false (sym (rw (le-leb 3 kind x, le-leb kind 6 y)) ∙ e))).1)
+      pub count-text : kind_at ws ≡ kinds.Text → length (part src (get_or ws 4 0) (get_or ws 5 0)) ≡ counts (deed_at rd src ws h)
+      count-text e = ap counts (deed-here e)
 
 -- ---- a word or a symbol is no text
 
@@ -298,12 +290,9 @@ word-telling : (rd : Reading) (w : ℕ) (num : Option ℕ) (u : Bool) → is_tel
 word-telling rd w num true = refl
 word-telling rd w num false = doing-telling (effect rd w num)
 
-pub act-telling : (rd : Reading) (src ws : List ℕ) (h : ℕ) → h ≤ 0 → eqb (get_or ws 0 0) 5 || eqb (get_or ws 0 0) 6 ≡ true → is_telling (deed_at rd src ws h) ≡ false
-act-telling rd src ws h z k = rw (← at-token rd src ws h z) (go (eqb (get_or ws 0 0) 5) refl k)
-  where
-    go : (x : Bool) → eqb (get_or ws 0 0) 5 ≡ x → x || eqb (get_or ws 0 0) 6 ≡ true → is_telling (token_deed rd (shown_of src (item_at ws))) ≡ false
-    go true e k = rw (← kind-word rd src ws (eqb-true (get_or ws 0 0) 5 e)) (word-telling rd (get_or ws 1 0) (number_at ws) (eqb (get_or ws 1 0) 2))
-    go false e k = rw (← kind-symbol rd src ws (eqb-true (get_or ws 0 0) 6 k)) (doing-telling (symbol_effect (get_or ws 1 0) (number_at ws)))
+pub act-telling : (rd : Reading) (src ws : List ℕ) (h : ℕ) → h ≤ 0 → (kind_at ws ≡ kinds.Word) ⊎ (kind_at ws ≡ kinds.Symbol) → is_telling (deed_at rd src ws h) ≡ false
+act-telling rd src ws h z (inl e) = rw (← at-token rd src ws h z, ← kind-word rd src ws e) (word-telling rd (get_or ws 1 0) (number_at ws) (eqb (get_or ws 1 0) 2))
+act-telling rd src ws h z (inr e) = rw (← at-token rd src ws h z, ← kind-symbol rd src ws e) (doing-telling (symbol_effect (get_or ws 1 0) (number_at ws)))
 
 -- ---- no token is one that is passed over, by itself
 
@@ -336,11 +325,7 @@ never-passed rd src ws h = go (ltb 0 h)
 
 -- ---- the rest of a text
 
-pub kind-rest : (rd : Reading) (src ws : List ℕ) (h n : ℕ) → h ≤ 0 → (get_or ws 0 0 ≡ 1 → ⊥) → (get_or ws 0 0 ≡ 2 → ⊥) → (get_or ws 0 0 ≡ 3 → ⊥) → (get_or ws 0 0 ≡ 4 → ⊥)
-    → eqb (get_or ws 0 0) 5 || eqb (get_or ws 0 0) 6 ≡ false → is_passed (left n (deed_at rd src ws h)) ≡ false → {bs bytes : List ℕ} → bytes ≡ part src (get_or ws 4 0) (get_or ws 5 0)
-    → bs ≡ drop n bytes → Deed.tells bs ≡ left n (deed_at rd src ws h)
-kind-rest rd src ws h n z a b c d q p e f =
-    let k : ℕ = get_or ws 0 0 in
-    let t = kind-text rd src ws a b c d (λ x. true≢false (sym (rw (eq-eqb k 5 x)) ∙ or_left (eqb k 5) (eqb k 6) q))
-    (λ x. true≢false (sym (rw (eq-eqb k 6 x)) ∙ or_right (eqb k 5) (eqb k 6) q)) in
-    ap Deed.tells (f ∙ ap (drop n) e) ∙ left-told n (part src (get_or ws 4 0) (get_or ws 5 0)) (deed_at rd src ws h) (t ∙ at-token rd src ws h z) p
+pub kind-rest : (rd : Reading) (src ws : List ℕ) (h n : ℕ) → h ≤ 0 → kind_at ws ≡ kinds.Text → is_passed (left n (deed_at rd src ws h)) ≡ false
+    → {bs bytes : List ℕ} → bytes ≡ part src (get_or ws 4 0) (get_or ws 5 0) → bs ≡ drop n bytes → Deed.tells bs ≡ left n (deed_at rd src ws h)
+kind-rest rd src ws h n z t p e f =
+    ap Deed.tells (f ∙ ap (drop n) e) ∙ left-told n (part src (get_or ws 4 0) (get_or ws 5 0)) (deed_at rd src ws h) (kind-deed rd src ws t ∙ at-token rd src ws h z) p

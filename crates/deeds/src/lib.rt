@@ -21,7 +21,7 @@ ghost use Rattle.runs.specs.Runs.{steps_by};
 ghost use Rattle.deeds.specs.Deeds.{doing, symbol_effect};
 ghost use Rattle.deeds.specs.Turns.{deed_at, effect_at, turn_of, Turns};
 
-use crate::passing::passed_over;
+use crate::passing::{is_unit, passed_over};
 use crate::stack::{close, open};
 use answers::Why;
 use blocks::Page;
@@ -30,8 +30,8 @@ use runs::say::{character, lay};
 use runs::{end_run, unit};
 use settings::rows::{STATES, reset_painter, reset_paragraph, set_field, set_line};
 use settings::{Act, WIDTH, act_of};
-use tokens::item::{number_at, part};
-use tokens::words;
+use tokens::Kind;
+use tokens::item::{kind_at, number_at, part};
 use units::Run;
 use windows::character as windows_character;
 
@@ -53,11 +53,10 @@ fn act_at(reading: Reading, t: &[u32]) -> Act
     requires { token_words ≤ length t.now }
     ensures { (meaning result ≡ effect_at reading t.now) × Within result }
 {
-    let number = number_at(t);
-    if t[0] == 5 {
-        return act_of(reading, t[1], number);
+    match kind_at(t) {
+        Kind::Word => act_of(reading, t[1], number_at(t)),
+        _ => symbol(t[1], number_at(t)),
     }
-    symbol(t[1], number)
 }
 
 // A word but `u`, or a symbol, by what it does.
@@ -183,25 +182,20 @@ fn token(
     if 0 < h {
         return Ok(depth);
     }
-    let kind = t[0];
-    if (kind == 5) | (kind == 6) {
-        let a = act_at(reading, t);
-        return act(a, states, depth, page, blocks, text);
+    match kind_at(t) {
+        Kind::Opening => open(states, depth),
+        Kind::Closing => close(depth),
+        Kind::LineBreak => break_token(states, depth, page, blocks, text),
+        Kind::Ignorable => Err(Why::IgnorableInBody),
+        Kind::Text => {
+            let bytes = rest_of(part(source, t[4], t[5]), owed);
+            text_token(bytes, states, depth, page, blocks, text)
+        }
+        Kind::Word | Kind::Symbol => {
+            let a = act_at(reading, t);
+            act(a, states, depth, page, blocks, text)
+        }
     }
-    if kind == 1 {
-        return open(states, depth);
-    }
-    if kind == 2 {
-        return close(depth);
-    }
-    if kind == 3 {
-        return break_token(states, depth, page, blocks, text);
-    }
-    if kind == 4 {
-        return Err(Why::IgnorableInBody);
-    }
-    let bytes = rest_of(part(source, t[4], t[5]), owed);
-    text_token(bytes, states, depth, page, blocks, text)
 }
 
 // Any token, where the walk passes over h tokens behind it and `owed` characters are still to be passed over.
@@ -224,7 +218,7 @@ pub fn turn(
     if passed_over(source, t, owed) {
         return Ok(depth);
     }
-    if (t[0] == 5) & (t[1] == words::UNICODE) {
+    if is_unit(t) {
         return unit_token(
             reading,
             number_at(t),

@@ -6,7 +6,7 @@
 //   owed_behind   how many are still to be passed over behind it
 //
 // Nothing is owed in the readings of 01: there each of these is one comparison.
-ghost use Rattle.std.specs.Prelude.{◌≡◌, false, List, [], ℕ, ◌≤◌, ◌<◌, length, get_or};
+ghost use Rattle.std.specs.Prelude.{◌≡◌, false, List, [], ℕ, ◌≤◌, ◌<◌, length, get_or, eqb, ◌&&◌};
 ghost use Rattle.readings.specs.declared.Reading.{Reading as AnyReading};
 ghost use Rattle.tokens.specs.Tokens.{token_words};
 ghost use Rattle.machine.specs.Stack.{stack_limit, held};
@@ -18,15 +18,28 @@ use readings::Reading;
 use runs::owes;
 use settings::WIDTH;
 use settings::rows::STATES;
-use tokens::item::part;
-use tokens::words;
+use tokens::item::{kind_at, part};
+use tokens::{Kind, words};
+
+// Whether a token is a `u` word.
+pub fn is_unit(t: &[u32]) -> bool
+    requires { token_words ≤ length t.now }
+    ensures { result ≡ (eqb (get_or t.now 0 0) 5 && eqb (get_or t.now 1 0) 2) }
+{
+    match kind_at(t) {
+        Kind::Word => t[1] == words::UNICODE,
+        _ => false,
+    }
+}
 
 fn is_brace(t: &[u32]) -> bool
     requires { token_words ≤ length t.now }
     ensures { (rd : AnyReading) (src : List ℕ) (h : ℕ) → (0 < h → get_or t.now 0 0 ≡ 1) → result ≡ is_brace (deed_at rd src t.now h) }
 {
-    let kind = t[0];
-    (kind == 1) | (kind == 2)
+    match kind_at(t) {
+        Kind::Opening | Kind::Closing => true,
+        _ => false,
+    }
 }
 
 // Of a token that is no brace.
@@ -34,11 +47,10 @@ fn count_of(source: &[u8], t: &[u32]) -> usize
     requires { token_words ≤ length t.now }
     ensures { (rd : AnyReading) (h : ℕ) → (0 < h → get_or t.now 0 0 ≡ 1) → is_brace (deed_at rd source.now t.now h) ≡ false → result ≡ counts (deed_at rd source.now t.now h) }
 {
-    let kind = t[0];
-    if (3 <= kind) & (kind <= 6) {
-        return 1;
+    match kind_at(t) {
+        Kind::Text => part(source, t[4], t[5]).len(),
+        _ => 1,
     }
-    part(source, t[4], t[5]).len()
 }
 
 pub fn passed_over(source: &[u8], t: &[u32], owed: usize) -> bool
@@ -94,7 +106,7 @@ pub fn owed_behind(
     if 0 < owed {
         return owed_still(source, t, owed);
     }
-    if (t[0] == 5) & (t[1] == words::UNICODE) {
+    if is_unit(t) {
         return owes_at(reading, states, depth);
     }
     0

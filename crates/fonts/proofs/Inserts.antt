@@ -2,7 +2,6 @@
 --     front-whole, front_of    a room whose front is a table's records, as those and what stands behind
 --     table-ascends            the room's keys ascend where the table's do
 --     store-over, -full, -new  one law for each way through the code
---     over-fits                the record at a rank lies in the room
 -- Assumes nothing.
 use Rattle.std.proofs.Common.{◌≡◌, ℕ, zero, suc, ◌+◌, ◌*◌, ◌<◌, ◌≤◌, Bool, true, false, ◌||◌, eqb, ltb, List, [], ◌∷◌, ◌++◌, length, get_or, take, drop, sym, refl, ap, ◌∙◌, append_assoc, not-suc-le-zero, arith, length-append, length-drop, take-append-drop, length-take-le, drop-drop, le-ltb, lt-ltb, eq-eqb, ne_eqb}
 use lib.Seq.{sets, split_at, take-append_seam}
@@ -210,13 +209,3 @@ module _ {limit n : ℕ} {f : Row} {room : List ℕ} (pre : (n ≤ limit) × (li
   pub store-new : t ≡ false → n < limit → (room₁ room₂ : List ℕ) → room₁ ≡ shifted (r * font_words) (n * font_words) room → room₂ ≡ sets room₁ (r * font_words) (row_words f)
       → (fs : List Font) (g : Font) → StoredFont limit n f fs g room (Ok (n + 1)) room₂
   store-new b l room₁ room₂ w₁ w₂ fs g e h q = new b fs g e h q l room₁ room₂ w₁ w₂
-
--- the record at the rank lies in the room
-pub over-fits : {limit n : ℕ} {room : List ℕ} → (n ≤ limit) × (limit ≤ 256) × (limit * font_words ≤ length room) × Ascends n room
-    → (r key : ℕ) {t : Bool} → t ≡ stands n room r key → t ≡ true → r * font_words + font_words ≤ length room
-over-fits {limit} {n} {room} pre r key s b =
-    let y : (r < n) × (key_at room r ≡ key) = stands_here n room r key (sym s ∙ b) in
-    let l : r < n = y.0 in
-    let m : n ≤ limit = pre.0 in
-    let p : limit * font_words ≤ length room = pre.2 in
-    omega arith

@@ -1,18 +1,9 @@
 -- How many records a font room holds.
---     limit-few, -many   by how many there is room for
 --     limit-within       they lie in the room
 -- Assumes nothing.
-use Rattle.std.proofs.Common.{◌≡◌, ℕ, ◌*◌, ◌/◌, ◌<◌, ◌≤◌, Bool, true, false, cond, ltb, refl, arith, ltb-false, le-ltb, lt-ltb}
+use Rattle.std.proofs.Common.{◌≡◌, ℕ, ◌*◌, ◌/◌, ◌≤◌, Bool, true, false, cond, ltb, refl, arith, ltb-false}
 use Rattle.rooms.specs.Rooms.{table_limit, capacity}
 use Rattle.fonts.specs.Rows.{font_words}
-
-pub limit-few : (n : ℕ) → n / font_words < 256 → n / font_words ≡ table_limit font_words n
-unfolding table_limit
-limit-few n h = rw (lt-ltb (n / font_words) 256 h)
-
-pub limit-many : (n : ℕ) → 256 ≤ n / font_words → 256 ≡ table_limit font_words n
-unfolding table_limit
-limit-many n h = rw (le-ltb (n / font_words) 256 h)
 
 pub limit-within : (n : ℕ) → table_limit font_words n * font_words ≤ n
 unfolding table_limit

@@ -1,8 +1,8 @@
 -- A key's rank among the records of a room.
---     half-start, -low, -high, -end   the search that halves
+--     Half                       how far the search that halves has come
 --     stands_here, stands-apart  whether the record at a rank has the key, and what the others have
 -- Assumes nothing.
-use Rattle.std.proofs.Common.{◌≡◌, ℕ, ◌+◌, ◌*◌, ◌<◌, ◌≤◌, Bool, true, false, cond, eqb, ltb, List, length, sym, refl, ◌∙◌, arith, ltb-false, ltb-true, lt-ltb, eq-eqb, eqb-true}
+use Rattle.std.proofs.Common.{◌≡◌, ℕ, ◌*◌, ◌<◌, ◌≤◌, Bool, true, false, cond, eqb, ltb, List, length, sym, refl, ◌∙◌, arith, ltb-false, ltb-true, lt-ltb, eq-eqb, eqb-true}
 use mathlib.Core.Bool.{false≢true}
 use Rattle.fonts.specs.Rows.{key_at, Ascends, Rank, stands, font_words}
 
@@ -14,63 +14,6 @@ pub record Half (room : List ℕ) (n key low high : ℕ) : Type 0 where
   pub within : high ≤ n
   pub below : (i : ℕ) → i < low → key_at room i < key
   pub above : (i : ℕ) → high ≤ i → i < n → key ≤ key_at room i
-
-pub half-start : (room : List ℕ) (n key : ℕ) → (n * font_words ≤ length room) × (n ≤ 256) × Ascends n room → Half room n key 0 n
-half-start room n key h =
-    record {
-      long = h.0;
-      few = h.1;
-      ordered = omega arith;
-      within = omega arith;
-      below = λ i l. absurd (omega arith);
-      above = λ i l g. absurd (omega arith);
-    }
-
-module _ {room : List ℕ} {n key low high : ℕ} (h : Half room n key low high) where
-  module _ (up : Ascends n room) (m : ℕ) (a : low ≤ m) (b : m < high) where
-    pub half-low : key_at room m < key → Half room n key (m + 1) high
-    half-low l =
-        record {
-          long = h.long;
-          few = h.few;
-          ordered = omega arith;
-          within = h.within;
-          below = λ i k. go i k (ltb i m) refl;
-          above = h.above;
-        }
-      where
-        go : (i : ℕ) → i < m + 1 → (t : Bool) → ltb i m ≡ t → key_at room i < key
-        go i k true e =
-            let w : high ≤ n = h.within in
-            let u : key_at room i < key_at room m = up.up i m (ltb-true i m e) (omega arith) in
-            omega arith
-        go i k false e =
-            let q : i ≡ m = let g : m ≤ i = ltb-false i m e in omega arith in
-            rw q l
-
-    pub half_high : key ≤ key_at room m → Half room n key low m
-    half_high l =
-        record {
-          long = h.long;
-          few = h.few;
-          ordered = a;
-          within = let w : high ≤ n = h.within in omega arith;
-          below = h.below;
-          above = λ i k g. go i k g (ltb m i) refl;
-        }
-      where
-        go : (i : ℕ) → m ≤ i → i < n → (t : Bool) → ltb m i ≡ t → key ≤ key_at room i
-        go i k g true e =
-            let u : key_at room m < key_at room i = up.up m i (ltb-true m i e) g in
-            omega arith
-        go i k g false e =
-            let q : i ≡ m = let v : i ≤ m = ltb-false m i e in omega arith in
-            rw q l
-
-  pub half-end : high ≤ low → Rank n room key low
-  half-end g =
-      let q : low ≡ high = let o : low ≤ high = h.ordered in omega arith in
-      record { within = rw q h.within; below = h.below; above = λ i a b. h.above i (omega arith) b }
 
 module _ (n : ℕ) (room : List ℕ) (r key : ℕ) where
   -- the record of the key is there

@@ -1,10 +1,10 @@
 -- The loop over a group's tokens, in the terms of the code.
---     name-fits, name-told, named-empty, named-full   the name of a text
+--     name-fits       the length of a text's name
 --     effect-token    a token's effect, and then the room, is the definition's step
 --     effect-row      the code's new current font is the definition's
 --     loop-start, -set, -store, -full, -unnumbered, -end   one law for each way through the loop
 -- Assumes nothing.
-use Rattle.std.proofs.Common.{◌≡◌, ℕ, zero, suc, ◌-◌, ◌*◌, ◌<◌, ◌≤◌, Bool, true, false, cond, ◌||◌, eqb, ltb, List, [], ◌∷◌, length, take, sym, refl, ap, ◌∙◌, arith, length-take, length-take-le, eq-eqb, ne_eqb}
+use Rattle.std.proofs.Common.{◌≡◌, ℕ, zero, suc, ◌*◌, ◌<◌, ◌≤◌, Bool, true, false, cond, ◌||◌, eqb, ltb, List, [], ◌∷◌, length, take, sym, refl, ap, ◌∙◌, arith, length-take, length-take-le}
 use Rattle.answers.specs.declared.Why.TheVariants.{FontNumber, FontRoom}
 use Rattle.answers.specs.declared.Why.{Why}
 use Rattle.answers.specs.declared.Refusal.{Refusal}
@@ -19,7 +19,9 @@ use Rattle.tokens.specs.Tokens.{Token, token_words}
 use Rattle.tokens.specs.declared.item.Item.{Item}
 use Rattle.tokens.specs.declared.item.Item.TheVariants.{Text, Opening, Closing, LineBreak, Ignorable, Word, Unknown, Symbol}
 use Rattle.tokens.specs.Items.{part, item_at, shown_of, slice_at, tokens_all}
-use Rattle.tokens.proofs.Items.{rest, words-less, tokens_none, tokens-some}
+use Rattle.tokens.proofs.Items.{tokens_none}
+use Rattle.rooms.proofs.Chunks.{Chunk, chunk-words, left_none}
+use Rattle.tokens.proofs.Chunks.{chunk-tokens}
 use Rattle.fonts.specs.declared.rows.Font.{Font as Row}
 use Rattle.fonts.specs.declared.Effect.{Effect}
 use Rattle.fonts.specs.declared.Effect.TheVariants.{Set, Store, Unnumbered}
@@ -53,18 +55,6 @@ body-length f (b ∷ s) = go (f b) (body f s) (body-length f s)
 module _ (src : List ℕ) (p n : ℕ) {bytes : List ℕ} {m : ℕ} where
   pub name-fits : bytes ≡ part src p n → m ≤ length bytes → n < 4294967296 → m < 4294967296
   name-fits e h l = let k : length bytes ≤ n = rw e (part_length src p n) in omega arith
-
-  pub name-told : bytes ≡ part src p n → m ≡ body (in_class Semicolon) bytes → m ≡ body (in_class Semicolon) (part src p n)
-  name-told e h = h ∙ ap (body (in_class Semicolon)) e
-
-module _ (f : Row) (p : ℕ) (bs : List ℕ) {n : ℕ} (e : n ≡ body (in_class Semicolon) bs) where
-  pub named-empty : n ≡ 0 → record { key = f.key; place = 0; length = n } ≡ named_row f p bs
-  unfolding named_row
-  named-empty h = rw (← e, eq-eqb n 0 h)
-
-  pub named-full : (n ≡ 0 → ⊥) → record { key = f.key; place = p; length = n } ≡ named_row f p bs
-  unfolding named_row
-  named-full h = rw (← e, ne_eqb n 0 h)
 
 -- the definition's next current font
 abbrev numbered_font : Option ℕ → Font → Font
@@ -179,7 +169,6 @@ effect-row src (Symbol b num) f = refl
 pub record Loop (src tokens : List ℕ) (count : ℕ) (room₀ : List ℕ) (limit : ℕ) (room ws : List ℕ) (n : ℕ) (font : Row) (held : ℕ) : Type 0 where
   pub state : Fonts
   pub words : n * token_words ≤ length ws
-  pub few : n ≤ 65536
   pub long : length room ≡ length room₀
   pub limited : limit ≡ table_limit font_words (length room₀)
   pub fits : limit * font_words ≤ length room
@@ -189,15 +178,14 @@ pub record Loop (src tokens : List ℕ) (count : ℕ) (room₀ : List ℕ) (limi
   pub laid : room ≡ overlaid (table_words state.table) room₀
   pub left : fonts_from limit (found state) (tokens_all src n ws) ≡ fonts_from limit (found no_fonts) (tokens_all src count tokens)
 
-pub loop-start : (src tokens : List ℕ) (count : ℕ) (room : List ℕ) (limit : ℕ) → (count * token_words ≤ length tokens) × (count ≤ 65536)
+pub loop-start : (src tokens : List ℕ) (count : ℕ) (room : List ℕ) (limit : ℕ) → count * token_words ≤ length tokens
     → limit ≡ table_limit font_words (length room)
     → Loop src tokens count room limit room tokens count (record { key = 0; place = 0; length = 0 }) 0
 unfolding table_words
 loop-start src tokens count room limit h e =
     record {
       state = no_fonts;
-      words = h.0;
-      few = h.1;
+      words = h;
       long = refl;
       limited = e;
       fits = rw e (limit-within (length room));
@@ -222,9 +210,10 @@ module _ {src tokens : List ℕ} {count : ℕ} {room₀ : List ℕ} {limit : ℕ
       rw (← z) refl
 
   -- no token is left
-  pub loop-end : n ≤ 0 → ReadFonts (fonts (table_limit font_words (length room₀)) (tokens_all src count tokens)) room₀ (Ok held) room
+  pub loop-end : (0 < n → length ws < token_words) → ReadFonts (fonts (table_limit font_words (length room₀)) (tokens_all src count tokens)) room₀ (Ok held) room
   unfolding fonts_from
-  loop-end h =
+  loop-end f =
+      let h : n ≤ 0 = left_none token_words n ws l.words f in
       let e : found l.state ≡ fonts_from limit (found no_fonts) (tokens_all src count tokens) = rw (tokens_none src n ws h) at l.left in
       let z : found l.state.table ≡ fonts (table_limit font_words (length room₀)) (tokens_all src count tokens) = ended (found l.state) e in
       rw (← z) (ap Ok (sym l.size), l.laid)
@@ -241,22 +230,22 @@ module _ {src tokens : List ℕ} {count : ℕ} {room₀ : List ℕ} {limit : ℕ
     table-ascends l.state.table room held l.sound.up front l.size,
   )
 
-  module _ (h : 0 < n) {i : Item} (a : i ≡ item_at ws) {e : Effect} (b : e ≡ effect_of src i font) where
+  module _ {here more : List ℕ} {k : ℕ} (q : Chunk token_words ws n here more k) {i : Item} (a : i ≡ item_at here) {e : Effect} (b : e ≡ effect_of src i font) where
     effect-here : e ≡ effect_of src i (row l.state.font)
     effect-here = b ∙ ap (effect_of src i) l.same
 
-    turned : fonts_from limit (found_at (slice_at ws) (applied limit l.state (font_after src i l.state.font) e)) (tokens_all src (n - 1) (rest ws token_words))
+    turned : fonts_from limit (found_at (slice_at here) (applied limit l.state (font_after src i l.state.font) e)) (tokens_all src k more)
         ≡ fonts_from limit (found no_fonts) (tokens_all src count tokens)
     unfolding fonts_from
     turned =
-        let x : fonts_from limit (found_at (slice_at ws) (font_token limit (shown_of src (item_at ws)) l.state)) (tokens_all src (n - 1) (rest ws token_words))
+        let x : fonts_from limit (found_at (slice_at here) (font_token limit (shown_of src (item_at here)) l.state)) (tokens_all src k more)
         ≡ fonts_from limit (found no_fonts) (tokens_all src count tokens) =
-        rw (tokens-some src n ws h) at l.left in
-        let y : font_token limit (shown_of src (item_at ws)) l.state ≡ applied limit l.state (font_after src i l.state.font) e =
+        rw (chunk-tokens q src) at l.left in
+        let y : font_token limit (shown_of src (item_at here)) l.state ≡ applied limit l.state (font_after src i l.state.font) e =
         ap (λ (j : Item). font_token limit (shown_of src j) l.state) (sym a)
         ∙ effect-token limit src i l.state
         ∙ ap (applied limit l.state (font_after src i l.state.font)) (sym effect-here) in
-        ap (λ (z : Fate Fonts). fonts_from limit (found_at (slice_at ws) z) (tokens_all src (n - 1) (rest ws token_words))) (sym y) ∙ x
+        ap (λ (z : Fate Fonts). fonts_from limit (found_at (slice_at here) z) (tokens_all src k more)) (sym y) ∙ x
 
     leaves : Leaves (font_after src i l.state.font) e
     leaves = rw effect-here (effect-row src i l.state.font)
@@ -265,12 +254,11 @@ module _ {src tokens : List ℕ} {count : ℕ} {room₀ : List ℕ} {limit : ℕ
     sound-after = rw (effect-here, ← (effect-token limit src i l.state)) (sound-token limit (shown_of src i) l.state l.sound)
 
     -- a new current font
-    pub loop-set : (g : Row) → e ≡ Set g → Loop src tokens count room₀ limit room (rest ws token_words) (n - 1) g held
+    pub loop-set : (g : Row) → e ≡ Set g → Loop src tokens count room₀ limit room more k g held
     loop-set g x =
         record {
           state = record { table = l.state.table; font = font_after src i l.state.font };
-          words = words-less n ws l.words;
-          few = let f : n ≤ 65536 = l.few in omega arith;
+          words = chunk-words q l.words;
           long = l.long;
           limited = l.limited;
           fits = l.fits;
@@ -288,20 +276,20 @@ module _ {src tokens : List ℕ} {count : ℕ} {room₀ : List ℕ} {limit : ℕ
       answered = told l.state.table l.state.font l.size front l.same
 
       -- a refusal at the token's slice
-      module _ (why : Why) {r : Result ℕ Refusal} (y : r ≡ Err (refusal_at why (slice_at ws))) where
-        refused-here : fonts_from limit (refused (refusal_at why (slice_at ws))) (tokens_all src (n - 1) (rest ws token_words))
+      module _ (why : Why) {r : Result ℕ Refusal} (y : r ≡ Err (refusal_at why (slice_at here))) where
+        refused-here : fonts_from limit (refused (refusal_at why (slice_at here))) (tokens_all src k more)
             ≡ fonts_from limit (found no_fonts) (tokens_all src count tokens)
             → ReadFonts (fonts (table_limit font_words (length room₀)) (tokens_all src count tokens)) room₀ r room'
-        refused-here t = rw y (stopped (refusal_at why (slice_at ws)) (tokens_all src (n - 1) (rest ws token_words)) room' t)
+        refused-here t = rw y (stopped (refusal_at why (slice_at here)) (tokens_all src k more) room' t)
 
         pub loop-full : (g : Row) → e ≡ Store g → o ≡ Err why
             → ReadFonts (fonts (table_limit font_words (length room₀)) (tokens_all src count tokens)) room₀ r room'
         loop-full g x u = refused-here (go (stored limit l.state) (rw u at answered) (rw x at turned))
           where
             go : (z : Fate Fonts) → WroteFonts z room (Err why) room'
-                → fonts_from limit (found_at (slice_at ws) (then_font (font_after src i l.state.font) z)) (tokens_all src (n - 1) (rest ws token_words))
+                → fonts_from limit (found_at (slice_at here) (then_font (font_after src i l.state.font) z)) (tokens_all src k more)
                 ≡ fonts_from limit (found no_fonts) (tokens_all src count tokens)
-                → fonts_from limit (refused (refusal_at why (slice_at ws))) (tokens_all src (n - 1) (rest ws token_words))
+                → fonts_from limit (refused (refusal_at why (slice_at here))) (tokens_all src k more)
                 ≡ fonts_from limit (found no_fonts) (tokens_all src count tokens)
             go (becomes s) v t = absurd (ok_err (sym v.0))
             go (fails w) v t = let d : why ≡ w = cc in rw d t
@@ -311,29 +299,28 @@ module _ {src tokens : List ℕ} {count : ℕ} {room₀ : List ℕ} {limit : ℕ
         loop-unnumbered x u = refused-here (go (stored limit l.state) answered (rw x at turned))
           where
             go : (z : Fate Fonts) → WroteFonts z room o room'
-                → fonts_from limit (found_at (slice_at ws) (then_none z)) (tokens_all src (n - 1) (rest ws token_words))
+                → fonts_from limit (found_at (slice_at here) (then_none z)) (tokens_all src k more)
                 ≡ fonts_from limit (found no_fonts) (tokens_all src count tokens)
-                → fonts_from limit (refused (refusal_at why (slice_at ws))) (tokens_all src (n - 1) (rest ws token_words))
+                → fonts_from limit (refused (refusal_at why (slice_at here))) (tokens_all src k more)
                 ≡ fonts_from limit (found no_fonts) (tokens_all src count tokens)
             go (becomes s) v t = let d : why ≡ FontNumber = u ∙ ap unnumbered v.0 in rw d t
             go (fails w) v t = let d : why ≡ w = u ∙ ap unnumbered v in rw d t
 
-      pub loop-store : (g : Row) → e ≡ Store g → (m : ℕ) → o ≡ Ok m → Loop src tokens count room₀ limit room' (rest ws token_words) (n - 1) g m
+      pub loop-store : (g : Row) → e ≡ Store g → (m : ℕ) → o ≡ Ok m → Loop src tokens count room₀ limit room' more k g m
       loop-store g x m y = go (stored limit l.state) refl (rw y at answered) (rw x at turned) (rw x at sound-after)
         where
           go : (z : Fate Fonts) → stored limit l.state ≡ z → WroteFonts z room (Ok m) room'
-              → fonts_from limit (found_at (slice_at ws) (then_font (font_after src i l.state.font) z)) (tokens_all src (n - 1) (rest ws token_words))
+              → fonts_from limit (found_at (slice_at here) (then_font (font_after src i l.state.font) z)) (tokens_all src k more)
               ≡ fonts_from limit (found no_fonts) (tokens_all src count tokens)
               → SoundFate limit (then_font (font_after src i l.state.font) z)
-              → Loop src tokens count room₀ limit room' (rest ws token_words) (n - 1) g m
+              → Loop src tokens count room₀ limit room' more k g m
           go (becomes s) v r t u =
               let d : m ≡ length s.table = ok-same m (length s.table) r.0 in
               let w : length (table_words l.state.table) ≤ length (table_words s.table) =
               (let y = stored-longer limit l.state s v in let i = length-table l.state.table in let j = length-table s.table in omega arith) in
               record {
                 state = record { table = s.table; font = font_after src i l.state.font };
-                words = words-less n ws l.words;
-                few = let f : n ≤ 65536 = l.few in omega arith;
+                words = chunk-words q l.words;
                 long = kept ∙ l.long;
                 limited = l.limited;
                 fits = rw kept l.fits;

@@ -4,17 +4,15 @@
 //   Effect      what a token does: a new current font; the current one stored first; stored, and then no number
 //   key_of      a number as a key
 //   step        a token's effect
-//   refuse      a refusal at a token
 //   read_fonts  the whole table
 #![tactic(auto)]
 
 mod rows;
 
 ghost use Rattle.std.specs.Prelude.{◌≡◌, ◌*◌, ◌%◌, ◌≤◌, length};
-ghost use Rattle.answers.specs.Answers.{refusal_at};
 ghost use Rattle.classes.specs.declared.Class.TheVariants.{Semicolon};
 ghost use Rattle.classes.specs.Bytes.{in_class, body};
-ghost use Rattle.tokens.specs.Items.{part as part_of, slice_at, tokens_all};
+ghost use Rattle.tokens.specs.Items.{part as part_of, tokens_all};
 ghost use Rattle.rooms.specs.Rooms.{table_limit};
 ghost use Rattle.fonts.specs.Rows.{ReadFonts, font_words};
 ghost use Rattle.fonts.specs.Fonts.{fonts as fonts_of};
@@ -24,6 +22,7 @@ ghost use Rattle.tokens.specs.Tokens.{token_words};
 use crate::rows::{Font, store};
 use answers::{Refusal, Why};
 use classes::{Class, body_of};
+use rooms::table_limit;
 use tokens::item::{Item, item_at, part, slice_at};
 use tokens::{TOKEN_WORDS, words};
 
@@ -37,26 +36,11 @@ pub enum Effect {
     Unnumbered,
 }
 
-// How many records of three words a room of n words holds, and at most 256.
-fn limit_of(n: usize) -> usize
-    ensures { result ≡ table_limit font_words n }
-{
-    let whole = n / FONT_WORDS;
-    if whole < 256 {
-        return whole;
-    }
-    256
-}
-
-// A signed number modulo 65,536, as the crate's cast to u16: the magnitude of a negative number is subtracted from 0.
+// A signed number modulo 65,536, as the crate's cast to u16: a negative number stands as itself and 2^32.
 fn key_of(v: u32) -> u32
     ensures { result ≡ v % 65536 }
 {
-    if v < 2147483648 {
-        return v % 65536;
-    }
-    let magnitude = 4294967295 - v + 1;
-    std::num::wrapping_sub_u32(0, magnitude) % 65536
+    v % 65536
 }
 
 // The length of a text without the semicolons that it ends with.
@@ -69,21 +53,15 @@ fn name_length(source: &[u8], place: u32, count: u32) -> u32
 }
 
 // The font with a text for its name; the place of an empty name is 0.
+#[tactic(auto, unfolding(crate::specs::Effects::named_row))]
 fn named(source: &[u8], place: u32, count: u32, f: Font) -> Font
     ensures { result ≡ named_row f place (part_of source.now place count) }
 {
     let n = name_length(source, place, count);
-    if n == 0 {
-        return Font {
-            key: f.key,
-            place: 0,
-            length: n,
-        };
-    }
     Font {
-        key: f.key,
-        place: place,
+        place: if n == 0 { 0 } else { place },
         length: n,
+        ..f
     }
 }
 
@@ -93,14 +71,10 @@ fn numbered(number: Option<u32>, f: Font) -> Effect
 {
     match number {
         None => Effect::Unnumbered,
-        Some(v) => {
-            let key = key_of(v);
-            Effect::Store(Font {
-                key: key,
-                place: f.place,
-                length: f.length,
-            })
-        }
+        Some(v) => Effect::Store(Font {
+            key: key_of(v),
+            ..f
+        }),
     }
 }
 
@@ -120,16 +94,9 @@ fn step(source: &[u8], i: Item, f: Font) -> Effect
 {
     match i {
         Item::Word(w, number) => word_effect(w, number, f),
-        Item::Text(place, count) => {
-            let g = named(source, place, count, f);
-            Effect::Set(g)
-        }
+        Item::Text(place, count) => Effect::Set(named(source, place, count, f)),
         Item::Closing => Effect::Store(f),
-        Item::Opening => Effect::Set(f),
-        Item::LineBreak => Effect::Set(f),
-        Item::Ignorable => Effect::Set(f),
-        Item::Unknown(_, _, _) => Effect::Set(f),
-        Item::Symbol(_, _) => Effect::Set(f),
+        _ => Effect::Set(f),
     }
 }
 
@@ -143,15 +110,6 @@ fn unnumbered(o: Result<usize, Why>) -> Why
     }
 }
 
-// A refusal at the first token of a slice of words: it has the place of that token's slice (02, A4).
-fn refuse(here: &[u32], why: Why) -> Result<usize, Refusal>
-    requires { token_words ≤ length here.now }
-    ensures { result ≡ Err (refusal_at why (slice_at here.now)) }
-{
-    let place = slice_at(here);
-    Err(Refusal::at(why, place))
-}
-
 // Reads the table of a group's tokens, which starts anew.
 pub fn read_fonts(
     source: &[u8],
@@ -162,40 +120,26 @@ pub fn read_fonts(
     requires { (count * token_words ≤ length tokens.now) × (count ≤ 65536) }
     ensures { ReadFonts (fonts_of (table_limit font_words (length room.old)) (tokens_all source.now count tokens.now)) room.old result room.new }
 {
-    let limit = limit_of(room.len());
-    let mut t = tokens;
-    let mut n = count;
+    let limit = table_limit(room.len(), FONT_WORDS);
     let mut font = Font {
         key: 0,
         place: 0,
         length: 0,
     };
     let mut held: usize = 0;
-    while 0 < n {
-        let here = t;
-        let i = item_at(here);
-        let e = step(source, i, font);
-        t = &here[TOKEN_WORDS..];
-        n -= 1;
-        match e {
+    for here in tokens.chunks_exact(TOKEN_WORDS).take(count) {
+        match step(source, item_at(here), font) {
             Effect::Set(g) => {
                 font = g;
             }
             Effect::Store(g) => {
-                let o = store(room, held, font, limit);
-                match o {
-                    Ok(m) => {
-                        held = m;
-                        font = g;
-                    }
-                    Err(why) => {
-                        return refuse(here, why);
-                    }
-                }
+                let place = slice_at(here);
+                held = store(room, held, font, limit).map_err(|why| Refusal::at(why, place))?;
+                font = g;
             }
             Effect::Unnumbered => {
                 let last = store(room, held, font, limit);
-                return refuse(here, unnumbered(last));
+                return Err(Refusal::at(unnumbered(last), slice_at(here)));
             }
         }
     }

@@ -5,7 +5,7 @@
 //   store   puts a font in its place
 ghost use Rattle.std.specs.Prelude.{◌≡◌, ◌+◌, ◌*◌, ◌≤◌, List, length};
 ghost use Rattle.std.proofs.lemmas.List.Edits.{sets};
-ghost use Rattle.fonts.specs.Rows.{Font as Named, row_words, Ascends, Rank, stands as stands_of, shifted, StoredFont, font_words};
+ghost use Rattle.fonts.specs.Rows.{Font as Named, row_words, Ascends, Rank, stands as stands_of, StoredFont, font_words};
 
 use crate::FONT_WORDS;
 use answers::Why;
@@ -22,6 +22,7 @@ fn rank(room: &[u32], n: usize, key: u32) -> usize
     requires { (n * font_words ≤ length room.now) × (n ≤ 256) × Ascends n room.now }
     ensures { Rank n room.now key result }
 {
+    // A `while`: the library's halving searches go over items, not over words of which every third is a key.
     let mut low: usize = 0;
     let mut high = n;
     while low < high {
@@ -43,26 +44,7 @@ fn stands(room: &[u32], n: usize, r: usize, key: u32) -> bool
     requires { (n * font_words ≤ length room.now) × (n ≤ 256) }
     ensures { result ≡ stands_of n room.now r key }
 {
-    if r < n {
-        let at = r * FONT_WORDS;
-        let k = room[at];
-        return k == key;
-    }
-    false
-}
-
-// Moves the words between two places on by one record, the last one first.
-fn shift(room: &mut [u32], from: usize, to: usize)
-    requires { (from ≤ to) × (to + font_words ≤ length room.old) }
-    ensures { room.new ≡ shifted from to room.old }
-{
-    let mut i = to;
-    while from < i {
-        i -= 1;
-        let w = room[i];
-        let next = i + FONT_WORDS;
-        room[next] = w;
-    }
+    r < n && room[r * FONT_WORDS] == key
 }
 
 // Writes a font's record.
@@ -81,18 +63,16 @@ pub fn store(room: &mut [u32], n: usize, f: Font, limit: usize) -> Result<usize,
     requires { (n ≤ limit) × (limit ≤ 256) × (limit * font_words ≤ length room.old) × Ascends n room.old }
     ensures { (fs : List Named) (g : Named) → StoredFont limit n f fs g room.old result room.new }
 {
-    let key = f.key;
-    let r = rank(room, n, key);
+    let r = rank(room, n, f.key);
     let at = r * FONT_WORDS;
-    if stands(room, n, r, key) {
+    if stands(room, n, r, f.key) {
         put(room, at, f);
         return Ok(n);
     }
     if limit <= n {
         return Err(Why::FontRoom);
     }
-    let end = n * FONT_WORDS;
-    shift(room, at, end);
+    room.copy_within(at..n * FONT_WORDS, at + FONT_WORDS);
     put(room, at, f);
     Ok(n + 1)
 }

@@ -12,7 +12,7 @@ use Rattle.fonts.proofs.RowTables.{length-table}
 use Rattle.header.specs.declared.HeaderCounts.{HeaderCounts}
 use Rattle.header.specs.Entering.{Tables}
 use Rattle.header.specs.Header.{InFronts, ReadHeader, counted}
-use Rattle.std.specs.Prelude.{Result, Ok, Err}
+use Rattle.std.specs.Prelude.{Result, Err}
 use Rattle.rooms.proofs.Streams.{ok-same}
 
 read-refused : {A : Type 0} {f c : ℕ} {k : Refusal} → counted f c ≡ Err k → A
@@ -35,11 +35,6 @@ module _ (x : Found Tables) (r : Result HeaderCounts Refusal) (fs cs : List ℕ)
       go (refused q) g e = read-refused (sym e ∙ g)
 
 module _ (zf zc : ℕ) where
-  pub header_refused : (x : Found Tables) (r : Result HeaderCounts Refusal) (fs cs : List ℕ) → InFronts x r fs cs → {k : Refusal} → r ≡ Err k → (fs' cs' : List ℕ)
-      → ReadHeader x zf zc (Err k) fs' cs'
-  header_refused (found s) r fs cs h e fs' cs' = read-refused (sym h.0 ∙ e)
-  header_refused (refused q) r fs cs h e fs' cs' = sym e ∙ h
-
   pub header_read : (x : Found Tables) (r : Result HeaderCounts Refusal) (fs cs : List ℕ) → InFronts x r fs cs → {f c : ℕ} → r ≡ counted f c → (fs' cs' : List ℕ)
       → fs' ≡ take (f * font_words) fs ++ replicate (length fs - f * font_words) 0 → cs' ≡ take c cs ++ replicate (length cs - c) 0 → length fs ≡ zf → length cs ≡ zc
       → ReadHeader x zf zc (counted f c) fs' cs'

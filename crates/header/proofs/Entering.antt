@@ -1,7 +1,7 @@
 -- A group, by what its bracket begins.
---     opens-kind                            the test of a token's kind
---     late-fonts, fonts-read, fonts-bad     a font table: refused by 10, read, refused by its own
---     late-colours, colours-read, -bad      a colour table, the same
+--     opens-yes, -no                        whether a token is an opening bracket, by its kind
+--     fonts-read, fonts-bad                 a font table: read, refused by its own
+--     colours-read, -bad                    a colour table, the same
 --     enter-nothing, -hide, -fonts, -colours   what the bracket begins, one law for each
 -- Assumes nothing.
 use mathlib.Core.Path.{◌≡◌, refl, sym, ap, ◌∙◌}
@@ -9,17 +9,17 @@ use mathlib.Core.List.{List}
 use mathlib.Core.Bool.{Bool, true, false, cond}
 use Prim.Native.Nat.{ℕ, ◌*◌, ◌≤◌}
 use native.Mathlib.Omega.{arith}
-use borrow.Author.Tests.{eqb-true, eqb-false, ne_eqb}
 use lib.Dec.{eqb}
 use lib.ListN.{length, get_or, take}
-use Rattle.answers.specs.declared.Why.TheVariants.{TableLineBreak}
 use Rattle.answers.specs.declared.Refusal.{Refusal}
-use Rattle.answers.specs.Answers.{refusal_at, Found, found, refused}
+use Rattle.answers.specs.Answers.{Found, found, refused}
 use Rattle.rooms.proofs.Streams.{ok_err}
 use Rattle.tokens.specs.Tokens.{Token, token_words, shown_by}
-use Rattle.tokens.specs.declared.item.Item.TheVariants.{Text, Closing, LineBreak, Ignorable, Word, Unknown, Symbol}
-use Rattle.tokens.specs.Items.{property_of, item_of, item_at, shown_all, tokens_all}
-use Rattle.tokens.proofs.Items.{item-opening, tokens-take, tokens-shown}
+use Rattle.tokens.specs.declared.item.Item.TheVariants.{Word, Unknown}
+use Rattle.tokens.specs.declared.Kind.{Kind}
+use Rattle.tokens.specs.declared.Kind.TheVariants as kinds
+use Rattle.tokens.specs.Items.{kind_at, number_at, item_at, shown_all, tokens_all}
+use Rattle.tokens.proofs.Items.{item_by, item-by-kind, tokens-take, tokens-shown}
 use Rattle.rooms.proofs.Clearing.{overlaid-front}
 use Rattle.fonts.specs.Rows.{Font, table_words, ReadFonts}
 use Rattle.fonts.specs.Fonts.{fonts}
@@ -34,33 +34,24 @@ use Rattle.header.specs.Entering.{opens, Holds, passed, FontsMet, ColoursMet, Me
 use Rattle.std.specs.Prelude.{Result, Ok, Err, Option}
 
 module _ (ws : List ℕ) where
-  opens-yes : get_or ws 0 0 ≡ 1 → true ≡ opens (item_at ws)
-  opens-yes e = ap opens (item-opening ws e)
+  pub opens-yes : kind_at ws ≡ kinds.Opening → true ≡ opens (item_at ws)
+  opens-yes e = ap opens (item-by-kind ws e)
 
-  opens-no : (get_or ws 0 0 ≡ 1 → ⊥) → false ≡ opens (item_at ws)
-  unfolding item_at item_of
-  opens-no h =
-      rw (ne_eqb _ 1 h)
-      (go (eqb (get_or ws 0 0) 2) (eqb (get_or ws 0 0) 3) (eqb (get_or ws 0 0) 4) (eqb (get_or ws 0 0) 5) (eqb (get_or ws 1 0) 49) (eqb (get_or ws 0 0) 6)
-      (property_of (get_or ws 2 0) (get_or ws 3 0)))
+  pub opens-no : (kind_at ws ≡ kinds.Opening → ⊥) → false ≡ opens (item_at ws)
+  opens-no h = go (kind_at ws) h ∙ ap opens (item-by-kind ws refl)
     where
-      go : (b c d e u f : Bool) (num : Option ℕ)
-          → false ≡ opens (cond b Closing (cond c LineBreak (cond d Ignorable
-          (cond e (cond u (Unknown (get_or ws 4 0) (get_or ws 5 0) num) (Word (get_or ws 1 0) num)) (cond f (Symbol (get_or ws 1 0) num) (Text (get_or ws 4 0) (get_or ws 5 0)))))))
-      go true c d e u f num = refl
-      go false true d e u f num = refl
-      go false false true e u f num = refl
-      go false false false true true f num = refl
-      go false false false true false f num = refl
-      go false false false false u true num = refl
-      go false false false false u false num = refl
+      word : (u : Bool) (p n : ℕ) (num : Option ℕ) → false ≡ opens (cond u (Unknown p n num) (Word (get_or ws 1 0) num))
+      word true p n num = refl
+      word false p n num = refl
 
-  pub opens-kind : eqb (get_or ws 0 0) 1 ≡ opens (item_at ws)
-  opens-kind = go (eqb (get_or ws 0 0) 1) refl
-    where
-      go : (t : Bool) → eqb (get_or ws 0 0) 1 ≡ t → t ≡ opens (item_at ws)
-      go true e = opens-yes (eqb-true (get_or ws 0 0) 1 e)
-      go false e = opens-no (eqb-false (get_or ws 0 0) 1 e)
+      go : (k : Kind) → (k ≡ kinds.Opening → ⊥) → false ≡ opens (item_by k ws)
+      go kinds.Text n = refl
+      go kinds.Opening n = absurd (n refl)
+      go kinds.Closing n = refl
+      go kinds.LineBreak n = refl
+      go kinds.Ignorable n = refl
+      go kinds.Word n = word (eqb (get_or ws 1 0) 49) (get_or ws 4 0) (get_or ws 5 0) (number_at ws)
+      go kinds.Symbol n = refl
 
 done-done : (n m : ℕ) → ◌≡◌ {A = Result ℕ Refusal} (Ok n) (Ok m) → n ≡ m
 done-done n m e = cc
@@ -77,14 +68,6 @@ group-words : (src t : List ℕ) (n : ℕ) {h : ℕ} → h ≡ extent 1 (shown_a
 group-words src t n {h} e l = sym (tokens-take src h n t l) ∙ ap (λ (k : ℕ). take k (tokens_all src n t)) (group-length src t n e)
 
 module _ (src t : List ℕ) (n : ℕ) {late : Bool} (limit held : ℕ) (room : List ℕ) where
-  pub late-fonts : late ≡ true → {p : ℕ} {q : Refusal} → p ≡ table_word (tokens_all src n t) → q ≡ refusal_at TableLineBreak p
-      → FontsMet late (table_word (tokens_all src n t)) (fonts limit (group (tokens_all src n t))) held (extent 1 (shown_by (tokens_all src n t))) (Err q) room × (0 ≤ n)
-  late-fonts l d e = (rw (l, ← d) (ap Err e), omega arith)
-
-  pub late-colours : late ≡ true → {p : ℕ} {q : Refusal} → p ≡ table_word (tokens_all src n t) → q ≡ refusal_at TableLineBreak p
-      → ColoursMet late (table_word (tokens_all src n t)) (colours limit (group (tokens_all src n t))) held (extent 1 (shown_by (tokens_all src n t))) (Err q) room
-  late-colours l d e = rw (l, ← d) (ap Err e)
-
   module _ (l : late ≡ false) {h : ℕ} (a : h ≡ extent 1 (shown_all src n t)) (b : h ≤ n) (o : Result ℕ Refusal) where
     module _ (room₀ : List ℕ) (r : ReadFonts (fonts limit (tokens_all src h (take (h * token_words) t))) room₀ o room) where
       fonts-told : ReadFonts (fonts limit (group (tokens_all src n t))) room₀ o room

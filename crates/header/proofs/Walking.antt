@@ -1,6 +1,4 @@
 -- The loop over a letter's tokens, in the terms of the code.
---     walking-ready                           what entering a group asks
---     on-within, on-small, on-words           the tokens that are passed over are there
 --     walking_start, -stay, -on, -bad, -end   one law for each way through the loop
 -- Assumes nothing.
 use mathlib.Core.Path.{◌≡◌, refl, sym, ap, ◌∙◌}
@@ -26,7 +24,7 @@ use Rattle.header.specs.Header.{no_tables, tables_from, tables, InFronts, counte
 use Rattle.header.specs.Entering.{opens, Holds, passed, Met, Enters}
 use Rattle.header.proofs.Tables.{tables-refused}
 use Rattle.colours.specs.Colours.{colour_words}
-use Rattle.std.specs.Prelude.{Result, Ok, Err}
+use Rattle.std.specs.Prelude.{Result, Err}
 use Rattle.rooms.proofs.Streams.{ok-same}
 
 -- what the whole letter gives
@@ -137,10 +135,6 @@ module _ {src tokens : List ℕ} {count : ℕ} {fonts₀ colours₀ fs cs t : Li
     unfolding tables_from
     one_on i e = rw (← e) (rw (tokens-some src n t z, walk-one (token_at src t) (behind src n t)) at w.left)
 
-    -- what entering asks
-    pub walking-ready : ((n - 1) * token_words ≤ length (rest t token_words)) × (n - 1 ≤ 65536)
-    walking-ready = (words-less n t w.words, let k : n ≤ 65536 = w.few in omega arith)
-
     -- a token that is no opening bracket
     pub walking-stay : b ≡ false → Walking src tokens count fonts₀ colours₀ fs cs (rest t token_words) (n - 1) nf nc
     walking-stay e =
@@ -158,14 +152,8 @@ module _ {src tokens : List ℕ} {count : ℕ} {fonts₀ colours₀ fs cs t : Li
     module _ (y : b ≡ true) (r : Result Entered Refusal) (fs' cs' : List ℕ)
         (m : Enters (table_limit font_words (length fs)) (table_limit colour_words (length cs)) (behind src n t) nf nc fs cs r fs' cs' × (passed r ≤ n - 1)) where
       module _ {f c h : ℕ} (e : r ≡ onto f c h) where
-        pub on-within : h ≤ n - 1
+        on-within : h ≤ n - 1
         on-within = rw e at m.1
-
-        pub on-small : h ≤ 65536
-        on-small = let k : n ≤ 65536 = w.few in let l : h ≤ n - 1 = on-within in omega arith
-
-        pub on-words : h * token_words ≤ length (rest t token_words)
-        on-words = let k : (n - 1) * token_words ≤ length (rest t token_words) = words-less n t w.words in let l : h ≤ n - 1 = on-within in omega arith
 
       into : onward fonts₀ colours₀ (group_step fonts₀ colours₀ (token_by src t Opening) (behind src n t) w.state) (drop (group_length (behind src n t)) (behind src n t))
           ≡ whole src tokens count fonts₀ colours₀

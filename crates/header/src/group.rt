@@ -18,7 +18,8 @@ ghost use Rattle.fonts.specs.Rows.{font_words};
 use answers::{Refusal, Why};
 use colours::read_colours;
 use fonts::read_fonts;
-use tokens::TOKEN_WORDS;
+use tokens::item::kind_at;
+use tokens::{Kind, TOKEN_WORDS};
 use walk::{Aim, aim_of, extent, table_word};
 
 #[derive(Clone, Copy)]
@@ -33,7 +34,10 @@ pub fn is_opening(t: &[u32]) -> bool
     requires { token_words ≤ length t.now }
     ensures { result ≡ opens (item_at t.now) }
 {
-    t[0] == 1
+    match kind_at(t) {
+        Kind::Opening => true,
+        _ => false,
+    }
 }
 
 // Reads the font table that stands behind a bracket, n tokens before the end, where there are `colours` colours.

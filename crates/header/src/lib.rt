@@ -41,6 +41,7 @@ fn walk_tables(
     let mut n = count;
     let mut held_fonts: usize = 0;
     let mut held_colours: usize = 0;
+    // A `while`: a table's tokens are passed over at once.
     while 0 < n {
         let opening = is_opening(t);
         t = &t[TOKEN_WORDS..];

@@ -12,6 +12,7 @@ pub fn fill<R: Read + Drop>(mut from: R, room: &mut [u8]) -> io::Result<usize>
     ensures first { IfOk result (λ n. IfSome (R.remaining from) (λ xs. take n room.new ≡ take (length room.new) xs)) }
 {
     let mut at = 0;
+    // A `while`: a read tells how far it came.
     while at < room.len() {
         match from.read(&mut room[at..])? {
             0 => return Ok(at),

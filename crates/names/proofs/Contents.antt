@@ -19,7 +19,7 @@ use lib.Dec.{eqb, leb, ltb}
 use Rattle.classes.specs.Bytes.{is_letter}
 use Rattle.classes.proofs.Runs.{and_left, and_right}
 use Rattle.names.specs.Names.{names, same_bytes, place_in, word_number, name_of, run, bounds_from, first_with, behind, links, heads, rows}
-use Rattle.names.proofs.Names.{same-bytes-eq}
+use Rattle.names.proofs.Numbers.{same-bytes-eq}
 
 -- a test holds of all numbers below n
 unfoldable below : (ℕ → Bool) → ℕ → Bool

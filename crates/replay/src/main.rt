@@ -60,6 +60,7 @@ fn replay(rt: &impl Print, list: &[u8]) -> io::Result<Tally> {
     let mut rest = list;
     let mut answers: usize = 0;
     let mut differ: usize = 0;
+    // A `loop`: an answer tells where the next one stands.
     loop {
         let answer = match next(rest) {
             Ok(answer) => answer,

@@ -62,7 +62,7 @@ fn lay_values(
     lay_value(states, d, g.value, page, blocks, text)
 }
 
-// A step of the run, by the reading.
+// A step of the run, by the reading. A test of the reading, which is the host's number, is plainer here than a closure.
 fn step_by(reading: Reading, skip: u32, run: Run, number: Option<u32>) -> Gave
     ensures { result ≡ step_by reading skip run number }
 {
@@ -72,7 +72,7 @@ fn step_by(reading: Reading, skip: u32, run: Run, number: Option<u32>) -> Gave
     step(skip, run, number)
 }
 
-// How many characters are passed over behind a `u` word, where the skip count is `skip`.
+// How many characters are passed over behind a `u` word, where the skip count is `skip`. A test of the reading, as above.
 fn owed_by(reading: Reading, skip: u32) -> usize
     ensures { result ≡ owed_by reading skip }
 {

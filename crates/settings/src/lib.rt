@@ -211,6 +211,7 @@ impl State {
 }
 
 // A flag's number: on only for 1; by the specification, for any but 0.
+// A test of the reading, which is the host's number, is plainer here than a closure.
 fn flag_by(reading: Reading, v: u32) -> u32
     ensures { result ≡ flag_by reading v }
 {

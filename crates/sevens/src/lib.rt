@@ -75,6 +75,7 @@ pub fn put_number(v: u32, room: &mut [u8], n: usize) -> usize
 {
     let mut rest = v;
     let mut at = n;
+    // A `while`: what is left of the number tells how far it goes.
     while 128 <= rest {
         let b = ((rest & 127) | 128) as u8;
         put_byte(room, at, b);

@@ -132,6 +132,7 @@ fn standard_end(s: &[u8]) -> usize
     ensures some { 0 < length s.now → 0 < result }
 {
     let mut i = standard_from(s);
+    // A `while`, for the same reason.
     while let Some(eight) = s[i..].first_chunk() {
         let marks = starts_of(eight);
         if marks != 0 {
@@ -143,7 +144,7 @@ fn standard_end(s: &[u8]) -> usize
 }
 
 // The length of the first slice by the reading. One call of `slice_end` and one of `standard_end`, so that the compiler lays them
-// into the cutter's loop.
+// into the cutter's loop; a closure would make that one call of either.
 pub fn slice_end_by(reading: Reading, s: &[u8]) -> usize
     ensures length { result ≡ length_by reading s.now }
     ensures within { result ≤ length s.now }

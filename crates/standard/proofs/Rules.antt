@@ -16,12 +16,16 @@ use Rattle.classes.specs.Bytes.{is_alpha, in_class, lead}
 use Rattle.classes.proofs.Runs.{or_left, or_right}
 use Rattle.numbers.specs.Numbers.{hex_pair, decimal}
 use Rattle.rooms.specs.Streams.{Stream, end, stop, ◌▸◌, and_then}
+use Rattle.tokens.specs.declared.Kind.TheVariants as kinds
 use Rattle.tokens.specs.declared.Record.{Record}
 use Rattle.tokens.specs.Tokens.{Shown, bare_record, symbol_record, record_of}
 use Rattle.tokens.proofs.Records.{symbol-record, ignorable-record, opening-record, closing-record}
 use Rattle.controls.specs.Controls.{shown_word, numbered}
 use Rattle.standard.specs.Standard.{leads, tail, is_escape, number_from, number_length, named, word, hex_value, hex_escape, break_length, line_break_and, symbol_of, bracket_of, escaped, tokens}
-use Rattle.std.specs.Prelude.{Option, Some, None}
+use Rattle.std.specs.Prelude.{Option, Some, None, option_copied, slice_get}
+use Rattle.std.specs.Option.{option_eq}
+use denote.Bor.{Bor}
+use mir.Val.{bool_byte}
 
 -- the bytes from a place on, as the code has them
 abbrev pub part : ℕ → List ℕ → List ℕ
@@ -31,20 +35,28 @@ pub part-drop : (k : ℕ) (s : List ℕ) → part k s ≡ drop k s
 part-drop k s = take_all (length s - k) (drop k s) (simp length-drop (omega arith))
 
 -- a byte in front
-pub leads-none : (b : ℕ) (s : List ℕ) → length s ≡ 0 → 0 ≡ leads b s
+pub leads-first : (b : ℕ) (s : List ℕ) (o : Option (Bor ℕ)) (p : Bor ℕ) → option_copied o ≡ slice_get s 0 → p.now ≡ b
+    → bool_byte (option_eq (λ (x y : Bor ℕ). eqb x.now y.now) o (Some p)) ≡ leads b s
 unfolding leads
-leads-none b [] h = refl
-leads-none b (c ∷ s) h = absurd (omega arith)
+leads-first b [] None p e q = refl
+leads-first b [] (Some x) p e q = absurd (cc)
+leads-first b (c ∷ s) None p e q = absurd (cc)
+leads-first b (c ∷ s) (Some x) p e q =
+    let h : x.now ≡ c = cc in
+    rw (h, q) (go (eqb c b))
+  where
+    go : (t : Bool) → bool_byte t ≡ cond t 1 0
+    go true = refl
+    go false = refl
 
-pub leads_one : (b : ℕ) (s : List ℕ) → (length s ≡ 0 → ⊥) → get_or s 0 0 ≡ b → 1 ≡ leads b s
+pub leads-within : (b : ℕ) (s : List ℕ) → leads b s ≤ length s
 unfolding leads
-leads_one b [] z e = absurd (z refl)
-leads_one b (c ∷ s) z e = rw (eq-eqb c b e)
-
-pub leads-other : (b : ℕ) (s : List ℕ) → (length s ≡ 0 → ⊥) → (get_or s 0 0 ≡ b → ⊥) → 0 ≡ leads b s
-unfolding leads
-leads-other b [] z f = refl
-leads-other b (c ∷ s) z f = rw (ne_eqb c b f)
+leads-within b [] = omega arith
+leads-within b (c ∷ s) = go (eqb c b)
+  where
+    go : (t : Bool) → cond t 1 0 ≤ suc (length s)
+    go true = omega arith
+    go false = omega arith
 
 -- a number's bytes
 module _ (s : List ℕ) (m d : ℕ) (p : m ≡ leads 45 s) (q : d ≡ lead (in_class Digit) (part m s)) where
@@ -136,7 +148,7 @@ module _ (p b : ℕ) (s : List ℕ) where
 
 -- the record of a symbol or a bracket, by its byte
 module _ {r : Record} (b : ℕ) where
-  pub symbol-mark : b ≡ 42 → r ≡ bare_record 4 → r ≡ record_of (symbol_of b)
+  pub symbol-mark : b ≡ 42 → r ≡ bare_record kinds.Ignorable → r ≡ record_of (symbol_of b)
   unfolding symbol_of
   symbol-mark e h = rw (eq-eqb b 42 e) (ignorable-record h)
 
@@ -144,11 +156,11 @@ module _ {r : Record} (b : ℕ) where
   unfolding symbol_of
   symbol-other f h = rw (ne_eqb b 42 f) (symbol-record b None h)
 
-  pub bracket-opening : b ≡ 123 → r ≡ bare_record 1 → r ≡ record_of (bracket_of b)
+  pub bracket-opening : b ≡ 123 → r ≡ bare_record kinds.Opening → r ≡ record_of (bracket_of b)
   unfolding bracket_of
   bracket-opening e h = rw (eq-eqb b 123 e) (opening-record h)
 
-  pub bracket-closing : (b ≡ 123 → ⊥) → r ≡ bare_record 2 → r ≡ record_of (bracket_of b)
+  pub bracket-closing : (b ≡ 123 → ⊥) → r ≡ bare_record kinds.Closing → r ≡ record_of (bracket_of b)
   unfolding bracket_of
   bracket-closing f h = rw (ne_eqb b 123 f) (closing-record h)
 

@@ -1,6 +1,6 @@
 -- 02, A1: the tokens of one slice in standard reading, rule by rule. A slice stands at place p of the source. Where a rule speaks of what
 -- follows a backslash, p is the backslash's place. Assumes nothing: these are definitions.
-use Rattle.std.specs.Prelude.{ℕ, zero, suc, ◌+◌, List, [], ◌∷◌, Bool, cond, ◌||◌, take, drop, eqb}
+use Rattle.std.specs.Prelude.{ℕ, zero, suc, ◌+◌, List, [], ◌∷◌, cond, ◌||◌, take, drop, eqb}
 use Rattle.answers.specs.declared.Why.{Why}
 use Rattle.answers.specs.declared.Why.TheVariants.{HexShort, HexBad}
 use Rattle.classes.specs.declared.Class.TheVariants.{Alpha, Digit}
@@ -9,6 +9,7 @@ use Rattle.numbers.specs.Numbers.{hex_pair, decimal}
 use Rattle.rooms.specs.Streams.{Stream, end, stop, ◌▸◌, and_then}
 use Rattle.tokens.specs.Tokens.{Shown}
 use Rattle.controls.specs.Controls.{shown_word, numbered}
+pub use Rattle.controls.specs.Controls.{is_escape}
 use Rattle.std.specs.Prelude.{Option, Some, None}
 
 -- 1 if a byte stands in front, else 0
@@ -20,10 +21,6 @@ leads b (c ∷ s) = cond (eqb c b) 1 0
 unfoldable pub tail : ℕ → List ℕ → Stream Why Shown
 tail p [] = end
 tail p (b ∷ s) = Shown.text p (b ∷ s) ▸ end
-
--- "`\{ \} \\`"
-abbrev pub is_escape : ℕ → Bool
-is_escape b = (eqb b 123 || eqb b 125) || eqb b 92
 
 -- "then an optional number: one minus sign or none, and digits (a minus sign without a digit is text, a plus sign too)": how many bytes it
 -- has, where m of them are its sign

@@ -14,31 +14,23 @@
 ghost use Rattle.std.specs.Prelude.{◌≡◌, ◌+◌, ◌≤◌, length};
 ghost use Rattle.classes.specs.declared.Class.TheVariants.{Alpha};
 ghost use Rattle.classes.specs.Bytes.{in_class, lead};
-ghost use Rattle.names.specs.Names.{rows};
 ghost use Rattle.rooms.specs.Rooms.{Wrote};
 ghost use Rattle.tokens.specs.Tokens.{shown_layout, record_of};
-ghost use Rattle.standard.specs.Standard.{leads as leads_of, tail as tail_of, is_escape, number_length, named as named_of, word as word_of, hex_escape, break_length, line_break_and, symbol_of, bracket_of, escaped as escaped_of, tokens as tokens_of};
+ghost use Rattle.standard.specs.Standard.{leads as leads_of, tail as tail_of, number_length, named as named_of, word as word_of, hex_escape, break_length, line_break_and, symbol_of, bracket_of, escaped as escaped_of, tokens as tokens_of};
 
 use answers::Why;
 use classes::{Class, is_alpha, lead_of};
-use controls::{numbered_word, word_record};
-use names::Table;
+use controls::{is_escape, numbered_word, word_record};
+use names::Names;
 use numbers::hex_pair;
-use tokens::{Record, put};
-
-// `{`, `}` or `\`, which a backslash makes plain text.
-fn is_escape(b: u8) -> bool
-    ensures { result ≡ is_escape b }
-{
-    (b == b'{') | (b == b'}') | (b == b'\\')
-}
+use tokens::{Kind, Record, put};
 
 // The record of a symbol's byte; `*` is the mark.
 fn symbol(b: u8) -> Record
     ensures { result ≡ record_of (symbol_of b) }
 {
     if b == b'*' {
-        return Record::bare(4);
+        return Record::bare(Kind::Ignorable);
     }
     Record::symbol(b as u32, None)
 }
@@ -48,37 +40,23 @@ fn bracket(b: u8) -> Record
     ensures { result ≡ record_of (bracket_of b) }
 {
     if b == b'{' {
-        return Record::bare(1);
+        return Record::bare(Kind::Opening);
     }
-    Record::bare(2)
+    Record::bare(Kind::Closing)
 }
 
 // 1 if b stands in front, else 0.
 fn leads(s: &[u8], b: u8) -> usize
     ensures { (result ≡ leads_of b s.now) × (result ≤ length s.now) }
 {
-    if s.len() == 0 {
-        return 0;
-    }
-    if s[0] == b {
-        return 1;
-    }
-    0
+    usize::from(s.first() == Some(&b))
 }
 
-// How many letters stand in front. A loop of its own, since the class is then known in it.
+// How many letters stand in front. A chain of its own, since the class is then known in it.
 fn letters_of(s: &[u8]) -> usize
     ensures { (result ≡ lead (in_class Alpha) s.now) × (result ≤ length s.now) }
 {
-    let mut i = 0;
-    while i < s.len() {
-        let b = s[i];
-        if !is_alpha(b) {
-            return i;
-        }
-        i += 1;
-    }
-    i
+    s.iter().take_while(|b| is_alpha(**b)).count()
 }
 
 // How many bytes the number in front has: a minus sign counts if a digit stands behind it.
@@ -110,11 +88,11 @@ fn named(
     name: &[u8],
     digits: &[u8],
     place: usize,
-    names: &Table,
+    names: &Names,
     room: &mut [u32],
     n: usize,
 ) -> Result<usize, Why>
-    requires { (place + (1 + length name.now) ≤ 65536) × (n ≤ place) × (names.now ≡ rows) }
+    requires { (place + (1 + length name.now) ≤ 65536) × (n ≤ place) }
     ensures { Wrote shown_layout n room.old (named_of place name.now digits.now) result room.new }
 {
     if digits.len() == 0 {
@@ -125,8 +103,8 @@ fn named(
 }
 
 // A word and the text behind it; s follows the backslash at `place`. One space belongs to the word, and no other white space.
-fn word(s: &[u8], place: usize, names: &Table, room: &mut [u32], n: usize) -> Result<usize, Why>
-    requires { (place + (1 + length s.now) ≤ 65536) × (n ≤ place) × (names.now ≡ rows) }
+fn word(s: &[u8], place: usize, names: &Names, room: &mut [u32], n: usize) -> Result<usize, Why>
+    requires { (place + (1 + length s.now) ≤ 65536) × (n ≤ place) }
     ensures { Wrote shown_layout n room.old (word_of place s.now) result room.new }
 {
     let k = letters_of(s);
@@ -154,7 +132,7 @@ fn line_break(b: u8, s: &[u8], place: usize, room: &mut [u32], n: usize) -> Resu
     requires { (place + (2 + length s.now) ≤ 65536) × (n ≤ place) }
     ensures { Wrote shown_layout n room.old (line_break_and place (break_length b s.now) s.now) result room.new }
 {
-    put(room, n, Record::bare(3));
+    put(room, n, Record::bare(Kind::LineBreak));
     if b == b'\r' {
         let k = leads(s, b'\n');
         return tail(&s[k..], place + 2 + k, room, n + 1);
@@ -163,8 +141,8 @@ fn line_break(b: u8, s: &[u8], place: usize, room: &mut [u32], n: usize) -> Resu
 }
 
 // What a backslash at `place` makes of s, the bytes behind it.
-fn escaped(s: &[u8], place: usize, names: &Table, room: &mut [u32], n: usize) -> Result<usize, Why>
-    requires { (place + (1 + length s.now) ≤ 65536) × (n ≤ place) × (names.now ≡ rows) }
+fn escaped(s: &[u8], place: usize, names: &Names, room: &mut [u32], n: usize) -> Result<usize, Why>
+    requires { (place + (1 + length s.now) ≤ 65536) × (n ≤ place) }
     ensures { Wrote shown_layout n room.old (escaped_of place s.now) result room.new }
 {
     if s.len() == 0 {
@@ -192,11 +170,11 @@ fn escaped(s: &[u8], place: usize, names: &Table, room: &mut [u32], n: usize) ->
 pub fn slice_tokens(
     s: &[u8],
     place: usize,
-    names: &Table,
+    names: &Names,
     room: &mut [u32],
     n: usize,
 ) -> Result<usize, Why>
-    requires { (place + length s.now ≤ 65536) × (n ≤ place) × (names.now ≡ rows) }
+    requires { (place + length s.now ≤ 65536) × (n ≤ place) }
     ensures { Wrote shown_layout n room.old (tokens_of place s.now) result room.new }
 {
     if s.len() == 0 {

@@ -60,5 +60,5 @@ pub fn check(list: &[u8]) -> Result<usize, Refusal>
     ensures { Checks list.now result }
 {
     let n = number_at(list).map_err(Refusal::of)?;
-    check_blocks(&list[n.length..], wide(n.value))
+    check_blocks(&list[n.length..], n.value as usize)
 }

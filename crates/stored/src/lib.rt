@@ -18,7 +18,7 @@ ghost use Rattle.stored.specs.Stored.{answer_counts};
 use crate::entry::block_at;
 use answers::{Refusal, Why};
 use blocks::{BLOCK_WORDS, Page, add};
-use rooms::{clear_from, wide};
+use rooms::clear_from;
 use sevens::number_at;
 
 // How many blocks, and how many bytes of text.
@@ -57,7 +57,7 @@ fn lay_list(list: &[u8], blocks: &mut [u32], text: &mut [u8]) -> Result<Page, Re
     ensures still { Still result (length blocks.old) (length text.old) }
 {
     let n = number_at(list).map_err(Refusal::of)?;
-    lay_blocks(&list[n.length..], wide(n.value), blocks, text)
+    lay_blocks(&list[n.length..], n.value as usize, blocks, text)
 }
 
 // A refusal, and both rooms all zero.

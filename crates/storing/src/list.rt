@@ -15,7 +15,6 @@ use crate::block::put_block;
 use crate::record::fits;
 use answers::{Refusal, Why};
 use blocks::{BLOCK_WORDS, TEXT_LENGTH};
-use rooms::wide;
 use sevens::put_number;
 use styles::Style;
 
@@ -41,7 +40,7 @@ fn put_blocks(blocks: &[u32], text: &[u8], room: &mut [u8], n: usize) -> Result<
             return unfit();
         }
         let style = Style::at(words);
-        let end = p + wide(words[TEXT_LENGTH]);
+        let end = p + words[TEXT_LENGTH] as usize;
         at = put_block(style, &text[p..end], room, at);
         before = Some(style);
         p = end;

@@ -10,7 +10,6 @@ ghost use Rattle.blocks.specs.Pages.{block_words};
 
 use blocks::{TEXT_LENGTH, TEXT_PLACE};
 use fields::{follows, in_range};
-use rooms::wide;
 use styles::Style;
 use wellformed::is_utf8;
 
@@ -21,8 +20,8 @@ pub fn fits(before: Option<Style>, p: usize, words: &[u32], text: &[u8]) -> bool
     ensures { result ≡ fits_of (last_of before) p words.now text.now }
 {
     let s = Style::at(words);
-    let place = wide(words[TEXT_PLACE]);
-    let count = wide(words[TEXT_LENGTH]);
+    let place = words[TEXT_PLACE] as usize;
+    let count = words[TEXT_LENGTH] as usize;
     let signs = (place <= 2147483647) & (count <= 2147483647);
     if !(in_range(s) & (signs & ((0 < count) & (follows(before, s) & (place == p))))) {
         return false;

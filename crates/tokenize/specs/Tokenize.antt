@@ -11,6 +11,7 @@ use Rattle.rooms.specs.Streams.{Stream, end, stop, ◌▸◌, and_then}
 use Rattle.tokens.specs.Tokens.{Shown}
 use Rattle.tokens.specs.WordNumbers as words
 use Rattle.controls.specs.Controls.{shown_word, numbered}
+pub use Rattle.controls.specs.Controls.{is_escape}
 use Rattle.answers.specs.declared.Why.{Why}
 use Rattle.std.specs.Prelude.{Option, Some, None}
 
@@ -25,10 +26,6 @@ mark b = cond (eqb b 123) (Shown.opening ▸ end) (cond (eqb b 125) (Shown.closi
 -- "Such a plain tail is one text token, spaces kept, unless it is all white space: then none."
 unfoldable pub plain : ℕ → List ℕ → Stream Why Shown
 plain p s = cond (eqb (lead (in_class White) s) (length s)) end (Shown.text p s ▸ end)
-
--- "`\{`, `\}`, `\\`"
-abbrev pub is_escape : ℕ → Bool
-is_escape b = (eqb b 123 || eqb b 125) || eqb b 92
 
 -- "`\'`: word `u` with the byte's value; the rest as a plain tail"; 3 and 4 of the answer numbers
 unfoldable pub hex_value : Option ℕ → Stream Why Shown → Stream Why Shown

@@ -14,31 +14,23 @@
 pub mod quick;
 
 ghost use Rattle.std.specs.Prelude.{◌≡◌, ◌+◌, ◌≤◌, ◌<◌, length};
-ghost use Rattle.names.specs.Names.{rows};
 ghost use Rattle.rooms.specs.Rooms.{Wrote};
 ghost use Rattle.tokens.specs.Tokens.{shown_layout, text_record};
-ghost use Rattle.tokenize.specs.Tokenize.{is_mark, is_escape, plain as plain_of, word_tail, bare_length, named as named_of, word as word_of, hex_escape, line_break_and, other as other_of, behind_feed, returned as returned_of, other_by, escaped as escaped_of, mark as mark_of, tokens as tokens_of};
+ghost use Rattle.tokenize.specs.Tokenize.{is_mark, plain as plain_of, word_tail, bare_length, named as named_of, word as word_of, hex_escape, line_break_and, other as other_of, behind_feed, returned as returned_of, other_by, escaped as escaped_of, mark as mark_of, tokens as tokens_of};
 
 use answers::Why;
 use classes::{Class, body_of, is_letter, lead_of};
-use controls::{numbered_word, word_record};
-use names::Table;
+use controls::{is_escape, numbered_word, word_record};
+use names::Names;
 use numbers::hex_pair;
 use readings::Reading;
-use tokens::{Record, put, words};
+use tokens::{Kind, Record, put, words};
 
 // `{`, `}` or a line feed.
 fn is_mark(b: u8) -> bool
     ensures { result ≡ is_mark b }
 {
     (b == b'{') | (b == b'}') | (b == b'\n')
-}
-
-// `{`, `}` or `\`, which a backslash makes plain text.
-fn is_escape(b: u8) -> bool
-    ensures { result ≡ is_escape b }
-{
-    (b == b'{') | (b == b'}') | (b == b'\\')
 }
 
 fn text(place: usize, length: usize) -> Record
@@ -95,8 +87,8 @@ fn bare_length(w: &[u8]) -> usize
 }
 
 // A word behind its backslash at `place`: its name, and the number that ends it.
-fn named(w: &[u8], place: usize, names: &Table, room: &mut [u32], n: usize) -> Result<usize, Why>
-    requires { (place + (1 + length w.now) ≤ 65536) × (n ≤ place) × (names.now ≡ rows) }
+fn named(w: &[u8], place: usize, names: &Names, room: &mut [u32], n: usize) -> Result<usize, Why>
+    requires { (place + (1 + length w.now) ≤ 65536) × (n ≤ place) }
     ensures { Wrote shown_layout n room.old (named_of place w.now) result room.new }
 {
     let k = body_of(w, Class::Numeral);
@@ -108,8 +100,8 @@ fn named(w: &[u8], place: usize, names: &Table, room: &mut [u32], n: usize) -> R
 }
 
 // A word and the text behind it; s follows the backslash at `place`.
-fn word(s: &[u8], place: usize, names: &Table, room: &mut [u32], n: usize) -> Result<usize, Why>
-    requires { (place + (1 + length s.now) ≤ 65536) × (n ≤ place) × (names.now ≡ rows) }
+fn word(s: &[u8], place: usize, names: &Names, room: &mut [u32], n: usize) -> Result<usize, Why>
+    requires { (place + (1 + length s.now) ≤ 65536) × (n ≤ place) }
     ensures { Wrote shown_layout n room.old (word_of place s.now) result room.new }
 {
     let k = lead_of(s, Class::InWord);
@@ -140,7 +132,7 @@ fn line_break(s: &[u8], place: usize, room: &mut [u32], n: usize) -> Result<usiz
     requires { (place + (2 + length s.now) ≤ 65536) × (n ≤ place) }
     ensures { Wrote shown_layout n room.old (line_break_and place s.now) result room.new }
 {
-    put(room, n, Record::bare(3));
+    put(room, n, Record::bare(Kind::LineBreak));
     plain(s, place + 2, room, n + 1)
 }
 
@@ -182,11 +174,11 @@ fn returned(s: &[u8], place: usize, room: &mut [u32], n: usize) -> Result<usize,
     if s[0] != b'\r' {
         return other(s, place, room, n);
     }
-    put(room, n, Record::bare(3));
+    put(room, n, Record::bare(Kind::LineBreak));
     behind_feed(&s[1..], place + 2, room, n + 1)
 }
 
-// The last rule, by the reading.
+// The last rule, by the reading. A test of the reading, which is the host's number, is plainer here than a closure.
 fn other_by(
     reading: Reading,
     s: &[u8],
@@ -209,11 +201,11 @@ fn escaped(
     reading: Reading,
     s: &[u8],
     place: usize,
-    names: &Table,
+    names: &Names,
     room: &mut [u32],
     n: usize,
 ) -> Result<usize, Why>
-    requires { (place + (1 + length s.now) ≤ 65536) × (n ≤ place) × (names.now ≡ rows) }
+    requires { (place + (1 + length s.now) ≤ 65536) × (n ≤ place) }
     ensures { Wrote shown_layout n room.old (escaped_of reading place s.now) result room.new }
 {
     if s.len() == 0 {
@@ -234,7 +226,7 @@ fn escaped(
         return line_break(&s[1..], place, room, n);
     }
     if b == b'*' {
-        put(room, n, Record::bare(4));
+        put(room, n, Record::bare(Kind::Ignorable));
         return Ok(n + 1);
     }
     other_by(reading, s, place, room, n)
@@ -246,11 +238,11 @@ fn mark(b: u8, room: &mut [u32], n: usize) -> usize
     ensures { Wrote shown_layout n room.old (mark_of b) (Ok result) room.new }
 {
     if b == b'{' {
-        put(room, n, Record::bare(1));
+        put(room, n, Record::bare(Kind::Opening));
         return n + 1;
     }
     if b == b'}' {
-        put(room, n, Record::bare(2));
+        put(room, n, Record::bare(Kind::Closing));
         return n + 1;
     }
     n
@@ -261,11 +253,11 @@ fn tokenize(
     reading: Reading,
     s: &[u8],
     place: usize,
-    names: &Table,
+    names: &Names,
     room: &mut [u32],
     n: usize,
 ) -> Result<usize, Why>
-    requires { (place + length s.now ≤ 65536) × (n ≤ place) × (names.now ≡ rows) }
+    requires { (place + length s.now ≤ 65536) × (n ≤ place) }
     ensures { Wrote shown_layout n room.old (tokens_of reading place s.now) result room.new }
 {
     if s.len() == 0 {

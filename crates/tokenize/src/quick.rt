@@ -10,7 +10,6 @@
 ghost use Rattle.std.specs.Prelude.{◌≡◌, true, ◌+◌, ◌≤◌, ◌<◌, length, get_or, drop};
 ghost use Rattle.classes.specs.declared.Class.TheVariants.{Numeral};
 ghost use Rattle.classes.specs.Bytes.{is_letter, in_class, lead, body};
-ghost use Rattle.names.specs.Names.{rows};
 ghost use Rattle.rooms.specs.Rooms.{Wrote};
 ghost use Rattle.tokens.specs.Tokens.{shown_layout};
 ghost use Rattle.tokenize.specs.Tokenize.{is_mark, named, word_tail, word as word_of, tokens as tokens_of};
@@ -20,7 +19,7 @@ use crate::{is_mark, mark, plain, tokenize, word, word_tail};
 use answers::Why;
 use classes::{Class, ends_word, is_letter, lead_of};
 use controls::word_record;
-use names::Table;
+use names::Names;
 use numbers::decimal_of;
 use readings::Reading;
 use tokens::put;
@@ -29,14 +28,7 @@ use tokens::put;
 fn letters_of(s: &[u8]) -> usize
     ensures { (result ≡ lead is_letter s.now) × (result ≤ length s.now) }
 {
-    let mut i = 0;
-    while i < s.len() {
-        if !is_letter(s[i]) {
-            return i;
-        }
-        i += 1;
-    }
-    i
+    s.iter().take_while(|b| is_letter(**b)).count()
 }
 
 // Whether a word ends at k.
@@ -55,11 +47,11 @@ fn numbered(
     w: &[u8],
     e: usize,
     place: usize,
-    names: &Table,
+    names: &Names,
     room: &mut [u32],
     n: usize,
 ) -> Result<usize, Why>
-    requires bounds { (place + (1 + length w.now) ≤ 65536) × (n ≤ place) × (names.now ≡ rows) }
+    requires bounds { (place + (1 + length w.now) ≤ 65536) × (n ≤ place) }
     requires ends { (e ≡ body (in_class Numeral) w.now) × (e ≤ length w.now) }
     ensures { Wrote shown_layout n room.old (named place w.now) result room.new }
 {
@@ -88,11 +80,11 @@ fn behind(s: &[u8], k: usize, place: usize, room: &mut [u32], n: usize) -> Resul
 fn quick_word(
     s: &[u8],
     place: usize,
-    names: &Table,
+    names: &Names,
     room: &mut [u32],
     n: usize,
 ) -> Result<usize, Why>
-    requires { (place + (1 + length s.now) ≤ 65536) × (n ≤ place) × (names.now ≡ rows) }
+    requires { (place + (1 + length s.now) ≤ 65536) × (n ≤ place) }
     ensures { Wrote shown_layout n room.old (word_of place s.now) result room.new }
 {
     let e = letters_of(s);
@@ -117,11 +109,11 @@ fn escaped(
     reading: Reading,
     s: &[u8],
     place: usize,
-    names: &Table,
+    names: &Names,
     room: &mut [u32],
     n: usize,
 ) -> Result<usize, Why>
-    requires bounds { (place + length s.now ≤ 65536) × (n ≤ place) × (names.now ≡ rows) }
+    requires bounds { (place + length s.now ≤ 65536) × (n ≤ place) }
     requires starts { (0 < length s.now) × (get_or s.now 0 0 ≡ 92) }
     ensures { Wrote shown_layout n room.old (tokens_of reading place s.now) result room.new }
 {
@@ -142,11 +134,11 @@ fn marked(
     reading: Reading,
     s: &[u8],
     place: usize,
-    names: &Table,
+    names: &Names,
     room: &mut [u32],
     n: usize,
 ) -> Result<usize, Why>
-    requires bounds { (place + length s.now ≤ 65536) × (n ≤ place) × (names.now ≡ rows) }
+    requires bounds { (place + length s.now ≤ 65536) × (n ≤ place) }
     requires starts { (0 < length s.now) × (is_mark (get_or s.now 0 0) ≡ true) }
     ensures { Wrote shown_layout n room.old (tokens_of reading place s.now) result room.new }
 {
@@ -165,11 +157,11 @@ pub fn slice_tokens(
     reading: Reading,
     s: &[u8],
     place: usize,
-    names: &Table,
+    names: &Names,
     room: &mut [u32],
     n: usize,
 ) -> Result<usize, Why>
-    requires { (place + length s.now ≤ 65536) × (n ≤ place) × (names.now ≡ rows) }
+    requires { (place + length s.now ≤ 65536) × (n ≤ place) }
     ensures { Wrote shown_layout n room.old (tokens_of reading place s.now) result room.new }
 {
     if s.len() == 0 {

@@ -1,5 +1,6 @@
 -- A record read back, and records one after the other.
---     item-opening ..         the item of a record, by its kind
+--     kind-number             a kind but a text's has the number that it is read from
+--     item-by-kind            the item of a record, by its kind
 --     part_none ..            the part of a source, by where it lies
 --     shown-none, -some       what a room's tokens show, from the first one on
 --     tokens_none, -some      the tokens themselves, from the first one on
@@ -11,45 +12,64 @@ use mathlib.Core.List.{List, [], ◌∷◌}
 use Prim.Native.Nat.{ℕ, zero, suc, ◌+◌, ◌-◌, ◌*◌, ◌≤◌, ◌<◌}
 use native.Mathlib.Nat.{not-suc-le-zero}
 use native.Mathlib.Omega.{arith}
-use borrow.Author.Tests.{ne_eqb}
 use lib.ListN.{length, get_or, take, drop, length-drop, length-take}
 use lib.Seq.{drop-drop, take_all, get_or-take}
 use Rattle.tokens.specs.Tokens.{Shown, Token, shown_words, token_words, shown_by}
+use Rattle.tokens.specs.Tokens.{kind_number}
+use Rattle.tokens.specs.declared.Kind.{Kind}
+use Rattle.tokens.specs.declared.Kind.TheVariants as kinds
 use Rattle.tokens.specs.declared.item.Item.{Item}
 use Rattle.tokens.specs.declared.item.Item.TheVariants.{Text, Opening, Closing, LineBreak, Ignorable, Symbol}
-use Rattle.tokens.specs.Items.{property_of, word_item, item_of, item_at, part, shown_of, shown_all, token_at, tokens_all}
-use Rattle.std.specs.Prelude.{Option}
+use Rattle.std.proofs.lemmas.Bool.{eqb-true}
+use Rattle.std.specs.Prelude.{Bool, true, false, cond, eqb}
+use Rattle.tokens.specs.Items.{number_at, word_item, kind_at, item_of, item_at, part, shown_of, shown_all, token_at, tokens_all}
 
-module _ (ws : List ℕ) where
-  pub item-opening : get_or ws 0 0 ≡ 1 → Opening ≡ item_at ws
-  unfolding item_at item_of
-  item-opening e = rw e
+-- a kind but a text's has the number that it is read from
+abbrev pub IsNamed : Kind → Type 0
+IsNamed kinds.Text = ⊥
+IsNamed kinds.Opening = Unit
+IsNamed kinds.Closing = Unit
+IsNamed kinds.LineBreak = Unit
+IsNamed kinds.Ignorable = Unit
+IsNamed kinds.Word = Unit
+IsNamed kinds.Symbol = Unit
 
-  pub item-closing : get_or ws 0 0 ≡ 2 → Closing ≡ item_at ws
-  unfolding item_at item_of
-  item-closing e = rw e
+kind-number-by : (n : ℕ) (b1 b2 b3 b4 b5 b6 : Bool) → eqb n 1 ≡ b1 → eqb n 2 ≡ b2 → eqb n 3 ≡ b3 → eqb n 4 ≡ b4 → eqb n 5 ≡ b5 → eqb n 6 ≡ b6
+    → IsNamed (cond b1 kinds.Opening (cond b2 kinds.Closing (cond b3 kinds.LineBreak (cond b4 kinds.Ignorable (cond b5 kinds.Word (cond b6 kinds.Symbol kinds.Text)))))) → n ≡ kind_number (cond b1 kinds.Opening (cond b2 kinds.Closing (cond b3 kinds.LineBreak (cond b4 kinds.Ignorable (cond b5 kinds.Word (cond b6 kinds.Symbol kinds.Text))))))
+kind-number-by n true b2 b3 b4 b5 b6 p1 p2 p3 p4 p5 p6 named = eqb-true n 1 p1
+kind-number-by n false true b3 b4 b5 b6 p1 p2 p3 p4 p5 p6 named = eqb-true n 2 p2
+kind-number-by n false false true b4 b5 b6 p1 p2 p3 p4 p5 p6 named = eqb-true n 3 p3
+kind-number-by n false false false true b5 b6 p1 p2 p3 p4 p5 p6 named = eqb-true n 4 p4
+kind-number-by n false false false false true b6 p1 p2 p3 p4 p5 p6 named = eqb-true n 5 p5
+kind-number-by n false false false false false true p1 p2 p3 p4 p5 p6 named = eqb-true n 6 p6
+kind-number-by n false false false false false false p1 p2 p3 p4 p5 p6 named = absurd named
 
-  pub item-break : get_or ws 0 0 ≡ 3 → LineBreak ≡ item_at ws
-  unfolding item_at item_of
-  item-break e = rw e
+pub kind-number : (ws : List ℕ) {k : Kind} → kind_at ws ≡ k → IsNamed k → get_or ws 0 0 ≡ kind_number k
+kind-number ws e named = rw (← e) (kind-number-by (get_or ws 0 0) _ _ _ _ _ _ refl refl refl refl refl refl (rw e named))
 
-  pub item-ignorable : get_or ws 0 0 ≡ 4 → Ignorable ≡ item_at ws
-  unfolding item_at item_of
-  item-ignorable e = rw e
+-- the item of a record whose kind is known
+abbrev pub item_by : Kind → List ℕ → Item
+item_by kinds.Text ws = Text (get_or ws 4 0) (get_or ws 5 0)
+item_by kinds.Opening ws = Opening
+item_by kinds.Closing ws = Closing
+item_by kinds.LineBreak ws = LineBreak
+item_by kinds.Ignorable ws = Ignorable
+item_by kinds.Word ws = word_item (get_or ws 1 0) (number_at ws) (get_or ws 4 0) (get_or ws 5 0)
+item_by kinds.Symbol ws = Symbol (get_or ws 1 0) (number_at ws)
 
-  pub item-word : {i : Item} {num : Option ℕ} → get_or ws 0 0 ≡ 5 → num ≡ property_of (get_or ws 2 0) (get_or ws 3 0)
-      → i ≡ word_item (get_or ws 1 0) num (get_or ws 4 0) (get_or ws 5 0) → i ≡ item_at ws
-  unfolding item_at item_of
-  item-word e n q = q ∙ rw (e, n)
+item_by_cases : (ws : List ℕ) (b1 b2 b3 b4 b5 b6 : Bool) → item_by (cond b1 kinds.Opening (cond b2 kinds.Closing (cond b3 kinds.LineBreak (cond b4 kinds.Ignorable (cond b5 kinds.Word (cond b6 kinds.Symbol kinds.Text)))))) ws
+    ≡ cond b1 Opening (cond b2 Closing (cond b3 LineBreak (cond b4 Ignorable (cond b5 (item_by kinds.Word ws) (cond b6 (item_by kinds.Symbol ws) (item_by kinds.Text ws))))))
+item_by_cases ws true b2 b3 b4 b5 b6 = refl
+item_by_cases ws false true b3 b4 b5 b6 = refl
+item_by_cases ws false false true b4 b5 b6 = refl
+item_by_cases ws false false false true b5 b6 = refl
+item_by_cases ws false false false false true b6 = refl
+item_by_cases ws false false false false false true = refl
+item_by_cases ws false false false false false false = refl
 
-  pub item-symbol : {b : ℕ} {num : Option ℕ} → get_or ws 0 0 ≡ 6 → b ≡ get_or ws 1 0 → num ≡ property_of (get_or ws 2 0) (get_or ws 3 0) → Symbol b num ≡ item_at ws
-  unfolding item_at item_of
-  item-symbol e w n = rw (e, w, n)
-
-  pub item-text : (get_or ws 0 0 ≡ 1 → ⊥) → (get_or ws 0 0 ≡ 2 → ⊥) → (get_or ws 0 0 ≡ 3 → ⊥) → (get_or ws 0 0 ≡ 4 → ⊥) → (get_or ws 0 0 ≡ 5 → ⊥) → (get_or ws 0 0 ≡ 6 → ⊥)
-      → Text (get_or ws 4 0) (get_or ws 5 0) ≡ item_at ws
-  unfolding item_at item_of
-  item-text a b d e f g = rw (ne_eqb _ 1 a, ne_eqb _ 2 b, ne_eqb _ 3 d, ne_eqb _ 4 e, ne_eqb _ 5 f, ne_eqb _ 6 g)
+pub item-by-kind : (ws : List ℕ) {k : Kind} → kind_at ws ≡ k → item_by k ws ≡ item_at ws
+unfolding item_at item_of
+item-by-kind ws e = rw (← e) (item_by_cases ws _ _ _ _ _ _)
 
 -- all from a place on, as the code lends it
 abbrev pub rest : List ℕ → ℕ → List ℕ

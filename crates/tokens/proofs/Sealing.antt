@@ -1,12 +1,12 @@
 -- Place and length of a slice, written behind what its tokens show.
 --     seal-in, -out          a token that the room holds, one that it does not
---     Loop                   the loop over the tokens of a slice
+--     sealed_more, -none     the loop over the tokens of a slice: one more, none left
 --     sealed-wrote           what a slice shows, written and then sealed, is its tokens written
 -- Assumes nothing.
 use mathlib.Core.Path.{◌≡◌, refl, sym, ap, ◌∙◌}
 use mathlib.Core.List.{List, [], ◌∷◌, ◌++◌}
 use mathlib.Core.Bool.{Bool, true, false, cond}
-use Prim.Native.Nat.{ℕ, zero, suc, ◌+◌, ◌-◌, ◌*◌, ◌≤◌, ◌<◌}
+use Prim.Native.Nat.{ℕ, suc, ◌+◌, ◌-◌, ◌*◌, ◌≤◌, ◌<◌}
 use native.Mathlib.Numerals.{towards_suc}
 use native.Mathlib.Omega.{arith}
 use borrow.Author.Tests.{lt-ltb, le-ltb}
@@ -119,32 +119,14 @@ module _ (p l : ℕ) where
 
 -- ---- the loop: i tokens from n on are sealed, and the rest are still to be
 
-pub record Loop (p l : ℕ) (room₀ room : List ℕ) (n m i : ℕ) : Type 0 where
-  pub below : i ≤ m
-  pub long : length room ≡ length room₀
-  pub left : sealed_all p l room₀ n (m - n) ≡ sealed_all p l room i (m - i)
-
-pub loop-start : {p l n m : ℕ} {room : List ℕ} → n ≤ m → Loop p l room room n m n
-loop-start h = record { below = h; long = refl; left = refl }
-
-sealed-more : (p l : ℕ) (room : List ℕ) (i k : ℕ) → 0 < k → sealed_all p l room i k ≡ sealed_all p l (sealed p l room i) (i + 1) (k - 1)
+pub sealed_more : (p l : ℕ) (room : List ℕ) (i m : ℕ) → i < m → sealed_all p l room i (m - i) ≡ sealed_all p l (sealed p l room i) (i + 1) (m - (i + 1))
 unfolding sealed_all
-sealed-more p l room i zero h = absurd (omega arith)
-sealed-more p l room i (suc k) h =
-    let e : k ≡ suc k - 1 = omega arith in
-    ap (sealed_all p l (sealed p l room i) (i + 1)) e
+sealed_more p l room i m h =
+    let k : m - i ≡ suc (m - (i + 1)) = omega arith in
+    rw k
 
-pub loop-next : {p l n m i : ℕ} {room₀ room room' : List ℕ} → Loop p l room₀ room n m i → i < m → room' ≡ sealed p l room i → Loop p l room₀ room' n m (i + 1)
-loop-next {p} {l} {n} {m} {i} {room₀} {room} {room'} h k e =
-    let d : m - i - 1 ≡ m - (i + 1) = omega arith in
-    record {
-      below = omega arith;
-      long = ap length e ∙ length-sealed p l room i ∙ h.long;
-      left = h.left ∙ sealed-more p l room i (m - i) (omega arith) ∙ ap (sealed_all p l (sealed p l room i) (i + 1)) d ∙ ap (λ (z : List ℕ). sealed_all p l z (i + 1) (m - (i + 1))) (sym e);
-    }
-
-pub loop-end : {p l n m i : ℕ} {room₀ room : List ℕ} → Loop p l room₀ room n m i → m ≤ i → room ≡ sealed_all p l room₀ n (m - n)
+pub sealed_none : (p l : ℕ) (room : List ℕ) (i m : ℕ) → m ≤ i → sealed_all p l room i (m - i) ≡ room
 unfolding sealed_all
-loop-end {p} {l} {n} {m} {i} {room₀} {room} h k =
-    let d : m - i ≡ 0 = omega arith in
-    sym (h.left ∙ ap (sealed_all p l room i) d)
+sealed_none p l room i m h =
+    let k : m - i ≡ 0 = omega arith in
+    rw k

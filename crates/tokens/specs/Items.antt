@@ -2,6 +2,8 @@
 -- Assumes nothing: these are definitions.
 use Rattle.std.specs.Prelude.{ℕ, zero, suc, ◌+◌, List, [], ◌∷◌, cond, get_or, take, drop, eqb}
 use Rattle.tokens.specs.Tokens.{Shown, Token, token, shown_words, token_words}
+use Rattle.tokens.specs.declared.Kind.{Kind}
+use Rattle.tokens.specs.declared.Kind.TheVariants as kinds
 use Rattle.tokens.specs.declared.item.Item.{Item}
 use Rattle.tokens.specs.declared.item.Item.TheVariants.{Text, Opening, Closing, LineBreak, Ignorable, Word, Unknown, Symbol}
 use Rattle.tokens.specs.WordNumbers as words
@@ -18,7 +20,16 @@ number_at ws = property_of (get_or ws 2 0) (get_or ws 3 0)
 abbrev pub word_item : ℕ → Option ℕ → ℕ → ℕ → Item
 word_item w num p n = cond (eqb w words.unknown) (Unknown p n num) (Word w num)
 
--- "kind (0 text, 1 open, 2 close, 3 line break, 4 ignorable, 5 word)", and 6, a symbol
+-- "kind (0 text, 1 open, 2 close, 3 line break, 4 ignorable, 5 word)", and 6, a symbol; any other number is a text's
+abbrev pub kind_of : ℕ → Kind
+kind_of n =
+    cond (eqb n 1) kinds.Opening (cond (eqb n 2) kinds.Closing (cond (eqb n 3) kinds.LineBreak (cond (eqb n 4) kinds.Ignorable
+    (cond (eqb n 5) kinds.Word (cond (eqb n 6) kinds.Symbol kinds.Text)))))
+
+abbrev pub kind_at : List ℕ → Kind
+kind_at ws = kind_of (get_or ws 0 0)
+
+-- the same for the item
 unfoldable pub item_of : ℕ → ℕ → ℕ → ℕ → ℕ → ℕ → Item
 item_of kind w has number p n =
     cond (eqb kind 1) Opening (cond (eqb kind 2) Closing (cond (eqb kind 3) LineBreak (cond (eqb kind 4) Ignorable

@@ -1,16 +1,16 @@
 // Items: a token's record, read back (01, Cutting). The reader sees a letter's tokens through it.
 //
 //   Item       what a token shows; a text and an unknown word by place and length
-//   item_at    the token that a slice of words starts with
+//   kind_at    what the token is that a slice of words starts with
+//   item_at    that token
 //   number_at  its number, if it is a word
 //   slice_at   the place of the slice that it was cut from
 //   part       the bytes of the source that an item points at
 ghost use Rattle.std.specs.Prelude.{◌≡◌, ◌≤◌, ◌<◌, length};
 ghost use Rattle.tokens.specs.Tokens.{value_of, token_words};
-ghost use Rattle.tokens.specs.Items.{property_of, number_at, word_item, item_at, slice_at, part as part_of};
+ghost use Rattle.tokens.specs.Items.{property_of, number_at, word_item, kind_at, item_at, slice_at, part as part_of};
 
-use crate::{SLICE, words};
-use rooms::wide;
+use crate::{Kind, SLICE, words};
 
 #[derive(Clone, Copy)]
 pub enum Item {
@@ -60,47 +60,48 @@ pub fn slice_at(t: &[u32]) -> u32
     t[SLICE]
 }
 
+// What the first token of a slice of words is. A number without a kind is a text's.
+pub fn kind_at(t: &[u32]) -> Kind
+    requires { token_words ≤ length t.now }
+    ensures { result ≡ kind_at t.now }
+{
+    match t[0] {
+        1 => Kind::Opening,
+        2 => Kind::Closing,
+        3 => Kind::LineBreak,
+        4 => Kind::Ignorable,
+        5 => Kind::Word,
+        6 => Kind::Symbol,
+        _ => Kind::Text,
+    }
+}
+
 // The first token of a slice of words.
 pub fn item_at(t: &[u32]) -> Item
     requires { token_words ≤ length t.now }
     ensures { result ≡ item_at t.now }
 {
-    let kind = t[0];
-    if kind == 1 {
-        return Item::Opening;
+    match kind_at(t) {
+        Kind::Text => Item::Text(t[4], t[5]),
+        Kind::Opening => Item::Opening,
+        Kind::Closing => Item::Closing,
+        Kind::LineBreak => Item::LineBreak,
+        Kind::Ignorable => Item::Ignorable,
+        Kind::Word => word_item(t[1], number_at(t), t[4], t[5]),
+        Kind::Symbol => Item::Symbol(t[1], number_at(t)),
     }
-    if kind == 2 {
-        return Item::Closing;
-    }
-    if kind == 3 {
-        return Item::LineBreak;
-    }
-    if kind == 4 {
-        return Item::Ignorable;
-    }
-    let place = t[4];
-    let count = t[5];
-    if kind == 5 {
-        let number = property(t[2], t[3]);
-        return word_item(t[1], number, place, count);
-    }
-    if kind == 6 {
-        let byte = t[1];
-        return Item::Symbol(byte, property(t[2], t[3]));
-    }
-    Item::Text(place, count)
 }
 
 // The bytes of a source from a place on, as far as there are any.
 pub fn part(source: &[u8], place: u32, count: u32) -> &[u8]
     ensures { result.now ≡ part_of source.now place count }
 {
-    let from = wide(place);
+    let from = place as usize;
     if source.len() < from {
         return &source[..0];
     }
     let t = &source[from..];
-    let n = wide(count);
+    let n = count as usize;
     if t.len() < n {
         return t;
     }

@@ -1,6 +1,7 @@
 // Tokens: what a slice of a letter shows, and its record of eight words in the token room (01, Cutting, and 02, A4; `tokens.rs` in
 // the crate).
 //
+//   Kind       what a token is, with its number in 01
 //   Record     six words: kind, word number, 1 if a number is present, that number, source place, length
 //   put        writes a record at its place in a room
 //   seal       writes the two words behind it: place and length of the slice that it was cut from
@@ -13,7 +14,7 @@ pub mod words;
 
 ghost use Rattle.std.specs.Prelude.{◌≡◌, ◌-◌, ◌≤◌};
 ghost use Rattle.rooms.specs.Rooms.{put as put_words};
-ghost use Rattle.tokens.specs.Tokens.{token_words, record_words, bare_record, text_record, word_record, unknown_record, symbol_record, sealed, sealed_all};
+ghost use Rattle.tokens.specs.Tokens.{token_words, record_words, kind_number, bare_record, text_record, word_record, unknown_record, symbol_record, sealed, sealed_all};
 
 // How many words a token has, and where those of its slice stand.
 pub const TOKEN_WORDS: usize = 8;
@@ -22,9 +23,29 @@ pub const SLICE: usize = 6;
 
 pub const SLICE_LENGTH: usize = 7;
 
+// What a token is, by the number that its record begins with.
+#[derive(Clone, Copy)]
+pub enum Kind {
+    Text = 0,
+    Opening = 1,
+    Closing = 2,
+    LineBreak = 3,
+    Ignorable = 4,
+    Word = 5,
+    Symbol = 6,
+}
+
+impl Kind {
+    pub fn number(self) -> u32
+        ensures { result ≡ kind_number self }
+    {
+        self as u32
+    }
+}
+
 #[derive(Clone, Copy)]
 pub struct Record {
-    pub kind: u32,
+    pub kind: Kind,
     pub word: u32,
     pub number: Option<u32>,
     pub place: u32,
@@ -33,7 +54,7 @@ pub struct Record {
 
 impl Record {
     // A record of a kind that says nothing more.
-    pub fn bare(kind: u32) -> Record
+    pub fn bare(kind: Kind) -> Record
         ensures { result ≡ bare_record kind }
     {
         Record {
@@ -49,7 +70,7 @@ impl Record {
         ensures { result ≡ text_record place length }
     {
         Record {
-            kind: 0,
+            kind: Kind::Text,
             word: 0,
             number: None,
             place: place,
@@ -62,7 +83,7 @@ impl Record {
         ensures { result ≡ word_record word property }
     {
         Record {
-            kind: 5,
+            kind: Kind::Word,
             word: word,
             number: property,
             place: 0,
@@ -75,7 +96,7 @@ impl Record {
         ensures { result ≡ unknown_record place length property }
     {
         Record {
-            kind: 5,
+            kind: Kind::Word,
             word: words::UNKNOWN,
             number: property,
             place: place,
@@ -88,7 +109,7 @@ impl Record {
         ensures { result ≡ symbol_record byte property }
     {
         Record {
-            kind: 6,
+            kind: Kind::Symbol,
             word: byte,
             number: property,
             place: 0,
@@ -103,7 +124,7 @@ pub fn put(room: &mut [u32], n: usize, t: Record)
 {
     if n < room.len() / TOKEN_WORDS {
         let at = n * TOKEN_WORDS;
-        room[at] = t.kind;
+        room[at] = t.kind.number();
         room[at + 1] = t.word;
         room[at + 2] = u32::from(t.number.is_some());
         room[at + 3] = t.number.unwrap_or(0);
@@ -124,13 +145,12 @@ fn seal_one(room: &mut [u32], n: usize, place: u32, length: u32)
 }
 
 // The same behind the records from n up to m.
+#[tactic(auto, using(crate::proofs::Sealing::sealed_more, crate::proofs::Sealing::sealed_none))]
 pub fn seal(room: &mut [u32], n: usize, m: usize, place: u32, length: u32)
     requires { n ≤ m }
     ensures { room.new ≡ sealed_all place length room.old n (m - n) }
 {
-    let mut i = n;
-    while i < m {
+    for i in n..m {
         seal_one(room, i, place, length);
-        i += 1;
     }
 }

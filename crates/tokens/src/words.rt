@@ -1,4 +1,5 @@
-// Words by their number in 01's list of names (`ControlWord` in the crate, whose names these are).
+// Words by their number in 01's list of names (`ControlWord` in the crate, whose names these are). Numbers, and no enum: the record that
+// hosts read holds the number, and the table of names gives it; an enum of fifty would be made and taken apart again at each token.
 pub const RTF: u32 = 0;
 
 pub const ANSI: u32 = 1;

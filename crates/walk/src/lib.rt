@@ -31,18 +31,12 @@ fn word_aim(w: u32, number: Option<u32>, late: bool) -> Aim
 {
     match number {
         Some(_) => Aim::Nothing,
-        None => {
-            if w == words::STYLE_SHEET {
-                return Aim::Hide;
-            }
-            if w == words::FONT_TABLE {
-                return Aim::Fonts(late);
-            }
-            if w == words::COLOUR_TABLE {
-                return Aim::Colours(late);
-            }
-            Aim::Nothing
-        }
+        None => match w {
+            words::STYLE_SHEET => Aim::Hide,
+            words::FONT_TABLE => Aim::Fonts(late),
+            words::COLOUR_TABLE => Aim::Colours(late),
+            _ => Aim::Nothing,
+        },
     }
 }
 
@@ -52,28 +46,14 @@ fn aim_at(i: Item, late: bool) -> Aim
     match i {
         Item::Ignorable => Aim::Hide,
         Item::Word(w, number) => word_aim(w, number, late),
-        Item::LineBreak => Aim::Nothing,
-        Item::Text(_, _) => Aim::Nothing,
-        Item::Opening => Aim::Nothing,
-        Item::Closing => Aim::Nothing,
-        Item::Unknown(_, _, _) => Aim::Nothing,
-        Item::Symbol(_, _) => Aim::Nothing,
+        _ => Aim::Nothing,
     }
 }
 
 fn is_break(i: Item) -> bool
     ensures { (src : List ℕ) → result ≡ is_break (shown_of src i) }
 {
-    match i {
-        Item::LineBreak => true,
-        Item::Ignorable => false,
-        Item::Word(_, _) => false,
-        Item::Text(_, _) => false,
-        Item::Opening => false,
-        Item::Closing => false,
-        Item::Unknown(_, _, _) => false,
-        Item::Symbol(_, _) => false,
-    }
+    matches!(i, Item::LineBreak)
 }
 
 // What the tokens behind an opening bracket make of its group.
@@ -81,22 +61,15 @@ pub fn aim_of(s: &[u32], count: usize) -> Aim
     requires { count * token_words ≤ length s.now }
     ensures { (src : List ℕ) → result ≡ aim_of (shown_all src count s.now) }
 {
-    let mut t = s;
-    let mut n = count;
     let mut late = false;
-    let first = loop {
-        if n == 0 {
-            break Item::LineBreak;
-        }
-        let i = item_at(t);
+    for here in s.chunks_exact(TOKEN_WORDS).take(count) {
+        let i = item_at(here);
         if !is_break(i) {
-            break i;
+            return aim_at(i, late);
         }
-        t = &t[TOKEN_WORDS..];
-        n -= 1;
         late = true;
-    };
-    aim_at(first, late)
+    }
+    Aim::Nothing
 }
 
 // Where the slice of the first token that is no line break stands.
@@ -104,15 +77,11 @@ pub fn table_word(s: &[u32], count: usize) -> u32
     requires { count * token_words ≤ length s.now }
     ensures { (src : List ℕ) → result ≡ table_word (tokens_all src count s.now) }
 {
-    let mut t = s;
-    let mut n = count;
-    while 0 < n {
-        let i = item_at(t);
+    for here in s.chunks_exact(TOKEN_WORDS).take(count) {
+        let i = item_at(here);
         if !is_break(i) {
-            return slice_at(t);
+            return slice_at(here);
         }
-        t = &t[TOKEN_WORDS..];
-        n -= 1;
     }
     0
 }
@@ -125,12 +94,7 @@ fn level(i: Item, d: usize) -> usize
     match i {
         Item::Opening => d + 1,
         Item::Closing => d - 1,
-        Item::LineBreak => d,
-        Item::Ignorable => d,
-        Item::Word(_, _) => d,
-        Item::Text(_, _) => d,
-        Item::Unknown(_, _, _) => d,
-        Item::Symbol(_, _) => d,
+        _ => d,
     }
 }
 
@@ -139,16 +103,11 @@ pub fn extent(s: &[u32], count: usize) -> usize
     requires { count * token_words ≤ length s.now }
     ensures { ((src : List ℕ) → result ≡ extent_of 1 (shown_all src count s.now)) × (result ≤ count) }
 {
-    let mut t = s;
-    let mut n = count;
     let mut d: usize = 1;
-    while 0 < n {
-        let i = item_at(t);
-        d = level(i, d);
-        t = &t[TOKEN_WORDS..];
-        n -= 1;
+    for (k, here) in s.chunks_exact(TOKEN_WORDS).take(count).enumerate() {
+        d = level(item_at(here), d);
         if d == 0 {
-            return count - n;
+            return k + 1;
         }
     }
     count

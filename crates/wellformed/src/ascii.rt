@@ -26,6 +26,7 @@ pub fn ascii_blocks(s: &[u8], from: usize) -> usize
     ensures { Passed s.now from result }
 {
     let mut at = from;
+    // A `while`: the caller goes on where it stops.
     while let Some(block) = s[at..].first_chunk::<BLOCK>() {
         if has_high(block) {
             return at;
@@ -50,6 +51,7 @@ pub fn ascii_eights(s: &[u8], from: usize) -> usize
     ensures { Passed s.now from result }
 {
     let mut at = from;
+    // A `while`: it stops inside of the eight.
     while let Some(eight) = s[at..].first_chunk() {
         let bits = highs_of(eight);
         if bits != 0 {

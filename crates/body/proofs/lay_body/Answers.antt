@@ -1,6 +1,6 @@
 -- `lay_body` meets its contract. The invariant is `Loop`: what is left, from the present states, run and page, leads where the whole
 -- leads. The measure is how many tokens are left.
-use mathlib.Core.Path.{refl, ap, ◌∙◌}
+use mathlib.Core.Path.{ap, ◌∙◌}
 use native.Mathlib.Omega.{arith}
 use Rattle.settings.specs.Fields.{row_of}
 use Rattle.body.proofs.Groups.{passed-open}

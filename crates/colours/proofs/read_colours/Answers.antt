@@ -1,50 +1,47 @@
 -- `read_colours` meets its contract. The invariant: what is left, from the colours in the room and the current one, gives the
--- whole result. The measure is how many tokens are left.
-use native.Mathlib.Omega.{arith}
+-- whole result.
+use mathlib.Core.Path.{◌∙◌}
+use borrow.Author.Rules.{rules}
 use Rattle.colours.proofs.Steps.{loop-start, loop-set, loop-unfit, stored-small, loop-full, loop-store, loop-end}
 use Rattle.colours.proofs.read_colours.Goals as goal
 
-pub loop-n-init : goal.loop-n-init
-loop-n-init c = loop-start _ _ _ _ c.requires c.limit_of-limit.ensures
+pub loop-here-init : goal.loop-here-init
+loop-here-init c = record {
+  size = search rules;
+  loop = rw (c.into_iter-here-iterator.ensures.into_iter_gives, c.take-here-items.ensures.source, c.take-here-items.ensures.count, c.chunks_exact.ensures.rest) (loop-start _ _ _ _ c.requires.0 c.table_limit-limit.ensures);
+}
 
-pub item_at-i-requires : goal.item_at-i-requires
-item_at-i-requires c = omega (arith, c.loop-n.invariant.words)
-
-pub loop-n-smaller-in-Set : goal.loop-n-smaller-in-Set
-loop-n-smaller-in-Set c = omega arith
-
-pub loop-n-preserved-in-Set : goal.loop-n-preserved-in-Set
-loop-n-preserved-in-Set c = loop-set c.loop-n.invariant c.loop-n-test.true c.item_at-i.ensures c.step-e.ensures _ c.in-Set.is
-
-pub shape_of-room-then-limit-stored : goal.shape_of-room-then-limit-stored
-shape_of-room-then-limit-stored c = c.loop-n.invariant.long
+pub loop-here-preserved-in-Set : goal.loop-here-preserved-in-Set
+loop-here-preserved-in-Set c =
+    let l = c.loop-here.invariant in
+    let s = c.in-Some.ensures.steps in
+    record { size = s.0.0 ∙ l.size; loop = loop-set l.loop (record { words = s.0.1.0; size = s.0.1.1 ∙ l.size; one = s.1 }) c.item_at.ensures c.step.ensures _ c.in-Set.is }
 
 pub returns-then-limit-stored : goal.returns-then-limit-stored
-returns-then-limit-stored c = loop-full c.loop-n.invariant c.loop-n-test.true c.item_at-i.ensures c.step-e.ensures _ c.in-Store.is c.if-limit-stored.true _ c.of.ensures
+returns-then-limit-stored c =
+    let l = c.loop-here.invariant in
+    let s = c.in-Some.ensures.steps in
+    loop-full l.loop (record { words = s.0.1.0; size = s.0.1.1 ∙ l.size; one = s.1 }) c.item_at.ensures c.step.ensures _ c.in-Store.is c.if-limit-stored.true _ c.of.ensures
 
-pub colour_word-w-requires : goal.colour_word-w-requires
-colour_word-w-requires c = stored-small c.loop-n.invariant c.loop-n-test.true c.item_at-i.ensures c.step-e.ensures _ c.in-Store.is
+pub colour_word-requires : goal.colour_word-requires
+colour_word-requires c =
+    let l = c.loop-here.invariant in
+    let s = c.in-Some.ensures.steps in
+    stored-small l.loop (record { words = s.0.1.0; size = s.0.1.1 ∙ l.size; one = s.1 }) c.item_at.ensures c.step.ensures _ c.in-Store.is
 
-pub bounds-room-stored : goal.bounds-room-stored
-bounds-room-stored c = omega (arith, c.loop-n.invariant.held)
-
-pub loop-n-smaller : goal.loop-n-smaller
-loop-n-smaller c = omega arith
-
-pub loop-n-preserved : goal.loop-n-preserved
-loop-n-preserved c = loop-store c.loop-n.invariant c.loop-n-test.true c.item_at-i.ensures c.step-e.ensures _ c.in-Store.is c.if-limit-stored.false _ c.colour_word-w.ensures
-
-pub slice_at-place-requires : goal.slice_at-place-requires
-slice_at-place-requires c = omega (arith, c.loop-n.invariant.words)
-
-pub shape_of-room-in-Unfit : goal.shape_of-room-in-Unfit
-shape_of-room-in-Unfit c = c.loop-n.invariant.long
+pub loop-here-preserved : goal.loop-here-preserved
+loop-here-preserved c =
+    let l = c.loop-here.invariant in
+    let s = c.in-Some.ensures.steps in
+    record { size = s.0.0 ∙ l.size; loop = loop-store l.loop (record { words = s.0.1.0; size = s.0.1.1 ∙ l.size; one = s.1 }) c.item_at.ensures c.step.ensures _ c.in-Store.is c.if-limit-stored.false _ c.colour_word.ensures }
 
 pub returns-in-Unfit : goal.returns-in-Unfit
-returns-in-Unfit c = loop-unfit c.loop-n.invariant c.loop-n-test.true c.item_at-i.ensures c.step-e.ensures _ c.slice_at-place.ensures _ c.at.ensures c.in-Unfit.is
-
-pub shape_of-room : goal.shape_of-room
-shape_of-room c = c.loop-n.invariant.long
+returns-in-Unfit c =
+    let l = c.loop-here.invariant in
+    let s = c.in-Some.ensures.steps in
+    loop-unfit l.loop (record { words = s.0.1.0; size = s.0.1.1 ∙ l.size; one = s.1 }) c.item_at.ensures c.step.ensures _ c.slice_at.ensures _ c.at.ensures c.in-Unfit.is
 
 pub returns : goal.returns
-returns c = loop-end c.loop-n.invariant c.loop-n-test.false
+returns c =
+    let l = c.loop-here.invariant in
+    loop-end l.loop (λ h. rw l.size at (c.in-None.ensures.steps h).1.0)

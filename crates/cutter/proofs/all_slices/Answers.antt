@@ -4,8 +4,6 @@ use borrow.Author.Rules.{rules}
 use Rattle.std.proofs.lemmas.Result.{err_from_is_err_and}
 use Rattle.answers.specs.Answers.{refusal_at}
 use Rattle.answers.proofs.Results.{mapped-ok, mapped-err}
-use native.Mathlib.Omega.{arith}
-use lib.ListN.{length-take}
 use Rattle.rooms.proofs.Rooms.{wrote_none}
 use Rattle.tokens.specs.Tokens.{token_layout}
 use Rattle.cutter.proofs.Loop.{all_none, loop-start, loop-falls, loop-stop, next-above, loop-next, loop-last}
@@ -15,16 +13,7 @@ pub returns-then-s-eq0 : goal.returns-then-s-eq0
 returns-then-s-eq0 c = wrote_none token_layout (all_none _ _ _ c.if-s-eq0.true)
 
 pub loop-t-init : goal.loop-t-init
-loop-t-init c = loop-start _ _ _ _ c.if-s-eq0.false c.requires.0
-
-pub slice_bounds-cut_slice-end : goal.slice_bounds-cut_slice-end
-slice_bounds-cut_slice-end c = simp length-take (omega arith)
-
-pub cut_slice-requires : goal.cut_slice-requires
-cut_slice-requires c = (simp length-take (omega (arith, c.loop-t.invariant.fits, c.if-t-e.false)), c.loop-t.invariant.below, c.requires.1)
-
-pub overflow_cast-at : goal.overflow_cast-at
-overflow_cast-at c = omega (arith, c.loop-t.invariant.fits)
+loop-t-init c = loop-start _ _ _ _ c.if-s-eq0.false c.requires
 
 pub returns-in_err-m : goal.returns-in_err-m
 returns-in_err-m c =
@@ -33,28 +22,14 @@ returns-in_err-m c =
     let q : c.in_err-m.field-0.0 ≡ refusal_at w.0 c.loop-t.p = search rules in
     rw (p.1, p.2) (loop-stop _ c.loop-t.invariant (c.slice_end_by-e.ensures.length, (c.slice_end_by-e.ensures.within, c.slice_end_by-e.ensures.some)) c.if-t-e.false c.cut_slice.ensures w.1 refl q)
 
-pub overflow_cast-e : goal.overflow_cast-e
-overflow_cast-e c = omega (arith, c.loop-t.invariant.fits, c.if-t-e.false)
-
 pub seal-requires : goal.seal-requires
 seal-requires c = next-above _ c.loop-t.invariant (c.slice_end_by-e.ensures.length, (c.slice_end_by-e.ensures.within, c.slice_end_by-e.ensures.some)) c.if-t-e.false c.cut_slice.ensures (mapped-ok _ _ c.map_err.ensures.cases c.in_ok-m.was)
-
-pub slice_bounds-t-count : goal.slice_bounds-t-count
-slice_bounds-t-count c = omega (arith, c.if-t-e.false)
-
-pub overflow_add-p : goal.overflow_add-p
-overflow_add-p c = omega (arith, c.loop-t.invariant.fits, c.if-t-e.false)
 
 pub loop-t-smaller : goal.loop-t-smaller
 loop-t-smaller c = loop-falls _ c.loop-t.invariant (c.slice_end_by-e.ensures.length, (c.slice_end_by-e.ensures.within, c.slice_end_by-e.ensures.some)) c.if-t-e.false
 
 pub loop-t-preserved : goal.loop-t-preserved
 loop-t-preserved c = loop-next _ c.loop-t.invariant (c.slice_end_by-e.ensures.length, (c.slice_end_by-e.ensures.within, c.slice_end_by-e.ensures.some)) c.if-t-e.false c.cut_slice.ensures (mapped-ok _ _ c.map_err.ensures.cases c.in_ok-m.was) refl refl c.seal.ensures
-
-pub last_by-requires : goal.last_by-requires
-last_by-requires c =
-    let l = c.loop-t.invariant in
-    (l.fits, omega (arith, l.fits, l.some, l.below), l.below, c.requires.1)
 
 pub returns : goal.returns
 returns c = loop-last _ c.loop-t.invariant (c.slice_end_by-e.ensures.length, (c.slice_end_by-e.ensures.within, c.slice_end_by-e.ensures.some)) c.if-t-e.true c.last_by.ensures

@@ -1,24 +1,11 @@
--- `last` meets its contract: not one byte, another byte, or a closing bracket.
-use native.Mathlib.Omega.{arith}
+-- `last` meets its contract: another slice, or a closing bracket alone.
 use Rattle.rooms.proofs.Rooms.{wrote-stop}
 use Rattle.tokens.specs.Tokens.{token_layout}
-use Rattle.cutter.proofs.Source.{last-long, last-other, last-close, last-wrote}
+use Rattle.cutter.proofs.Source.{last-other, last-close, last-wrote}
 use Rattle.cutter.proofs.last.Goals as goal
 
-pub overflow_cast-p : goal.overflow_cast-p
-overflow_cast-p c = omega (arith, c.requires.1)
-
-pub returns-then-s-ne1 : goal.returns-then-s-ne1
-returns-then-s-ne1 c = wrote-stop token_layout (last-long _ _ c.if-s-ne1.true) c.at.ensures
-
-pub returns-then-s-ne125 : goal.returns-then-s-ne125
-returns-then-s-ne125 c = wrote-stop token_layout (last-other _ _ c.if-s-ne1.false c.if-s-ne125.true) c.at-then-s-ne125.ensures
-
-pub overflow_add-n : goal.overflow_add-n
-overflow_add-n c = omega (arith, c.requires.0)
-
-pub overflow_add-result : goal.overflow_add-result
-overflow_add-result c = omega (arith, c.requires.0)
+pub returns-then-ne : goal.returns-then-ne
+returns-then-ne c = wrote-stop token_layout (last-other _ _ _ c.as_slice.ensures _ c.ne.ensures c.if-ne.true) c.at.ensures
 
 pub returns : goal.returns
-returns c = last-wrote (last-close _ _ c.if-s-ne1.false c.if-s-ne125.false) c.bare.ensures c.put.ensures c.seal.ensures
+returns c = last-wrote (last-close _ _ _ c.as_slice.ensures _ c.ne.ensures c.if-ne.false) c.bare.ensures c.put.ensures c.seal.ensures

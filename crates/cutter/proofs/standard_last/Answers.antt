@@ -1,11 +1,12 @@
 -- `standard_last` meets its contract: `}` alone; a refusal of its own; another slice.
-use mathlib.Core.Path.{◌≡◌, refl}
+use mathlib.Core.Path.{◌≡◌, refl, ◌∙◌}
 use borrow.Author.Rules.{rules}
 use Rattle.answers.specs.Answers.{refusal_at}
 use Rattle.std.proofs.lemmas.Result.{err_from_is_err_and}
 use Rattle.answers.proofs.Results.{mapped-ok, mapped-err}
 use Rattle.readings.specs.declared.Reading.TheVariants.{Standard}
 use Rattle.cutter.proofs.Loop.{slice-above, last-stop, last-open, last-closed}
+use Rattle.cutter.proofs.Source.{bracket-alone}
 use Rattle.cutter.proofs.standard_last.Goals as goal
 
 pub seal-requires : goal.seal-requires
@@ -18,8 +19,8 @@ returns-in_err-m c =
     let q : c.in_err-m.field-0.0 ≡ refusal_at w.0 c.args.place = search rules in
     rw (p.1, p.2) (last-stop _ _ c.slice_tokens.ensures w.1 q)
 
-pub returns-then-not-is_bracket : goal.returns-then-not-is_bracket
-returns-then-not-is_bracket c = last-open _ _ c.slice_tokens.ensures (mapped-ok _ _ c.map_err.ensures.cases c.in_ok-m.was) c.is_bracket.ensures c.if-not-is_bracket.true c.at.ensures
+pub returns-then-eq : goal.returns-then-eq
+returns-then-eq c = last-closed _ _ c.slice_tokens.ensures (mapped-ok _ _ c.map_err.ensures.cases c.in_ok-m.was) (c.eq.ensures ∙ bracket-alone _ _ c.as_slice.ensures) c.if-eq.true refl refl c.seal.ensures
 
 pub returns : goal.returns
-returns c = last-closed _ _ c.slice_tokens.ensures (mapped-ok _ _ c.map_err.ensures.cases c.in_ok-m.was) c.is_bracket.ensures c.if-not-is_bracket.false refl refl c.seal.ensures
+returns c = last-open _ _ c.slice_tokens.ensures (mapped-ok _ _ c.map_err.ensures.cases c.in_ok-m.was) (c.eq.ensures ∙ bracket-alone _ _ c.as_slice.ensures) c.if-eq.false c.at.ensures

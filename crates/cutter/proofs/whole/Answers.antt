@@ -1,6 +1,4 @@
 -- `whole` meets its contract: too long, a byte above 127, or the slices of the trimmed source.
-use native.Mathlib.Omega.{arith}
-use lib.ListN.{length-take, length-drop}
 use Rattle.rooms.proofs.Rooms.{wrote-stop, wrote_as}
 use Rattle.tokens.specs.Tokens.{token_layout}
 use Rattle.cutter.proofs.Source.{stream-long, stream-high, stream-slices}
@@ -11,12 +9,6 @@ returns-then-source-gt65536 c = wrote-stop token_layout (stream-long _ _ c.if-so
 
 pub returns-then-has_high : goal.returns-then-has_high
 returns-then-has_high c = wrote-stop token_layout (stream-high _ _ c.if-source-gt65536.false _ c.has_high.ensures c.if-has_high.true) c.of-then-has_high.ensures
-
-pub slice_bounds-all_slices-end : goal.slice_bounds-all_slices-end
-slice_bounds-all_slices-end c = simp (length-take, length-drop) (omega (arith, simp (length-take, length-drop) at c.body_of-end.ensures.within))
-
-pub all_slices-requires : goal.all_slices-requires
-all_slices-requires c = (simp (length-take, length-drop) (omega arith), c.requires)
 
 pub returns : goal.returns
 returns c = wrote_as token_layout (stream-slices _ _ c.if-source-gt65536.false _ c.has_high.ensures c.if-has_high.false _ _ c.lead_of-start.ensures.count c.body_of-end.ensures.count) c.all_slices.ensures

@@ -7,8 +7,7 @@ use Rattle.walk.specs.Walk.{walk}
 use Rattle.fonts.specs.Rows.{font_words}
 use Rattle.colours.specs.Colours.{colour_words}
 use Rattle.header.specs.Header.{tables}
-use Rattle.header.proofs.Clearing.{header-fits, header_refused, header_read}
-use Rattle.std.proofs.lemmas.Result.{err_from_is_err_and}
+use Rattle.header.proofs.Clearing.{header-fits, header_read}
 use Rattle.header.proofs.read_header.Goals as goal
 
 pub overflow_mul-held : goal.overflow_mul-held
@@ -19,12 +18,6 @@ overflow_mul-held c =
     let h = header-fits x _ _ _ c.walk_tables.ensures c.in_ok-held.was in
     let k = c.walk_tables.auto.fonts in
     omega arith
-
-pub returns-in_err-held : goal.returns-in_err-held
-returns-in_err-held c =
-    let a = c.args in let x = tables (table_limit font_words (length a.fonts.now)) (table_limit colour_words (length a.colours.now)) (walk (tokens_all a.source.now a.count a.tokens.now)) in
-    let p = err_from_is_err_and c.from_residual.result c.from_residual.ensures.1 in
-    rw (p.1, p.2) (header_refused _ _ x _ _ _ c.walk_tables.ensures c.in_err-held.was _ _)
 
 pub returns : goal.returns
 returns c =

@@ -1,13 +1,12 @@
--- `leads` meets its contract: no byte, that byte, or another.
+-- `leads` meets its contract: whether the first byte is that byte.
+use mathlib.Core.Path.{◌≡◌, refl, ap, ◌∙◌}
 use native.Mathlib.Omega.{arith}
-use Rattle.standard.proofs.Rules.{leads-none, leads_one, leads-other}
+use mir.Val.{bool_byte}
+use Rattle.standard.specs.Standard.{leads}
+use Rattle.standard.proofs.Rules.{leads-first, leads-within}
 use Rattle.standard.proofs.leads.Goals as goal
 
-pub returns-then-s-eq0 : goal.returns-then-s-eq0
-returns-then-s-eq0 c = (leads-none _ _ c.if-s-eq0.true, omega arith)
-
-pub returns-then-s-b : goal.returns-then-s-b
-returns-then-s-b c = (leads_one _ _ c.if-s-eq0.false c.if-s-b.true, let z = c.if-s-eq0.false in omega arith)
-
 pub returns : goal.returns
-returns c = (leads-other _ _ c.if-s-eq0.false c.if-s-b.false, omega arith)
+returns c =
+    let e : c.from.result ≡ leads c.args.b c.args.s.now = c.from.ensures ∙ ap bool_byte c.eq.ensures ∙ leads-first c.args.b c.args.s.now _ _ c.first.ensures.value refl in
+    (e, omega (arith, e, leads-within c.args.b c.args.s.now))

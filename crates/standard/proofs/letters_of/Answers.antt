@@ -1,18 +1,18 @@
--- `letters_of` meets its contract. The invariant: i letters stand in front, and the rest is counted from i on. The measure is what
--- is left.
-use native.Mathlib.Omega.{arith}
-use Rattle.classes.specs.Bytes.{is_alpha}
-use Rattle.classes.proofs.Runs.{lead-start, lead-more, lead-stop, lead-end}
+-- `letters_of` meets its contract: the chain counts what `lead` counts.
+use Rattle.std.proofs.Common.{◌≡◌, ◌∙◌, rules, tests, arith}
+use Rattle.std.proofs.lemmas.Iterator.{YieldsList-from_slice}
+use Rattle.std.proofs.lemmas.Iterator.Consumers.{count_from_yields_List}
+use Rattle.std.proofs.lemmas.Iterator.Search.{YieldsList-from_take_while}
+use Rattle.std.proofs.lemmas.List.Folds.{length-prefix_len}
+use Rattle.classes.specs.Bytes.{is_alpha, lead}
+use Rattle.classes.proofs.Runs.{lead-prefix, lead-length}
 use Rattle.standard.proofs.letters_of.Goals as goal
 
-pub loop-i-init : goal.loop-i-init
-loop-i-init c = (omega arith, lead-start is_alpha _)
-
-pub returns-then-not-is_alpha : goal.returns-then-not-is_alpha
-returns-then-not-is_alpha c = (lead-stop is_alpha _ _ _ c.is_alpha.ensures c.loop-i-test.true c.loop-i.invariant.1 c.if-not-is_alpha.true-raw, omega arith)
-
-pub loop-i-preserved : goal.loop-i-preserved
-loop-i-preserved c = (omega arith, lead-more is_alpha _ _ _ c.is_alpha.ensures c.loop-i-test.true c.loop-i.invariant.1 c.if-not-is_alpha.false-raw)
-
 pub returns : goal.returns
-returns c = (lead-end is_alpha _ _ c.loop-i-test.false c.loop-i.invariant.1, omega arith)
+returns c =
+    let s = c.args.s.now in
+    let e : c.count.result ≡ lead is_alpha s =
+    count_from_yields_List c.take_while.result _ c.count.ensures.ran
+    (YieldsList-from_take_while _ is_alpha (YieldsList-from_slice s cc) c.take_while.ensures.closure c.take_while.ensures.done (λ x b q k. search (rules, tests)))
+    ∙ length-prefix_len is_alpha s ∙ lead-prefix is_alpha s in
+    (e, omega (arith, e, lead-length is_alpha s))

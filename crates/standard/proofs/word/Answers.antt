@@ -6,15 +6,8 @@ use Rattle.rooms.proofs.Rooms.{wrote_then, wrote-stops}
 use Rattle.tokens.specs.Tokens.{shown_layout}
 use Rattle.standard.proofs.Rules.{word-parts}
 use Rattle.standard.proofs.Sizes.{named-next}
-use borrow.Author.Rules.{rules}
 use Rattle.std.proofs.lemmas.Result.{err_from_is_err_and}
 use Rattle.standard.proofs.word.Goals as goal
-
-pub slice_bounds-named-end : goal.slice_bounds-named-end
-slice_bounds-named-end c = simp length-take (omega arith)
-
-pub named-requires : goal.named-requires
-named-requires c = (simp length-take (omega arith), search rules, search rules)
 
 pub tail-requires : goal.tail-requires
 tail-requires c =

@@ -1,4 +1,5 @@
 -- `lay_list` meets its contract: the count, and then the blocks.
+use mathlib.Core.Path.{refl}
 use native.Mathlib.Omega.{arith}
 use mathlib.Core.Path.{sym, ◌∙◌}
 use Rattle.std.proofs.lemmas.Result.{err_from_is_err_and}
@@ -27,4 +28,4 @@ pub returns-clause-laid : goal.returns-clause-laid
 returns-clause-laid c =
     lay-is c.args.list.now c.args.blocks.now c.args.text.now
     (sym c.number_at.ensures ∙ mapped_ok c.number_at.result c.map_err.ensures.cases c.in_ok-n.was)
-    c.wide.ensures c.lay_blocks.ensures.laid
+    refl c.lay_blocks.ensures.laid

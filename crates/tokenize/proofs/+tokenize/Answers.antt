@@ -1,6 +1,6 @@
 -- `tokenize` meets its contract: each branch is the rule of the first byte.
 use native.Mathlib.Omega.{arith}
-use mathlib.Core.Path.{refl, sym}
+use mathlib.Core.Path.{refl}
 use lib.ListN.{length-take, length-drop}
 use Rattle.rooms.proofs.Rooms.{wrote_none, wrote_then, wrote_as}
 use Rattle.tokens.specs.Tokens.{shown_layout}
@@ -17,7 +17,7 @@ returns-then-s-eq1 t c = wrote_then shown_layout _ (tokens-alone _ _ _ c.if-s-eq
 pub tokenize-requires : goal.tokenize-requires
 tokenize-requires t c =
     let b = mark-next _ c.mark-m.ensures in
-    (simp (length-take, length-drop) (omega (arith, c.decreases, c.if-s-eq0.false)), (simp (length-take, length-drop) (omega (arith, c.requires.0, c.if-s-eq0.false)), omega (arith, c.requires.1, b), c.requires.2))
+    (simp (length-take, length-drop) (omega (arith, c.decreases, c.if-s-eq0.false)), (simp (length-take, length-drop) (omega (arith, c.requires.0, c.if-s-eq0.false)), omega (arith, c.requires.1, b)))
 
 pub returns-then-is_mark : goal.returns-then-is_mark
 returns-then-is_mark t c = wrote_then shown_layout _ (tokens-mark _ _ _ c.if-s-eq0.false _ c.is_mark.ensures c.if-is_mark.true) c.mark-m.ensures refl c.tokenize.ensures

@@ -6,19 +6,8 @@ use Rattle.rooms.proofs.Rooms.{wrote_none, wrote_then, wrote-stops}
 use Rattle.tokens.specs.Tokens.{shown_layout}
 use Rattle.tokenize.proofs.Rules.{word-parts, word-short}
 use Rattle.tokenize.proofs.Sizes.{named-next}
-use borrow.Author.Rules.{rules}
 use Rattle.std.proofs.lemmas.Result.{err_from_is_err_and}
 use Rattle.tokenize.proofs.word.Goals as goal
-
-pub slice_bounds-bare_length-end : goal.slice_bounds-bare_length-end
-slice_bounds-bare_length-end c = simp length-take (omega arith)
-
-pub slice_bounds-named-end : goal.slice_bounds-named-end
-slice_bounds-named-end c = simp length-take (omega (arith, simp length-take at c.bare_length-e.ensures.within))
-
-pub named-requires : goal.named-requires
-named-requires c =
-    (simp length-take (omega (arith, simp length-take at c.bare_length-e.ensures.within)), search rules, search rules)
 
 pub returns-then-k-s : goal.returns-then-k-s
 returns-then-k-s c = wrote_then shown_layout _ (word-short _ _ _ _ c.lead_of-k.ensures.count c.bare_length-e.ensures.value c.if-k-s.true) c.named.ensures c.in_ok-m.was (wrote_none shown_layout refl)

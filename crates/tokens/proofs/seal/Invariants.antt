@@ -1,10 +1,8 @@
--- `seal` meets its contract. The invariant: whoever seals the records from i on has sealed all.
+-- The invariant of `seal`: whoever seals the records from i on has sealed all.
 use Prim.Native.Nat.{◌-◌}
-use Rattle.tokens.proofs.Sealing.{Loop}
+use mathlib.Core.Path.{◌≡◌}
+use Rattle.tokens.specs.Tokens.{sealed_all}
 use Rattle.tokens.proofs.seal.Given as goal
 
 abbrev pub invariant-loop-i : goal.invariant-loop-i
-invariant-loop-i l = Loop l.place l.length l.initial.room l.room l.n l.m l.i
-
-abbrev pub decreases-loop-i : goal.decreases-loop-i
-decreases-loop-i l = l.m - l.i
+invariant-loop-i l = sealed_all l.place l.length l.initial.room l.n (l.m - l.n) ≡ sealed_all l.place l.length l.room l.i (l.m - l.i)

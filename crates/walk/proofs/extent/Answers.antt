@@ -1,28 +1,35 @@
 -- `extent` meets its contract: the tokens that were measured and those that are left make the whole.
+use mathlib.Core.Path.{◌∙◌}
 use native.Mathlib.Omega.{arith}
-use Rattle.walk.proofs.Looks.{measure-start, measure-more, measure-end, measure-none}
+use Rattle.walk.proofs.Looks.{measure-ready, measure-more, measure-end, measure-none}
 use Rattle.walk.proofs.extent.Goals as goal
 
-pub loop-n-init : goal.loop-n-init
-loop-n-init c = measure-start _ _ c.requires
-
-pub item_at-i-requires : goal.item_at-i-requires
-item_at-i-requires c = let w = c.loop-n.invariant.words in omega arith
-
 pub level-d-requires : goal.level-d-requires
-level-d-requires c = (c.loop-n.invariant.some, (let a = c.loop-n.invariant.deep in let b = c.loop-n.invariant.few in omega arith))
-
-pub slice_bounds-t-count : goal.slice_bounds-t-count
-slice_bounds-t-count c = let w = c.loop-n.invariant.words in omega arith
-
-pub overflow_sub-result : goal.overflow_sub-result
-overflow_sub-result c = let b = c.loop-n.invariant.few in omega arith
+level-d-requires c =
+    let l = c.loop-k.invariant in
+    let s = c.in-Some.ensures.steps in
+    let r = measure-ready l.measure (record { words = s.0.0.1.0; size = s.0.0.1.1 ∙ l.size; one = s.0.1 }) in
+    (r.0, omega arith)
 
 pub returns-then-d-eq0 : goal.returns-then-d-eq0
-returns-then-d-eq0 c = measure-end c.loop-n.invariant c.loop-n-test.true c.item_at-i.ensures c.level-d.ensures c.if-d-eq0.true
+returns-then-d-eq0 c =
+    let l = c.loop-k.invariant in
+    let s = c.in-Some.ensures.steps in
+    let e = s.1 in
+    measure-end l.measure (record { words = s.0.0.1.0; size = s.0.0.1.1 ∙ l.size; one = s.0.1 }) c.item_at.ensures c.level-d.ensures _ (omega (arith, e, l.index)) c.if-d-eq0.true
 
-pub loop-n-preserved : goal.loop-n-preserved
-loop-n-preserved c = measure-more c.loop-n.invariant c.loop-n-test.true c.item_at-i.ensures c.level-d.ensures c.if-d-eq0.false
+pub loop-k-preserved : goal.loop-k-preserved
+loop-k-preserved c =
+    let l = c.loop-k.invariant in
+    let s = c.in-Some.ensures.steps in
+    let e = s.2 in
+    record {
+      size = s.0.0.0 ∙ l.size;
+      index = omega (arith, e, s.0.1, l.index);
+      measure = measure-more l.measure (record { words = s.0.0.1.0; size = s.0.0.1.1 ∙ l.size; one = s.0.1 }) c.item_at.ensures c.level-d.ensures c.if-d-eq0.false;
+    }
 
 pub returns : goal.returns
-returns c = measure-none c.loop-n.invariant c.loop-n-test.false
+returns c =
+    let l = c.loop-k.invariant in
+    measure-none l.measure (λ h. rw l.size at (c.in-None.ensures.steps.0 h).1.0)

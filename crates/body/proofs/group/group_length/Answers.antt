@@ -6,8 +6,8 @@ use Rattle.body.proofs.group.group_length.Goals as goal
 pub returns-then-left-eq0 : goal.returns-then-left-eq0
 returns-then-left-eq0 c = ((λ src. group-end src _ _ c.if-left-eq0.true), omega arith)
 
-pub returns-then-rest-lt3 : goal.returns-then-rest-lt3
-returns-then-rest-lt3 c = ((λ src. group-plain src _ _ c.if-left-eq0.false c.if-rest-lt3.true), omega arith)
+pub returns-then-rest-number : goal.returns-then-rest-number
+returns-then-rest-number c = ((λ src. group-plain src _ _ c.if-left-eq0.false (rw c.number.ensures at c.if-rest-number.true)), omega arith)
 
 pub returns-in-Nothing : goal.returns-in-Nothing
 returns-in-Nothing c = ((λ src. group-none _ (c.aim_of-a.ensures src) c.in-Nothing.is), omega arith)

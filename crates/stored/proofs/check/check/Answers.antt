@@ -1,4 +1,5 @@
 -- `check` meets its contract: the count, and then the blocks.
+use mathlib.Core.Path.{refl}
 use native.Mathlib.Omega.{arith}
 use mathlib.Core.Path.{sym, ◌∙◌}
 use Rattle.std.proofs.lemmas.Result.{err_from_is_err_and}
@@ -26,4 +27,4 @@ slice_bounds-check_blocks-start c =
 pub returns : goal.returns
 returns c =
     check-is c.args.list.now (sym c.number_at.ensures ∙ mapped_ok c.number_at.result c.map_err.ensures.cases c.in_ok-n.was)
-    c.wide.ensures c.check_blocks.ensures
+    refl c.check_blocks.ensures

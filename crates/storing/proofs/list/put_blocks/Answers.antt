@@ -1,4 +1,5 @@
 -- `put_blocks` meets its contract.
+use mathlib.Core.Path.{refl}
 use mathlib.Core.Path.{◌∙◌}
 use native.Mathlib.Omega.{arith}
 use lib.ListN.{length-take, length-drop}
@@ -16,14 +17,14 @@ slice_bounds-put_block-end c =
     let inv = c.loop-words.invariant in
     let s = c.in-Some.ensures.steps.1 in
     let f = row-fit _ _ (rw s.0 at inv.rows) (s.1 ∙ inv.size) c.fits.ensures c.if-not-fits.false in
-    omega (arith, f.within, inv.rows.within, c.wide.ensures)
+    omega (arith, f.within, inv.rows.within)
 
 pub put_block-at-requires : goal.put_block-at-requires
 put_block-at-requires c =
     let inv = c.loop-words.invariant in
     let s = c.in-Some.ensures.steps.1 in
     let f = row-fit _ _ (rw s.0 at inv.rows) (s.1 ∙ inv.size) c.fits.ensures c.if-not-fits.false in (
-      simp (length-take, length-drop) (omega (arith, c.wide.ensures, f.count)),
+      simp (length-take, length-drop) (omega (arith, f.count)),
       omega (arith, f.here, f.place, inv.rows.place),
     )
 
@@ -34,7 +35,7 @@ loop-words-preserved c =
     let s = c.in-Some.ensures.steps.1 in
     record {
       size = z ∙ inv.size;
-      rows = rows_more _ _ (rw s.0 at inv.rows) (s.1 ∙ inv.size) c.fits.ensures c.if-not-fits.false c.at-style.ensures c.wide.ensures c.put_block-at.ensures;
+      rows = rows_more _ _ (rw s.0 at inv.rows) (s.1 ∙ inv.size) c.fits.ensures c.if-not-fits.false c.at-style.ensures refl c.put_block-at.ensures;
     }
 
 pub returns-then-p-text : goal.returns-then-p-text

@@ -1,5 +1,4 @@
 -- `escaped` meets its contract. Assumes nothing.
-use mathlib.Core.Path.{sym}
 use Rattle.rooms.proofs.Rooms.{wrote_as}
 use Rattle.tokens.specs.Tokens.{shown_layout}
 use Rattle.tokenize.proofs.Shapes.{word_slice}
@@ -7,9 +6,3 @@ use Rattle.tokenize.proofs.quick.escaped.Goals as goal
 
 pub returns-then-is_letter : goal.returns-then-is_letter
 returns-then-is_letter c = wrote_as shown_layout (word_slice _ _ c.args.s.now c.if-s-gt1.true c.requires.starts.1 _ c.is_letter.ensures c.if-is_letter.true) c.quick_word.ensures
-
-pub returns-in-Err : goal.returns-in-Err
-returns-in-Err c = rw (sym c.in-Err.is) c.tokenize-rest.ensures
-
-pub returns-in-Ok : goal.returns-in-Ok
-returns-in-Ok c = rw (sym c.in-Ok.is) c.tokenize-rest.ensures

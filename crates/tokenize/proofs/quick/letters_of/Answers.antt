@@ -1,18 +1,18 @@
--- `letters_of` meets its contract. The invariant: i letters stand in front, and the rest is counted from i on. The measure is what
--- is left. Assumes nothing.
-use native.Mathlib.Omega.{arith}
-use Rattle.classes.specs.Bytes.{is_letter}
-use Rattle.classes.proofs.Runs.{lead-start, lead-more, lead-stop, lead-end}
+-- `letters_of` meets its contract: the chain counts what `lead` counts. Assumes nothing.
+use Rattle.std.proofs.Common.{◌≡◌, ◌∙◌, rules, tests, arith}
+use Rattle.std.proofs.lemmas.Iterator.{YieldsList-from_slice}
+use Rattle.std.proofs.lemmas.Iterator.Consumers.{count_from_yields_List}
+use Rattle.std.proofs.lemmas.Iterator.Search.{YieldsList-from_take_while}
+use Rattle.std.proofs.lemmas.List.Folds.{length-prefix_len}
+use Rattle.classes.specs.Bytes.{is_letter, lead}
+use Rattle.classes.proofs.Runs.{lead-prefix, lead-length}
 use Rattle.tokenize.proofs.quick.letters_of.Goals as goal
 
-pub loop-i-init : goal.loop-i-init
-loop-i-init c = (omega arith, lead-start is_letter _)
-
-pub returns-then-not-is_letter : goal.returns-then-not-is_letter
-returns-then-not-is_letter c = (lead-stop is_letter _ _ _ c.is_letter.ensures c.loop-i-test.true c.loop-i.invariant.1 c.if-not-is_letter.true-raw, omega arith)
-
-pub loop-i-preserved : goal.loop-i-preserved
-loop-i-preserved c = (omega arith, lead-more is_letter _ _ _ c.is_letter.ensures c.loop-i-test.true c.loop-i.invariant.1 c.if-not-is_letter.false-raw)
-
 pub returns : goal.returns
-returns c = (lead-end is_letter _ _ c.loop-i-test.false c.loop-i.invariant.1, omega arith)
+returns c =
+    let s = c.args.s.now in
+    let e : c.count.result ≡ lead is_letter s =
+    count_from_yields_List c.take_while.result _ c.count.ensures.ran
+    (YieldsList-from_take_while _ is_letter (YieldsList-from_slice s cc) c.take_while.ensures.closure c.take_while.ensures.done (λ x b q k. search (rules, tests)))
+    ∙ length-prefix_len is_letter s ∙ lead-prefix is_letter s in
+    (e, omega (arith, e, lead-length is_letter s))

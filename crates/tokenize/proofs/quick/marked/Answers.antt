@@ -1,5 +1,5 @@
 -- `marked` meets its contract: the mark's token, and then what follows it. Plain text is what cutting it again gives. Assumes nothing.
-use mathlib.Core.Path.{refl, sym}
+use mathlib.Core.Path.{refl}
 use native.Mathlib.Omega.{arith}
 use Rattle.rooms.proofs.Rooms.{wrote_none, wrote_then}
 use Rattle.tokens.specs.Tokens.{shown_layout}
@@ -8,9 +8,3 @@ use Rattle.tokenize.proofs.quick.marked.Goals as goal
 
 pub returns-then-s-eq1 : goal.returns-then-s-eq1
 returns-then-s-eq1 c = wrote_then shown_layout _ (tokens-alone _ _ _ (λ z. omega (arith, z, c.requires)) _ refl c.requires.starts.1 c.if-s-eq1.true) c.mark.ensures refl (wrote_none shown_layout refl)
-
-pub returns-in-Err : goal.returns-in-Err
-returns-in-Err c = rw (sym c.in-Err.is) c.tokenize-rest.ensures
-
-pub returns-in-Ok : goal.returns-in-Ok
-returns-in-Ok c = rw (sym c.in-Ok.is) c.tokenize-rest.ensures

@@ -1,8 +1,5 @@
 -- `numbered` meets its contract: no number, a number, or one that is none. Assumes nothing.
-use mathlib.Core.Path.{refl, ◌∙◌}
-use native.Mathlib.Omega.{arith}
-use lib.ListN.{length-take}
-use borrow.Author.Rules.{rules}
+use mathlib.Core.Path.{◌∙◌}
 use Rattle.rooms.proofs.Rooms.{wrote-stop}
 use Rattle.tokens.specs.Tokens.{shown_layout}
 use Rattle.tokens.proofs.Records.{wrote-token}
@@ -14,12 +11,6 @@ use Rattle.tokenize.proofs.quick.numbered.Goals as goal
 
 pub returns-then-e-w : goal.returns-then-e-w
 returns-then-e-w c = wrote-token (named-bare _ _ _ c.requires.ends.0 c.if-e-w.true) c.word_record.ensures c.put.ensures
-
-pub slice_bounds-word_record-end : goal.slice_bounds-word_record-end
-slice_bounds-word_record-end c = simp length-take (omega arith)
-
-pub word_record-requires-2 : goal.word_record-requires-2
-word_record-requires-2 c = (simp length-take (omega arith), search rules)
 
 pub returns-in_err-v : goal.returns-in_err-v
 returns-in_err-v c =

@@ -1,5 +1,4 @@
 -- `quick_word` meets its contract: the shape is that of the definition, or `tokenize` finds it. Assumes nothing.
-use mathlib.Core.Path.{sym}
 use native.Mathlib.Omega.{arith}
 use lib.ListN.{length-take, length-drop}
 use Rattle.rooms.proofs.Rooms.{wrote_then, wrote-stops}
@@ -9,19 +8,10 @@ use Rattle.tokenize.proofs.Shapes.{word-body, word-shape}
 use Rattle.std.proofs.lemmas.Result.{err_from_is_err_and}
 use Rattle.tokenize.proofs.quick.quick_word.Goals as goal
 
-pub returns-in-Err : goal.returns-in-Err
-returns-in-Err c = rw (sym c.in-Err.is) c.word-other.ensures
-
-pub returns-in-Ok : goal.returns-in-Ok
-returns-in-Ok c = rw (sym c.in-Ok.is) c.word-other.ensures
-
-pub slice_bounds-numbered-end : goal.slice_bounds-numbered-end
-slice_bounds-numbered-end c = let h = simp (length-take, length-drop) at c.lead_of.ensures.within in simp length-take (omega (arith, h, c.letters_of-e.ensures))
-
 pub numbered-requires : goal.numbered-requires
 numbered-requires c =
     let h = simp (length-take, length-drop) at c.lead_of.ensures.within in
-    record { bounds = (simp length-take (omega (arith, h, c.letters_of-e.ensures, c.requires)), c.requires.1, c.requires.2); ends = (word-body _ _ _ c.letters_of-e.ensures.0 c.lead_of.ensures.count _ c.ends_at.ensures c.if-not-ends_at.false-raw, simp length-take (omega (arith, h, c.letters_of-e.ensures))) }
+    record { bounds = (simp length-take (omega (arith, h, c.letters_of-e.ensures, c.requires)), c.requires.1); ends = (word-body _ _ _ c.letters_of-e.ensures.0 c.lead_of.ensures.count _ c.ends_at.ensures c.if-not-ends_at.false-raw, simp length-take (omega (arith, h, c.letters_of-e.ensures))) }
 
 pub behind-requires : goal.behind-requires
 behind-requires c =

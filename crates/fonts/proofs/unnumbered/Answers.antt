@@ -1,9 +1,0 @@
--- `unnumbered` meets its contract.
-use Rattle.std.proofs.Common.{refl}
-use Rattle.fonts.proofs.unnumbered.Goals as goal
-
-pub returns-in-Ok : goal.returns-in-Ok
-returns-in-Ok c = rw c.in-Ok.is
-
-pub returns-in-Err : goal.returns-in-Err
-returns-in-Err c = rw c.in-Err.is refl
