@@ -1,6 +1,6 @@
 -- Pieces laid into lent rooms one after the other, as the code does it: a block's record is written when it starts, and its
 -- length grows with its text. Assumes nothing: these are definitions.
-use Rattle.std.specs.Prelude.{ℕ, zero, suc, ◌+◌, ◌-◌, ◌*◌, ◌≤◌, ◌≡◌, List, Bool, true, false, cond, length, get_or, drop, set, ltb}
+use Rattle.std.specs.Prelude.{ℕ, zero, suc, ◌+◌, ◌-◌, ◌*◌, ◌≤◌, List, cond, length, drop, set, ltb}
 use Rattle.std.proofs.lemmas.List.Edits.{sets}
 use Rattle.answers.specs.declared.Refusal.{Refusal}
 use Rattle.answers.specs.declared.Why.{Why}

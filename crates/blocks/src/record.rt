@@ -1,16 +1,28 @@
 // A block's record in a room (01, Body; 02, A5): the words of its style, and place and length of its text.
 //
+//   lay        words one after the other
 //   put        a record
 //   style_in   the style that a record says
 ghost use Rattle.std.specs.Prelude.{◌≡◌, [], ◌∷◌, ◌++◌, ◌+◌, ◌≤◌, ◌<◌, length};
+ghost use Rattle.std.proofs.lemmas.List.Edits.{sets};
 ghost use Rattle.rooms.specs.Rooms.{put as put_words, capacity};
 ghost use Rattle.styles.specs.Styles.{style_words};
 ghost use Rattle.blocks.specs.Pages.{block_words};
 ghost use Rattle.blocks.specs.Laying.{style_in};
 
-use crate::copy::copy;
 use crate::{BLOCK_WORDS, TEXT_LENGTH, TEXT_PLACE};
 use styles::Style;
+
+fn lay(words: &[u32], room: &mut [u32], at: usize)
+    requires { at + length words.now ≤ length room.old }
+    ensures { room.new ≡ sets room.old at words.now }
+{
+    let mut i = 0;
+    while i < words.len() {
+        room[at + i] = words[i];
+        i += 1;
+    }
+}
 
 // A record at place n, if the room holds that place.
 pub fn put(room: &mut [u32], n: usize, s: Style, place: u32, count: u32)
@@ -19,7 +31,7 @@ pub fn put(room: &mut [u32], n: usize, s: Style, place: u32, count: u32)
     if n < room.len() / BLOCK_WORDS {
         let at = n * BLOCK_WORDS;
         let words = s.words();
-        copy(&words, room, at);
+        lay(&words, room, at);
         room[at + TEXT_PLACE] = place;
         room[at + TEXT_LENGTH] = count;
     }

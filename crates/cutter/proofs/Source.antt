@@ -23,7 +23,7 @@ use Rattle.rooms.proofs.Rooms.{wrote_one, length-encode, put_all-front, settled-
 use Rattle.slices.specs.Slices.{slices_by}
 use Rattle.tokens.specs.declared.Kind.TheVariants as kinds
 use Rattle.tokens.specs.declared.Record.{Record}
-use Rattle.tokens.specs.Tokens.{Shown, Token, token, token_words, record_words, bare_record, shown_layout, token_layout, sealed_all}
+use Rattle.tokens.specs.Tokens.{Shown, Token, token, token_words, record_words, kind_number, bare_record, shown_layout, token_layout, sealed_all}
 use Rattle.tokens.proofs.Records.{token-sized, closing-record, wrote-token}
 use Rattle.tokens.proofs.Sealing.{sealed-wrote}
 use Rattle.standard.specs.Closing.{is_bracket}
@@ -68,7 +68,7 @@ module _ (p : ℕ) (s t : List ℕ) (q : t ≡ 125 ∷ []) (r : Bool) (z : r ≡
   last-close e = let n : is_bracket s ≡ true = not-false (is_bracket s) (sym alone ∙ e) in last-at ∙ rw n
 
 -- the bracket's record, and then its slice
-pub last-wrote : {x : Stream Refusal Token} {p n : ℕ} {room room' room'' : List ℕ} {r : Record} → x ≡ token p 1 Shown.closing ▸ end → r ≡ bare_record kinds.Closing
+pub last-wrote : {x : Stream Refusal Token} {p n : ℕ} {room room' room'' : List ℕ} {r : Record} → x ≡ token p 1 Shown.closing ▸ end → r ≡ bare_record (kind_number kinds.Closing)
     → room' ≡ put token_words room n (record_words r) → room'' ≡ sealed_all p 1 room' n (n + 1 - n) → Wrote token_layout n room x (Ok (n + 1)) room''
 unfolding each put_all
 last-wrote {p = p} {n = n} {room = room} e q h k =

@@ -34,7 +34,7 @@ fn last(s: &[u8], place: usize, room: &mut [u32], n: usize) -> Result<usize, Ref
     if s != b"}".as_slice() {
         return Err(Refusal::at(Why::LastSlice, p));
     }
-    put(room, n, Record::bare(Kind::Closing));
+    put(room, n, Record::bare(Kind::Closing as u32));
     seal(room, n, n + 1, p, 1);
     Ok(n + 1)
 }

@@ -36,11 +36,15 @@ pub enum Effect {
     Unnumbered,
 }
 
-// A signed number modulo 65,536, as the crate's cast to u16: a negative number stands as itself and 2^32.
+// A signed number modulo 65,536, as the crate's cast to u16: the magnitude of a negative number is subtracted from 0.
 fn key_of(v: u32) -> u32
     ensures { result ≡ v % 65536 }
 {
-    v % 65536
+    if v < 2147483648 {
+        return v % 65536;
+    }
+    let magnitude = 4294967295 - v + 1;
+    std::num::wrapping_sub_u32(0, magnitude) % 65536
 }
 
 // The length of a text without the semicolons that it ends with.

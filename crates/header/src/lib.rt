@@ -47,12 +47,19 @@ fn walk_tables(
         t = &t[TOKEN_WORDS..];
         n -= 1;
         if opening {
-            let e = enter(source, t, n, held_fonts, held_colours, fonts, colours)?;
-            let passed = e.passed * TOKEN_WORDS;
-            t = &t[passed..];
-            n -= e.passed;
-            held_fonts = e.fonts;
-            held_colours = e.colours;
+            // No `?`: what it hands on goes through memory, bytes first and then words, and each bracket waits for it.
+            match enter(source, t, n, held_fonts, held_colours, fonts, colours) {
+                Ok(e) => {
+                    let passed = e.passed * TOKEN_WORDS;
+                    t = &t[passed..];
+                    n -= e.passed;
+                    held_fonts = e.fonts;
+                    held_colours = e.colours;
+                }
+                Err(refusal) => {
+                    return Err(refusal);
+                }
+            }
         }
     }
     Ok(HeaderCounts {

@@ -27,10 +27,10 @@ ldblquoterdblquotetabline\
 \x01\x0d\x0b\x31\x28\x09\x26\x31\x0c\x31\x31\x20\x31\x31\x31\x14\x1a\x00\x18\x2f\x02\x31\x31\x31\x31\x31";
 
 // The table of names: whoever has one has the whole table.
-#[derive(Drop)]
+#[derive(Clone, Copy)]
 pub struct Names {
     table: [u8; 328],
-    ghost is_table: { table ≡ rows },
+    pub ghost is_table: { table ≡ rows },
 }
 
 impl Names {

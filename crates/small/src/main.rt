@@ -48,6 +48,13 @@ fn rest_zero(room: &[u32], count: usize, width: usize) -> bool
     room[behind..].iter().all(|word| *word == 0)
 }
 
+// Whether every byte from a place on is zero.
+fn bytes_zero(room: &[u8], from: usize) -> bool
+    ensures { IsTrue result ↔ All (λ byte. byte ≡ 0) (drop (min from (length room.now)) room.now) }
+{
+    room[from.min(room.len())..].iter().all(|byte| *byte == 0)
+}
+
 fn say_question(
     rt: &impl Print,
     letter: &[u8],
@@ -105,7 +112,7 @@ fn say_answer(
         && rest_zero(fonts, counts.fonts, FONT_WORDS)
         && rest_zero(colours, counts.colours, COLOUR_WORDS)
         && rest_zero(blocks, counts.blocks, BLOCK_WORDS)
-        && room.iter().skip(counts.text).all(|byte| *byte == 0);
+        && bytes_zero(room, counts.text);
     let rest = if zero { "zero" } else { "not zero" };
     println!(rt; ", the rest {rest}")
 }

@@ -18,7 +18,7 @@ use Rattle.numbers.specs.Numbers.{hex_pair, decimal}
 use Rattle.rooms.specs.Streams.{Stream, end, stop, ◌▸◌, and_then}
 use Rattle.tokens.specs.declared.Kind.TheVariants as kinds
 use Rattle.tokens.specs.declared.Record.{Record}
-use Rattle.tokens.specs.Tokens.{Shown, bare_record, symbol_record, record_of}
+use Rattle.tokens.specs.Tokens.{Shown, kind_number, bare_record, symbol_record, record_of}
 use Rattle.tokens.proofs.Records.{symbol-record, ignorable-record, opening-record, closing-record}
 use Rattle.controls.specs.Controls.{shown_word, numbered}
 use Rattle.standard.specs.Standard.{leads, tail, is_escape, number_from, number_length, named, word, hex_value, hex_escape, break_length, line_break_and, symbol_of, bracket_of, escaped, tokens}
@@ -148,7 +148,7 @@ module _ (p b : ℕ) (s : List ℕ) where
 
 -- the record of a symbol or a bracket, by its byte
 module _ {r : Record} (b : ℕ) where
-  pub symbol-mark : b ≡ 42 → r ≡ bare_record kinds.Ignorable → r ≡ record_of (symbol_of b)
+  pub symbol-mark : b ≡ 42 → r ≡ bare_record (kind_number kinds.Ignorable) → r ≡ record_of (symbol_of b)
   unfolding symbol_of
   symbol-mark e h = rw (eq-eqb b 42 e) (ignorable-record h)
 
@@ -156,11 +156,11 @@ module _ {r : Record} (b : ℕ) where
   unfolding symbol_of
   symbol-other f h = rw (ne_eqb b 42 f) (symbol-record b None h)
 
-  pub bracket-opening : b ≡ 123 → r ≡ bare_record kinds.Opening → r ≡ record_of (bracket_of b)
+  pub bracket-opening : b ≡ 123 → r ≡ bare_record (kind_number kinds.Opening) → r ≡ record_of (bracket_of b)
   unfolding bracket_of
   bracket-opening e h = rw (eq-eqb b 123 e) (opening-record h)
 
-  pub bracket-closing : (b ≡ 123 → ⊥) → r ≡ bare_record kinds.Closing → r ≡ record_of (bracket_of b)
+  pub bracket-closing : (b ≡ 123 → ⊥) → r ≡ bare_record (kind_number kinds.Closing) → r ≡ record_of (bracket_of b)
   unfolding bracket_of
   bracket-closing f h = rw (ne_eqb b 123 f) (closing-record h)
 

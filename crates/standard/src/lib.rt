@@ -30,7 +30,7 @@ fn symbol(b: u8) -> Record
     ensures { result ≡ record_of (symbol_of b) }
 {
     if b == b'*' {
-        return Record::bare(Kind::Ignorable);
+        return Record::bare(Kind::Ignorable as u32);
     }
     Record::symbol(b as u32, None)
 }
@@ -40,9 +40,9 @@ fn bracket(b: u8) -> Record
     ensures { result ≡ record_of (bracket_of b) }
 {
     if b == b'{' {
-        return Record::bare(Kind::Opening);
+        return Record::bare(Kind::Opening as u32);
     }
-    Record::bare(Kind::Closing)
+    Record::bare(Kind::Closing as u32)
 }
 
 // 1 if b stands in front, else 0.
@@ -132,7 +132,7 @@ fn line_break(b: u8, s: &[u8], place: usize, room: &mut [u32], n: usize) -> Resu
     requires { (place + (2 + length s.now) ≤ 65536) × (n ≤ place) }
     ensures { Wrote shown_layout n room.old (line_break_and place (break_length b s.now) s.now) result room.new }
 {
-    put(room, n, Record::bare(Kind::LineBreak));
+    put(room, n, Record::bare(Kind::LineBreak as u32));
     if b == b'\r' {
         let k = leads(s, b'\n');
         return tail(&s[k..], place + 2 + k, room, n + 1);

@@ -132,7 +132,7 @@ fn line_break(s: &[u8], place: usize, room: &mut [u32], n: usize) -> Result<usiz
     requires { (place + (2 + length s.now) ≤ 65536) × (n ≤ place) }
     ensures { Wrote shown_layout n room.old (line_break_and place s.now) result room.new }
 {
-    put(room, n, Record::bare(Kind::LineBreak));
+    put(room, n, Record::bare(Kind::LineBreak as u32));
     plain(s, place + 2, room, n + 1)
 }
 
@@ -174,7 +174,7 @@ fn returned(s: &[u8], place: usize, room: &mut [u32], n: usize) -> Result<usize,
     if s[0] != b'\r' {
         return other(s, place, room, n);
     }
-    put(room, n, Record::bare(Kind::LineBreak));
+    put(room, n, Record::bare(Kind::LineBreak as u32));
     behind_feed(&s[1..], place + 2, room, n + 1)
 }
 
@@ -226,7 +226,7 @@ fn escaped(
         return line_break(&s[1..], place, room, n);
     }
     if b == b'*' {
-        put(room, n, Record::bare(Kind::Ignorable));
+        put(room, n, Record::bare(Kind::Ignorable as u32));
         return Ok(n + 1);
     }
     other_by(reading, s, place, room, n)
@@ -238,11 +238,11 @@ fn mark(b: u8, room: &mut [u32], n: usize) -> usize
     ensures { Wrote shown_layout n room.old (mark_of b) (Ok result) room.new }
 {
     if b == b'{' {
-        put(room, n, Record::bare(Kind::Opening));
+        put(room, n, Record::bare(Kind::Opening as u32));
         return n + 1;
     }
     if b == b'}' {
-        put(room, n, Record::bare(Kind::Closing));
+        put(room, n, Record::bare(Kind::Closing as u32));
         return n + 1;
     }
     n

@@ -18,7 +18,7 @@ use Rattle.rooms.specs.Rooms.{Wrote}
 use Rattle.rooms.proofs.Rooms.{put_in, wrote_one, wrote-more}
 use Rattle.tokens.specs.declared.Kind.TheVariants as kinds
 use Rattle.tokens.specs.declared.Record.{Record}
-use Rattle.tokens.specs.Tokens.{kind_number, has_of, value_of, Shown, Token, token_words, record_words, bare_record, text_record, word_record, symbol_record, record_of, shown_layout, token_layout}
+use Rattle.tokens.specs.Tokens.{kind_number, has_of, Shown, Token, token_words, record_words, bare_record, text_record, word_record, symbol_record, record_of, shown_layout, token_layout}
 use Rattle.answers.specs.declared.Why.{Why}
 use Rattle.std.specs.Prelude.{Result, Ok, Option}
 
@@ -28,11 +28,11 @@ has-byte None = refl
 has-byte (Some v) = refl
 
 module _ (room : List ℕ) (n : ℕ) (t : Record) where
-  six : (a : ℕ) → set (set (set (set (set (set room a (kind_number t.kind)) (a + 1) t.word) (a + 2) (has_of t.number)) (a + 3) (value_of t.number)) (a + 4) t.place) (a + 5) t.length ≡ sets room a (record_words t)
+  six : (a : ℕ) → set (set (set (set (set (set room a t.kind) (a + 1) t.word) (a + 2) t.has) (a + 3) t.number) (a + 4) t.place) (a + 5) t.length ≡ sets room a (record_words t)
   six a = simp towards_suc
 
   pub put_six : n < capacity token_words (length room)
-      → set (set (set (set (set (set room (n * token_words) (kind_number t.kind)) (n * token_words + 1) t.word) (n * token_words + 2) (has_of t.number)) (n * token_words + 3) (value_of t.number)) (n * token_words + 4) t.place) (n * token_words + 5) t.length
+      → set (set (set (set (set (set room (n * token_words) t.kind) (n * token_words + 1) t.word) (n * token_words + 2) t.has) (n * token_words + 3) t.number) (n * token_words + 4) t.place) (n * token_words + 5) t.length
       ≡ put token_words room n (record_words t)
   put_six h = six (n * token_words) ∙ put_in token_words room n (record_words t) h
 
@@ -53,19 +53,19 @@ module _ {r : Record} where
   unfolding record_of
   symbol-record b num e = e
 
-  pub opening-record : r ≡ bare_record kinds.Opening → r ≡ record_of Shown.opening
+  pub opening-record : r ≡ bare_record (kind_number kinds.Opening) → r ≡ record_of Shown.opening
   unfolding record_of
   opening-record e = e
 
-  pub closing-record : r ≡ bare_record kinds.Closing → r ≡ record_of Shown.closing
+  pub closing-record : r ≡ bare_record (kind_number kinds.Closing) → r ≡ record_of Shown.closing
   unfolding record_of
   closing-record e = e
 
-  pub break-record : r ≡ bare_record kinds.LineBreak → r ≡ record_of Shown.line_break
+  pub break-record : r ≡ bare_record (kind_number kinds.LineBreak) → r ≡ record_of Shown.line_break
   unfolding record_of
   break-record e = e
 
-  pub ignorable-record : r ≡ bare_record kinds.Ignorable → r ≡ record_of Shown.ignorable
+  pub ignorable-record : r ≡ bare_record (kind_number kinds.Ignorable) → r ≡ record_of Shown.ignorable
   unfolding record_of
   ignorable-record e = e
 

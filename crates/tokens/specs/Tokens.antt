@@ -1,5 +1,5 @@
 -- 01, Cutting, and 02, A1 and A4: what a token is, and its eight words. Assumes nothing: these are definitions.
-use Rattle.std.specs.Prelude.{ℕ, zero, suc, ◌+◌, ◌*◌, List, [], ◌∷◌, ◌++◌, cond, length, ltb, Option, None, is_some, unwrap_or}
+use Rattle.std.specs.Prelude.{ℕ, zero, suc, ◌+◌, ◌*◌, List, [], ◌∷◌, ◌++◌, cond, length, ltb, Option, is_some, unwrap_or}
 use Rattle.std.proofs.lemmas.List.Edits.{sets}
 use Rattle.rooms.specs.Rooms.{Layout, capacity}
 use Rattle.tokens.specs.declared.Kind.{Kind}
@@ -56,31 +56,31 @@ kind_number kinds.Word = 5
 kind_number kinds.Symbol = 6
 
 -- "Unused fields are 0."
-abbrev pub bare_record : Kind → Record
-bare_record k = record { kind = k; word = 0; number = None; place = 0; length = 0 }
+abbrev pub bare_record : ℕ → Record
+bare_record k = record { kind = k; word = 0; has = 0; number = 0; place = 0; length = 0 }
 
 -- "source place and length for text"
 abbrev pub text_record : ℕ → ℕ → Record
-text_record p n = record { kind = kinds.Text; word = 0; number = None; place = p; length = n }
+text_record p n = record { kind = kind_number kinds.Text; word = 0; has = 0; number = 0; place = p; length = n }
 
 abbrev pub word_record : ℕ → Option ℕ → Record
-word_record w num = record { kind = kinds.Word; word = w; number = num; place = 0; length = 0 }
+word_record w num = record { kind = kind_number kinds.Word; word = w; has = has_of num; number = value_of num; place = 0; length = 0 }
 
 -- "and for an unknown word", whose number is 49
 abbrev pub unknown_record : ℕ → ℕ → Option ℕ → Record
-unknown_record p n num = record { kind = kinds.Word; word = words.unknown; number = num; place = p; length = n }
+unknown_record p n num = record { kind = kind_number kinds.Word; word = words.unknown; has = has_of num; number = value_of num; place = p; length = n }
 
 -- 02, A1: kind 6, "the byte in the word field"
 abbrev pub symbol_record : ℕ → Option ℕ → Record
-symbol_record b num = record { kind = kinds.Symbol; word = b; number = num; place = 0; length = 0 }
+symbol_record b num = record { kind = kind_number kinds.Symbol; word = b; has = has_of num; number = value_of num; place = 0; length = 0 }
 
 -- the record of what a token shows
 unfoldable pub record_of : Shown → Record
 record_of (text p bs) = text_record p (length bs)
-record_of opening = bare_record kinds.Opening
-record_of closing = bare_record kinds.Closing
-record_of line_break = bare_record kinds.LineBreak
-record_of ignorable = bare_record kinds.Ignorable
+record_of opening = bare_record (kind_number kinds.Opening)
+record_of closing = bare_record (kind_number kinds.Closing)
+record_of line_break = bare_record (kind_number kinds.LineBreak)
+record_of ignorable = bare_record (kind_number kinds.Ignorable)
 record_of (word w num) = word_record w num
 record_of (unknown p bs num) = unknown_record p (length bs) num
 record_of (symbol b num) = symbol_record b num
@@ -93,7 +93,7 @@ abbrev pub token_words : ℕ
 token_words = shown_words + 2
 
 abbrev pub record_words : Record → List ℕ
-record_words t = kind_number t.kind ∷ t.word ∷ has_of t.number ∷ value_of t.number ∷ t.place ∷ t.length ∷ []
+record_words t = t.kind ∷ t.word ∷ t.has ∷ t.number ∷ t.place ∷ t.length ∷ []
 
 abbrev pub slice_words : ℕ → ℕ → List ℕ
 slice_words p n = p ∷ n ∷ []

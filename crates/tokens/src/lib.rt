@@ -14,7 +14,7 @@ pub mod words;
 
 ghost use Rattle.std.specs.Prelude.{◌≡◌, ◌-◌, ◌≤◌};
 ghost use Rattle.rooms.specs.Rooms.{put as put_words};
-ghost use Rattle.tokens.specs.Tokens.{token_words, record_words, kind_number, bare_record, text_record, word_record, unknown_record, symbol_record, sealed, sealed_all};
+ghost use Rattle.tokens.specs.Tokens.{token_words, record_words, kind_number, bare_record, text_record, word_record, unknown_record, symbol_record, sealed, sealed_all, has_of, value_of};
 
 // How many words a token has, and where those of its slice stand.
 pub const TOKEN_WORDS: usize = 8;
@@ -43,24 +43,43 @@ impl Kind {
     }
 }
 
+// 1 if a number is present.
+pub fn has(property: Option<u32>) -> u32
+    ensures { result ≡ has_of property }
+{
+    match property {
+        None => 0,
+        Some(_) => 1,
+    }
+}
+
+// That number; 0 if none is.
+pub fn value(property: Option<u32>) -> u32
+    ensures { result ≡ value_of property }
+{
+    property.unwrap_or(0)
+}
+
 #[derive(Clone, Copy)]
 pub struct Record {
-    pub kind: Kind,
+    pub kind: u32,
     pub word: u32,
-    pub number: Option<u32>,
+    pub has: u32,
+    pub number: u32,
     pub place: u32,
     pub length: u32,
 }
 
 impl Record {
     // A record of a kind that says nothing more.
-    pub fn bare(kind: Kind) -> Record
+    pub fn bare(kind: u32) -> Record
         ensures { result ≡ bare_record kind }
     {
         Record {
             kind: kind,
             word: 0,
-            number: None,
+            has: 0,
+            number: 0,
             place: 0,
             length: 0,
         }
@@ -70,9 +89,10 @@ impl Record {
         ensures { result ≡ text_record place length }
     {
         Record {
-            kind: Kind::Text,
+            kind: Kind::Text as u32,
             word: 0,
-            number: None,
+            has: 0,
+            number: 0,
             place: place,
             length: length,
         }
@@ -83,9 +103,10 @@ impl Record {
         ensures { result ≡ word_record word property }
     {
         Record {
-            kind: Kind::Word,
+            kind: Kind::Word as u32,
             word: word,
-            number: property,
+            has: has(property),
+            number: value(property),
             place: 0,
             length: 0,
         }
@@ -96,9 +117,10 @@ impl Record {
         ensures { result ≡ unknown_record place length property }
     {
         Record {
-            kind: Kind::Word,
+            kind: Kind::Word as u32,
             word: words::UNKNOWN,
-            number: property,
+            has: has(property),
+            number: value(property),
             place: place,
             length: length,
         }
@@ -109,9 +131,10 @@ impl Record {
         ensures { result ≡ symbol_record byte property }
     {
         Record {
-            kind: Kind::Symbol,
+            kind: Kind::Symbol as u32,
             word: byte,
-            number: property,
+            has: has(property),
+            number: value(property),
             place: 0,
             length: 0,
         }
@@ -124,10 +147,10 @@ pub fn put(room: &mut [u32], n: usize, t: Record)
 {
     if n < room.len() / TOKEN_WORDS {
         let at = n * TOKEN_WORDS;
-        room[at] = t.kind.number();
+        room[at] = t.kind;
         room[at + 1] = t.word;
-        room[at + 2] = u32::from(t.number.is_some());
-        room[at + 3] = t.number.unwrap_or(0);
+        room[at + 2] = t.has;
+        room[at + 3] = t.number;
         room[at + 4] = t.place;
         room[at + 5] = t.length;
     }

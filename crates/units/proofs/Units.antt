@@ -11,7 +11,7 @@
 -- Assumes nothing.
 use mathlib.Core.Path.{◌≡◌, refl, sym, ap, ◌∙◌}
 use mathlib.Core.List.{List, [], ◌∷◌, ◌++◌, append-nil, append_assoc}
-use mathlib.Core.Bool.{Bool, true, false, cond, ◌&&◌, true≢false, false≢true}
+use mathlib.Core.Bool.{Bool, true, false, cond, ◌&&◌, true≢false}
 use Prim.Native.Nat.{ℕ, ◌+◌, ◌-◌, ◌≤◌, ◌<◌}
 use native.Mathlib.Omega.{arith}
 use lib.Dec.{leb, ltb}
@@ -333,6 +333,11 @@ module _ (skip : ℕ) (run : Run) (n : Option ℕ) (h : value_of n < 4294967296)
       go false p = p
 
   module _ (g : Gave) (q : g ≡ step skip run n) where
+    pub value_written : (v : ℕ) → g.value ≡ Some v → written v ≡ utf8 v
+    value_written v e =
+        let s : Scalars (option_to_list g.value) = rw q value-scalar in
+        written-scalar v (rw e at s).0
+
     -- what a caller writes by `encode`
     pub text-values : utf8_all (values g) ≡ cond g.lost (written 65533) [] ++ written_if g.value
     unfolding values utf8_all

@@ -3,18 +3,19 @@
 --     Measuring, measure-start, -more, -end, -none   for the bracket that matches
 --     Seeking, seek-start, -more, -none, -found      for the place of a table's word
 -- Assumes nothing.
-use mathlib.Core.Path.{◌≡◌, refl, sym, ◌∙◌}
+use mathlib.Core.Path.{◌≡◌, refl, sym, ap, ◌∙◌}
 use mathlib.Core.List.{List, []}
-use mathlib.Core.Bool.{Bool, true, false, cond, false≢true}
+use mathlib.Core.Bool.{Bool, true, false, cond, not, false≢true}
 use Prim.Native.Nat.{ℕ, suc, ◌+◌, ◌-◌, ◌*◌, ◌≤◌, ◌<◌}
 use native.Mathlib.Omega.{arith}
-use borrow.Author.Tests.{eq-eqb, ne_eqb}
+use borrow.Author.Tests.{eq-eqb, ne_eqb, not-true, not-false}
 use lib.ListN.{length}
 use lib.Dec.{eqb}
 use Rattle.tokens.specs.Tokens.{Shown, token_words}
 use Rattle.tokens.specs.declared.item.Item.{Item}
+use Rattle.tokens.specs.declared.item.Item.TheVariants.{LineBreak}
 use Rattle.tokens.specs.Items.{item_at, shown_of, shown_all, slice_at, tokens_all}
-use Rattle.tokens.proofs.Items.{shown-none, tokens_none}
+use Rattle.tokens.proofs.Items.{rest, words-less, shown-none, shown-some, tokens_none}
 use Rattle.rooms.proofs.Chunks.{Chunk, chunk-words, left_none}
 use Rattle.tokens.proofs.Chunks.{chunk-shown, chunk-tokens}
 use Rattle.walk.specs.declared.Aim.{Aim}
@@ -51,27 +52,31 @@ other-decides late (Shown.symbol b num) later other e = refl
 
 module _ {s : List ℕ} {count : ℕ} {t : List ℕ} {n : ℕ} {late : Bool} (l : Looking s count t n late) where
   -- no token is left
-  pub look_none : (0 < n → length t < token_words) → (src : List ℕ) → Nothing ≡ aim (shown_all src count s)
+  pub look_none : n ≡ 0 → {first : Item} {r : Aim} → first ≡ LineBreak → ((src : List ℕ) → r ≡ aim_at late (shown_of src first) Nothing)
+      → (src : List ℕ) → r ≡ aim (shown_all src count s)
   unfolding aim_from
-  look_none f src = rw (shown-none src n t (left_none token_words n t l.words f)) at (l.left src)
+  look_none z {first} {r} f g src =
+      let e : shown_all src n t ≡ [] = shown-none src n t (omega arith) in
+      let a : Nothing ≡ aim (shown_all src count s) = rw e at (l.left src) in
+      g src ∙ ap (λ (i : Item). aim_at late (shown_of src i) Nothing) f ∙ a
 
-  module _ {here more : List ℕ} {m : ℕ} (k : Chunk token_words t n here more m) {i : Item} (e : i ≡ item_at here)
-      {b : Bool} (q : (src : List ℕ) → b ≡ is_break (shown_of src i)) where
-    first-token : (src : List ℕ) → aim_at late (shown_of src i) (aim_from true (shown_all src m more)) ≡ aim (shown_all src count s)
+  module _ (z : n ≡ 0 → ⊥) {i : Item} (e : i ≡ item_at t) {b : Bool} (q : (src : List ℕ) → b ≡ is_break (shown_of src i)) where
+    first-token : (src : List ℕ) → aim_at late (shown_of src i) (aim_from true (shown_all src (n - 1) (rest t token_words))) ≡ aim (shown_all src count s)
     unfolding aim_from
-    first-token src = rw e (rw (chunk-shown k src) at (l.left src))
+    first-token src = rw e (rw (shown-some src n t (omega arith)) at (l.left src))
 
-    pub look-found : b ≡ false → {r : Aim} → ((src : List ℕ) → r ≡ aim_at late (shown_of src i) Nothing)
+    pub look-found : not b ≡ true → {first : Item} {r : Aim} → first ≡ i → ((src : List ℕ) → r ≡ aim_at late (shown_of src first) Nothing)
         → (src : List ℕ) → r ≡ aim (shown_all src count s)
-    look-found f g src =
+    look-found f {first} {r} h g src =
         g src
-        ∙ other-decides late (shown_of src i) Nothing (aim_from true (shown_all src m more)) (sym (q src) ∙ f)
+        ∙ ap (λ (j : Item). aim_at late (shown_of src j) Nothing) h
+        ∙ other-decides late (shown_of src i) Nothing (aim_from true (shown_all src (n - 1) (rest t token_words))) (sym (q src) ∙ not-true b f)
         ∙ first-token src
 
-    pub look-more : b ≡ true → Looking s count more m true
+    pub look-more : not b ≡ false → Looking s count (rest t token_words) (n - 1) true
     look-more f = record {
-      words = chunk-words k l.words;
-      left = λ src. sym (break-goes-on late (shown_of src i) (aim_from true (shown_all src m more)) (sym (q src) ∙ f)) ∙ first-token src;
+      words = words-less n t l.words;
+      left = λ src. sym (break-goes-on late (shown_of src i) (aim_from true (shown_all src (n - 1) (rest t token_words))) (sym (q src) ∙ not-false b f)) ∙ first-token src;
     }
 
 -- what was measured, and what is left

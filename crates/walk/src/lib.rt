@@ -61,15 +61,24 @@ pub fn aim_of(s: &[u32], count: usize) -> Aim
     requires { count * token_words ≤ length s.now }
     ensures { (src : List ℕ) → result ≡ aim_of (shown_all src count s.now) }
 {
+    let mut t = s;
+    let mut n = count;
     let mut late = false;
-    for here in s.chunks_exact(TOKEN_WORDS).take(count) {
-        let i = item_at(here);
-        if !is_break(i) {
-            return aim_at(i, late);
+    // A loop that yields its token by `break`, bounded by the tokens that are left: 01 names the form. Most often it looks at one token, which
+    // chunks would take longer to set up for than to look at.
+    let first = loop {
+        if n == 0 {
+            break Item::LineBreak;
         }
+        let i = item_at(t);
+        if !is_break(i) {
+            break i;
+        }
+        t = &t[TOKEN_WORDS..];
+        n -= 1;
         late = true;
-    }
-    Aim::Nothing
+    };
+    aim_at(first, late)
 }
 
 // Where the slice of the first token that is no line break stands.

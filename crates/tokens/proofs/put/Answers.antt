@@ -2,7 +2,7 @@
 use native.Mathlib.Omega.{arith}
 use lib.ListN.{length-set}
 use Rattle.rooms.proofs.Rooms.{put-out}
-use Rattle.tokens.proofs.Records.{has-byte, put_six}
+use Rattle.tokens.proofs.Records.{put_six}
 use Rattle.tokens.proofs.put.Goals as goal
 
 pub bounds-room-at-then-n-room : goal.bounds-room-at-then-n-room
@@ -21,7 +21,7 @@ pub bounds-room-at-then-n-room-5 : goal.bounds-room-at-then-n-room-5
 bounds-room-at-then-n-room-5 c = simp length-set (omega arith)
 
 pub returns-then-n-room : goal.returns-then-n-room
-returns-then-n-room c = rw (c.number.ensures, c.from.ensures, c.unwrap_or.ensures, c.is_some.ensures, has-byte) (put_six _ _ _ (omega arith))
+returns-then-n-room c = put_six _ _ _ (omega arith)
 
 pub returns-else-n-room : goal.returns-else-n-room
 returns-else-n-room c = put-out _ _ _ _ c.if-n-room.false

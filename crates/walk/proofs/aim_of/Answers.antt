@@ -1,24 +1,24 @@
 -- `aim_of` meets its contract: what the tokens that are left make of the group, the whole makes of it.
-use mathlib.Core.Path.{◌∙◌}
-use Rattle.walk.proofs.Looks.{look_none, look-found, look-more}
+use native.Mathlib.Omega.{arith}
+use Rattle.walk.proofs.Looks.{look-start, look_none, look-found, look-more}
 use Rattle.walk.proofs.aim_of.Goals as goal
+use Rattle.walk.proofs.aim_of.Goals.{then-n-eq0, else-n-eq0+then-not-is_break}
 
-pub returns-then-not-is_break : goal.returns-then-not-is_break
-returns-then-not-is_break c =
-    let l = c.loop-here.invariant in
-    let s = c.in-Some.ensures.steps in
-    look-found l.look (record { words = s.0.1.0; size = s.0.1.1 ∙ l.size; one = s.1 }) c.item_at-i.ensures c.is_break.ensures c.if-not-is_break.true c.aim_at.ensures
+pub loop-n-init : goal.loop-n-init
+loop-n-init c = look-start _ _ c.requires
 
-pub loop-here-preserved : goal.loop-here-preserved
-loop-here-preserved c =
-    let l = c.loop-here.invariant in
-    let s = c.in-Some.ensures.steps in
-    record {
-      size = s.0.0 ∙ l.size;
-      look = look-more l.look (record { words = s.0.1.0; size = s.0.1.1 ∙ l.size; one = s.1 }) c.item_at-i.ensures c.is_break.ensures c.if-not-is_break.false;
-    }
+pub item_at-i-requires : goal.item_at-i-requires
+item_at-i-requires c = let w = c.loop-n.invariant.words in omega arith
+
+pub slice_bounds-t-count : goal.slice_bounds-t-count
+slice_bounds-t-count c = let w = c.loop-n.invariant.words in omega arith
+
+pub loop-n-preserved : goal.loop-n-preserved
+loop-n-preserved c = look-more c.loop-n.invariant c.if-n-eq0.false c.item_at-i.ensures c.is_break.ensures c.if-not-is_break.false-raw
 
 pub returns : goal.returns
-returns c =
-    let l = c.loop-here.invariant in
-    look_none l.look (λ h. rw l.size at (c.in-None.ensures.steps h).1.0)
+returns c src =
+    elim c.if-n-eq0.branch [
+      | then-n-eq0 w ↦ look_none c.loop-n.invariant w.if-n-eq0.true w.first-is c.aim_at.ensures src
+      | else-n-eq0+then-not-is_break w ↦ look-found c.loop-n.invariant w.if-n-eq0.false w.item_at-i.ensures w.is_break.ensures w.if-not-is_break.true-raw w.first-is c.aim_at.ensures src
+    ]

@@ -11,7 +11,7 @@ pub bounds-room-at-then-n-room : goal.bounds-room-at-then-n-room
 bounds-room-at-then-n-room c = simp length-set (omega arith)
 
 pub returns-then-n-room : goal.returns-then-n-room
-returns-then-n-room c = put_record _ _ _ _ _ (omega arith) (c.copy.ensures ∙ ap (sets _ _) c.words-words.ensures)
+returns-then-n-room c = put_record _ _ _ _ _ (omega arith) (c.lay.ensures ∙ ap (sets _ _) c.words-words.ensures)
 
 pub returns-else-n-room : goal.returns-else-n-room
 returns-else-n-room c = put-out _ _ _ _ c.if-n-room.false
